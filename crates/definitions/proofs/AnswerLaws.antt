@@ -1,0 +1,328 @@
+-- No two packings share an answer. Assumes nothing.
+use Prim.Native.Nat.{ℕ, zero, suc, _+_, _≤_, _<_}
+use mathlib.Core.Bool.{Bool, true, false, cond, not, _&&_}
+use mathlib.Core.List.{List, [], _∷_, _++_, map, List·Memᴰ, List·Memᴰ·head, List·Memᴰ·tail, List·Memᴰ·not-nil, List·Memᴰ·cases-cons, Memᴰ·append-left, Memᴰ·append-right, Memᴰ·cast, Memᴰ·map, Memᴰ·of-map, head-eq-of-cons-eq, tail-eq-of-cons-eq}
+use mathlib.Core.Path.{_≡_, refl, sym, ap, ap₂, _∙_, subst}
+use mathlib.Core.Logic.{_⊎_, inl, inr}
+use native.Mathlib.Omega.{arith}
+use lib.Dec.{T, ltb, eqb, eqb→eq, eqb-refl, ltb→lt, lt→ltb}
+use lib.ListN.{length, getD}
+use Rattle.definitions.specs.Lists.{all, any, howMany, keep, each, joined, numbered, numberedFrom, headOr, member, below, ascending, sort, Apart}
+use Rattle.definitions.proofs.ListLaws.{keep-at, keep-of, keep-ascending, each-at, member-at, member-of, eqb-of, apart-each, apart-keep, apart-ascending, ascending-unique, from-ascending, ltb-trans, ltb-irrefl, below-at}
+use Rattle.definitions.proofs.CountLaws.{howMany-length}
+use Rattle.definitions.specs.Grid.{Cell, Grid, box, volume, filledCells, sameGrid, gridAhead, InBox}
+use Rattle.definitions.proofs.MapLaws.{box-of, filled-at}
+use Rattle.definitions.proofs.GroupLaws.{sameGrid→eq}
+use Rattle.definitions.specs.Scan.{scanNumber}
+use Rattle.definitions.specs.Kinds.{Tray, Piece, Sorted, sorted, shapes, smallest, Copy, copiesOf, Kind, kindsOf}
+use Rattle.definitions.specs.Placements.{Placement, Compiled, compile}
+use Rattle.definitions.specs.Packing.{ahead, used, limits, Packing}
+use Rattle.definitions.proofs.PackingLaws.{ahead-trans, ahead-irrefl, packing-placed, packing-once, packing-at, packing-within}
+use Rattle.definitions.specs.Answers.{Taken, takes, taken, copyOn, answer}
+use Rattle.definitions.specs.Refusals.{Call, trayOf, refusal}
+use Rattle.definitions.proofs.SearchLaws.{WellMade}
+use Rattle.definitions.proofs.WellMadeLaws.{Nth, nth-mem, nth-below, nth-getD, getD-nth, joined-at, numbered-at, numbered-ascending}
+use Rattle.definitions.proofs.CellLaws.{nth-unique, nth-apart, apart-map-in}
+use Rattle.definitions.proofs.ImageLaws.{Numbered}
+use Rattle.definitions.proofs.PartnerLaws.{gs, gs-up, shape-nth}
+use Rattle.definitions.proofs.GeometryLaws.{numbered-cells, acts, onto-itself, only-itself, W, in-box, piece-whole}
+use Rattle.definitions.proofs.CellLaws.{grid-irrefl}
+use Rattle.definitions.specs.Kept.Identify.{None, Turned, Mirrored}
+use Rattle.definitions.proofs.KeptLaws.{Geometry}
+use Rattle.definitions.proofs.ShapeLaws.{accepted-well-made}
+
+-- ---- lists
+two-at : {A : Type 0} (a b a′ b′ : A → ℕ) (xs : List A) → each xs (λ x. a x ∷ b x ∷ []) ≡ each xs (λ x. a′ x ∷ b′ x ∷ []) → (x : A) → List·Memᴰ x xs → (a x ≡ a′ x) × (b x ≡ b′ x)
+two-at a b a′ b′ [] e x m = absurd (List·Memᴰ·not-nil m)
+two-at a b a′ b′ (y ∷ ys) e x m = go (List·Memᴰ·cases-cons m) (λ (k : List·Memᴰ x ys). two-at a b a′ b′ ys (tail-eq-of-cons-eq (tail-eq-of-cons-eq e)) x k)
+  where
+    go : (x ≡ y) ⊎ List·Memᴰ x ys → (List·Memᴰ x ys → (a x ≡ a′ x) × (b x ≡ b′ x)) → (a x ≡ a′ x) × (b x ≡ b′ x)
+    go (inl i) f = subst (λ z. (a z ≡ a′ z) × (b z ≡ b′ z)) (sym i) (head-eq-of-cons-eq e, head-eq-of-cons-eq (tail-eq-of-cons-eq e))
+    go (inr k) f = f k
+
+pub joined-of : {A : Type 0} (xss : List (List A)) {xs : List A} {z : A} → List·Memᴰ xs xss → List·Memᴰ z xs → List·Memᴰ z (joined xss)
+joined-of [] m k = absurd (List·Memᴰ·not-nil m)
+joined-of (ys ∷ xss) {xs} {z} m k = go (List·Memᴰ·cases-cons m) (λ (h : List·Memᴰ xs xss). joined-of xss h k)
+  where
+    go : (xs ≡ ys) ⊎ List·Memᴰ xs xss → (List·Memᴰ xs xss → List·Memᴰ z (joined xss)) → List·Memᴰ z (ys ++ joined xss)
+    go (inl e) f = Memᴰ·append-left (joined xss) (subst (λ (l : List _). List·Memᴰ z l) e k)
+    go (inr h) f = Memᴰ·append-right ys (f h)
+
+pub numbered-of : {A B : Type 0} (f : ℕ → A → B) (i : ℕ) (xs : List A) (n : ℕ) (x : A) → Nth xs n x → List·Memᴰ (f (n + i) x) (numberedFrom i xs f)
+numbered-of f i [] n x h = absurd h
+numbered-of f i (y ∷ ys) zero x h = List·Memᴰ·head (let e : zero + i ≡ i = omega arith in ap₂ (λ (k : ℕ) (z : _). f k z) e h)
+numbered-of f i (y ∷ ys) (suc n) x h = List·Memᴰ·tail (Memᴰ·cast (let e : suc n + i ≡ n + suc i = omega arith in ap (λ (k : ℕ). f k x) e) (numbered-of f (suc i) ys n x h))
+
+pub mem-nth-of : {A : Type 0} (xs : List A) (x : A) → List·Memᴰ x xs → (n : ℕ) × Nth xs n x
+mem-nth-of [] x m = absurd (List·Memᴰ·not-nil m)
+mem-nth-of (y ∷ ys) x m = go (List·Memᴰ·cases-cons m) (λ (k : List·Memᴰ x ys). mem-nth-of ys x k)
+  where
+    go : (x ≡ y) ⊎ List·Memᴰ x ys → (List·Memᴰ x ys → (n : ℕ) × Nth ys n x) → (n : ℕ) × Nth (y ∷ ys) n x
+    go (inl e) f = (zero, e)
+    go (inr k) f = let r = f k in (suc (r .0), r .1)
+
+-- ---- which copy lies where
+takes-at : (ds : List Copy) (qs : List Placement) (t : Taken) → List·Memᴰ t (takes ds qs) → (j : ℕ) × (q : Placement) × Nth ds j (t .copy) × Nth qs j q × (t .cells ≡ q .cells)
+takes-at [] qs t m = absurd (List·Memᴰ·not-nil m)
+takes-at (d ∷ ds) [] t m = absurd (List·Memᴰ·not-nil m)
+takes-at (d ∷ ds) (q ∷ qs) t m = go (List·Memᴰ·cases-cons m) (λ (k : List·Memᴰ t (takes ds qs)). takes-at ds qs t k)
+  where
+    go : (t ≡ record { copy = d; cells = q .cells }) ⊎ List·Memᴰ t (takes ds qs) → (List·Memᴰ t (takes ds qs) → (j : ℕ) × (r : Placement) × Nth ds j (t .copy) × Nth qs j r × (t .cells ≡ r .cells))
+        → (j : ℕ) × (r : Placement) × Nth (d ∷ ds) j (t .copy) × Nth (q ∷ qs) j r × (t .cells ≡ r .cells)
+    go (inl e) f = (zero, q, ap (λ (x : Taken). x .copy) e, refl, ap (λ (x : Taken). x .cells) e)
+    go (inr k) f = let r = f k in (suc (r .0), r .1, r .2, r .3, r .4)
+
+takes-of : (ds : List Copy) (qs : List Placement) (j : ℕ) (q : Placement) → Nth qs j q → j < length ds → (t : Taken) × List·Memᴰ t (takes ds qs) × (t .cells ≡ q .cells)
+takes-of [] qs j q h k = absurd (omega arith)
+takes-of (d ∷ ds) [] j q h k = absurd h
+takes-of (d ∷ ds) (r ∷ qs) zero q h k = (record { copy = d; cells = r .cells }, List·Memᴰ·head refl, ap (λ (x : Placement). x .cells) (sym h))
+takes-of (d ∷ ds) (r ∷ qs) (suc j) q h k = let x = takes-of ds qs j q h (omega arith) in (x .0, List·Memᴰ·tail (x .1), x .2)
+
+module _ (c : Compiled) (w : WellMade c) where
+  abbrev pub kindList : List Placement → ℕ → List Placement
+  kindList P k = keep (λ q. eqb (q .kind) k) P
+
+  -- the copy on cell n: the kind's j-th, where the placement on n is the j-th of the kind
+  pub record Held (P : List Placement) (n : ℕ) : Type 0 where
+    pub by : Placement
+    pub isIn : List·Memᴰ by P
+    pub covers : List·Memᴰ n (by .cells)
+    pub kind : Kind
+    pub isKind : Nth (c .kinds) (by .kind) kind
+    pub place : ℕ
+    pub isPlace : Nth (kindList P (by .kind)) place by
+    pub copyIs : Nth (kind .copies) place (copyOn (taken c P) n)
+
+  pub taken-at : (P : List Placement) (t : Taken) → List·Memᴰ t (taken c P)
+      → (k : ℕ) × (d : Kind) × Nth (c .kinds) k d × (j : ℕ) × (q : Placement) × Nth (d .copies) j (t .copy) × Nth (kindList P k) j q × (t .cells ≡ q .cells)
+  unfolding taken
+  taken-at P t m =
+      let r = joined-at (numbered (c .kinds) (λ k d. takes (d .copies) (kindList P k))) m in
+      let x = numbered-at (λ (k : ℕ) (d : Kind). takes (d .copies) (kindList P k)) 0 (c .kinds) (r .1) in
+      let y = takes-at (x .1 .copies) (kindList P (x .0 + 0)) t (subst (λ (l : List Taken). List·Memᴰ t l) (x .3) (r .2)) in
+      let e : x .0 + 0 ≡ x .0 = omega arith in
+      (x .0 + 0, x .1, subst (λ (n : ℕ). Nth (c .kinds) n (x .1)) (sym e) (x .2), y .0, y .1, y .2, y .3, y .4)
+
+  taken-of : (P : List Placement) → Packing c P → (q : Placement) → List·Memᴰ q P → (t : Taken) × List·Memᴰ t (taken c P) × (t .cells ≡ q .cells)
+  unfolding taken used limits
+  taken-of P g q m =
+      let row = packing-placed c P g q m in
+      let kb = w .ofKinds q row in
+      let d = getD-nth (c .kinds) (q .kind) kb in
+      let i = mem-nth-of (kindList P (q .kind)) q (keep-of (λ (z : Placement). eqb (z .kind) (q .kind)) P m (eqb-refl (q .kind))) in
+      let a = nth-below (kindList P (q .kind)) (i .0) q (i .1) in
+      let u = howMany-length (λ (z : Placement). eqb (z .kind) (q .kind)) P in
+      let v = packing-within c P g (q .kind) kb in
+      let x = nth-getD (λ (z : Kind). length (z .copies)) 0 (c .kinds) (q .kind) (d .1) in
+      let t = takes-of (d .0 .copies) (kindList P (q .kind)) (i .0) q (i .1) (omega arith) in
+      let e : q .kind + 0 ≡ q .kind = omega arith in
+      let row′ = numbered-of (λ (k : ℕ) (z : Kind). takes (z .copies) (kindList P k)) 0 (c .kinds) (q .kind) (d .0) (d .1) in
+      (t .0, joined-of (numbered (c .kinds) (λ k z. takes (z .copies) (kindList P k))) row′ (subst (λ (n : ℕ). List·Memᴰ (t .0) (takes (d .0 .copies) (kindList P n))) (sym e) (t .1)), t .2)
+
+  first-of : (n : ℕ) (ts : List Taken) {t : Taken} → List·Memᴰ t ts → List·Memᴰ n (t .cells) → (x : Taken) × List·Memᴰ x ts × List·Memᴰ n (x .cells) × (copyOn ts n ≡ x .copy)
+  unfolding copyOn
+  first-of n ts {t} m k = go (keep (λ (z : Taken). member n (z .cells)) ts) (λ x h. let r = keep-at (λ (z : Taken). member n (z .cells)) ts h in (r .0, member-at n (x .cells) (r .1))) (keep-of (λ (z : Taken). member n (z .cells)) ts m (member-of (t .cells) k))
+    where
+      go : (xs : List Taken) → ((x : Taken) → List·Memᴰ x xs → List·Memᴰ x ts × List·Memᴰ n (x .cells)) → List·Memᴰ t xs
+          → (x : Taken) × List·Memᴰ x ts × List·Memᴰ n (x .cells) × (headOr (record { piece = 255; copy = 255 }) (map (λ z. z .copy) xs) ≡ x .copy)
+      go [] f h = absurd (List·Memᴰ·not-nil h)
+      go (y ∷ ys) f h = let r = f y (List·Memᴰ·head refl) in (y, r .0, r .1, refl)
+
+  pub held : (P : List Placement) → Packing c P → (n : ℕ) → n < length (c .cells) → Held P n
+  held P g n h =
+      let q = packing-at c P g n h in
+      let t = taken-of P g (q .0) (q .1) in
+      let x = first-of n (taken c P) (t .1) (subst (λ (l : List ℕ). List·Memᴰ n l) (sym (t .2)) (q .2)) in
+      let y = taken-at P (x .0) (x .1) in
+      let z = keep-at (λ (p : Placement). eqb (p .kind) (y .0)) P (nth-mem (kindList P (y .0)) (y .3) (y .6)) in
+      let k : y .4 .kind ≡ y .0 = eqb→eq (y .4 .kind) (y .0) (z .1) in
+      record {
+        by = y .4;
+        isIn = z .0;
+        covers = subst (λ (l : List ℕ). List·Memᴰ n l) (y .7) (x .2);
+        kind = y .1;
+        isKind = subst (λ (i : ℕ). Nth (c .kinds) i (y .1)) (sym k) (y .2);
+        place = y .3;
+        isPlace = subst (λ (i : ℕ). Nth (kindList P i) (y .3) (y .4)) (sym k) (y .6);
+        copyIs = subst (λ (d : Copy). Nth (y .1 .copies) (y .3) d) (sym (x .3)) (y .5);
+      }
+
+  -- ---- copies tell kinds and places
+  module _ (nu : Numbered c)
+      (one-copy : (k k′ j j′ : ℕ) (d d′ : Kind) (x : Copy) → Nth (c .kinds) k d → Nth (c .kinds) k′ d′ → Nth (d .copies) j x → Nth (d′ .copies) j′ x → (k ≡ k′) × (j ≡ j′)) where
+    same-copy : (P Q : List Placement) (n m : ℕ) (h : Held P n) (i : Held Q m) → copyOn (taken c P) n ≡ copyOn (taken c Q) m → (h .by .kind ≡ i .by .kind) × (h .place ≡ i .place)
+    same-copy P Q n m h i e =
+        one-copy (h .by .kind) (i .by .kind) (h .place) (i .place) (h .kind) (i .kind) (copyOn (taken c Q) m) (h .isKind) (i .isKind) (subst (λ (x : Copy). Nth (h .kind .copies) (h .place) x) e (h .copyIs)) (i .copyIs)
+
+    -- the placement of Q that lies where one of P lies
+    follows : (P Q : List Placement) → Packing c P → Packing c Q → ((n : ℕ) → n < length (c .cells) → copyOn (taken c P) n ≡ copyOn (taken c Q) n)
+        → (n : ℕ) (b : n < length (c .cells)) (h : Held P n) (i : Held Q n) → (m : ℕ) → List·Memᴰ m (h .by .cells) → List·Memᴰ m (i .by .cells)
+    follows P Q g k same n b h i m a = subst (λ (q : Placement). List·Memᴰ m (q .cells)) by-same (im .covers)
+      where
+        mb : m < length (c .cells)
+        mb = w .onBoard (h .by) (packing-placed c P g (h .by) (h .isIn)) m a
+
+        hm : Held P m
+        hm = held P g m mb
+
+        im : Held Q m
+        im = held Q k m mb
+
+        q-same : hm .by ≡ h .by
+        q-same = packing-once c P g m mb (hm .by) (h .by) (hm .isIn) (h .isIn) (hm .covers) a
+
+        copies-same : copyOn (taken c P) m ≡ copyOn (taken c P) n
+        copies-same = nth-unique (h .kind .copies) (h .place) (copyOn (taken c P) m) (copyOn (taken c P) n) at-m (h .copyIs)
+          where
+            kind-same : hm .kind ≡ h .kind
+            kind-same = nth-unique (c .kinds) (h .by .kind) (hm .kind) (h .kind) (subst (λ (q : Placement). Nth (c .kinds) (q .kind) (hm .kind)) q-same (hm .isKind)) (h .isKind)
+
+            place-same : hm .place ≡ h .place
+            place-same =
+                nth-apart (kindList P (h .by .kind)) (apart-keep (λ q. eqb (q .kind) (h .by .kind)) P (apart-ascending ahead ahead-irrefl P (g .aSet))) (hm .place) (h .place) (h .by)
+                (subst (λ (q : Placement). Nth (kindList P (q .kind)) (hm .place) q) q-same (hm .isPlace)) (h .isPlace)
+
+            at-m : Nth (h .kind .copies) (h .place) (copyOn (taken c P) m)
+            at-m = subst (λ (j : ℕ). Nth (h .kind .copies) j (copyOn (taken c P) m)) place-same (subst (λ (d : Kind). Nth (d .copies) (hm .place) (copyOn (taken c P) m)) kind-same (hm .copyIs))
+
+        x : (im .by .kind ≡ i .by .kind) × (im .place ≡ i .place)
+        x = same-copy Q Q m n im i (sym (same m mb) ∙ copies-same ∙ same n b)
+
+        by-same : im .by ≡ i .by
+        by-same =
+            nth-unique (kindList Q (i .by .kind)) (i .place) (im .by) (i .by)
+            (subst (λ (j : ℕ). Nth (kindList Q (i .by .kind)) j (im .by)) (x .1) (subst (λ (k : ℕ). Nth (kindList Q k) (im .place) (im .by)) (x .0) (im .isPlace))) (i .isPlace)
+
+    half : (P Q : List Placement) → Packing c P → Packing c Q → ((n : ℕ) → n < length (c .cells) → copyOn (taken c P) n ≡ copyOn (taken c Q) n) → (q : Placement) → List·Memᴰ q P → List·Memᴰ q Q
+    half P Q g k same q m =
+        let row = packing-placed c P g q m in
+        let b = w .onBoard q row (q .p) (w .coversP q row) in
+        let h = held P g (q .p) b in
+        let i = held Q k (q .p) b in
+        let is-q : h .by ≡ q = packing-once c P g (q .p) b (h .by) q (h .isIn) m (h .covers) (w .coversP q row) in
+        let x = same-copy P Q (q .p) (q .p) h i (same (q .p) b) in
+        let e = ascending-unique ltb ltb-trans ltb-irrefl (h .by .cells) (i .by .cells) (w .cellsAscend (h .by) (packing-placed c P g (h .by) (h .isIn))) (w .cellsAscend (i .by) (packing-placed c Q k (i .by) (i .isIn)))
+        (follows P Q g k same (q .p) b h i) (follows Q P k g (λ n l. sym (same n l)) (q .p) b i h) in
+        Memᴰ·cast (sym is-q ∙ nu .byCells (h .by) (i .by) (packing-placed c P g (h .by) (h .isIn)) (packing-placed c Q k (i .by) (i .isIn)) (x .0) e) (i .isIn)
+
+    pub copies-differ : (P Q : List Placement) → Packing c P → Packing c Q → ((n : ℕ) → n < length (c .cells) → copyOn (taken c P) n ≡ copyOn (taken c Q) n) → P ≡ Q
+    copies-differ P Q g k same = ascending-unique ahead ahead-trans ahead-irrefl P Q (g .aSet) (k .aSet) (half P Q g k same) (half Q P k g (λ n l. sym (same n l)))
+
+-- the two bytes of a cell, from an answer
+answers-at : (c : Compiled) (P Q : List Placement) → answer c P ≡ answer c Q → (u : Cell) → List·Memᴰ u (box (c .board .sides))
+    → (copyOn (taken c P) (scanNumber (c .cells) u) .piece ≡ copyOn (taken c Q) (scanNumber (c .cells) u) .piece) × (copyOn (taken c P) (scanNumber (c .cells) u) .copy ≡ copyOn (taken c Q) (scanNumber (c .cells) u) .copy)
+unfolding answer
+answers-at c P Q e u k =
+    two-at (λ v. copyOn (taken c P) (scanNumber (c .cells) v) .piece) (λ v. copyOn (taken c P) (scanNumber (c .cells) v) .copy)
+    (λ v. copyOn (taken c Q) (scanNumber (c .cells) v) .piece) (λ v. copyOn (taken c Q) (scanNumber (c .cells) v) .copy) (box (c .board .sides)) e u k
+
+-- ---- copies are numbered apart
+module _ (t : Tray) where
+  sort-piece : ℕ → Piece → Sorted
+  sort-piece i q = record { piece = i; count = q .count; shape = smallest (q .grid) }
+
+  same-piece : (x y : Sorted) → List·Memᴰ x (sorted t) → List·Memᴰ y (sorted t) → x .piece ≡ y .piece → x ≡ y
+  unfolding sorted sort-piece
+  same-piece x y a b e =
+      let r = numbered-at sort-piece 0 (t .pieces) a in
+      let s = numbered-at sort-piece 0 (t .pieces) b in
+      let i : r .0 + 0 ≡ s .0 + 0 = sym (ap (λ (z : Sorted). z .piece) (r .3)) ∙ e ∙ ap (λ (z : Sorted). z .piece) (s .3) in
+      let j : r .0 ≡ s .0 = omega arith in
+      let p : r .1 ≡ s .1 = nth-unique (t .pieces) (s .0) (r .1) (s .1) (subst (λ (n : ℕ). Nth (t .pieces) n (r .1)) j (r .2)) (s .2) in
+      r .3 ∙ ap₂ (λ (n : ℕ) (q : Piece). sort-piece n q) i p ∙ sym (s .3)
+
+  sorted-apart : Apart (sorted t)
+  unfolding sorted sort-piece
+  sorted-apart =
+      apart-ascending (λ (x y : Sorted). ltb (x .piece) (y .piece)) (λ x s. ltb-irrefl (x .piece) s) (numbered (t .pieces) sort-piece)
+      (numbered-ascending sort-piece (λ (x y : Sorted). ltb (x .piece) (y .piece)) (λ n m x y h. lt→ltb n m h) 0 (t .pieces))
+
+  copy-of : Sorted → ℕ → Copy
+  copy-of q n = record { piece = q .piece; copy = n }
+
+  copies-at : (g : Grid) (x : Copy) → List·Memᴰ x (copiesOf (sorted t) g) → (q : Sorted) × List·Memᴰ q (sorted t) × (q .shape ≡ g) × (x .piece ≡ q .piece)
+  unfolding copiesOf copy-of
+  copies-at g x m =
+      let r = each-at (λ (q : Sorted). map (copy-of q) (below (q .count))) (keep (λ (q : Sorted). sameGrid (q .shape) g) (sorted t)) m in
+      let k = keep-at (λ (q : Sorted). sameGrid (q .shape) g) (sorted t) (r .1) in
+      let n = Memᴰ·of-map (copy-of (r .0)) (below (r .0 .count)) (r .2) in
+      (r .0, k .0, sameGrid→eq (r .0 .shape) g (k .1), sym (ap (λ (z : Copy). z .piece) (n .2)))
+
+  -- a copy is numbered below the count of the piece that it is of
+  copy-below : (g : Grid) (x : Copy) → List·Memᴰ x (copiesOf (sorted t) g) → (q : Piece) × Nth (t .pieces) (x .piece) q × (x .copy < q .count)
+  unfolding copiesOf copy-of sorted sort-piece
+  copy-below g x m =
+      let r = each-at (λ (q : Sorted). map (copy-of q) (below (q .count))) (keep (λ (q : Sorted). sameGrid (q .shape) g) (sorted t)) m in
+      let k = keep-at (λ (q : Sorted). sameGrid (q .shape) g) (sorted t) (r .1) in
+      let n = Memᴰ·of-map (copy-of (r .0)) (below (r .0 .count)) (r .2) in
+      let y = numbered-at sort-piece 0 (t .pieces) (k .0) in
+      let e : x .piece ≡ y .0 = let p = ap (λ (z : Copy). z .piece) (n .2) in let i = ap (λ (z : Sorted). z .piece) (y .3) in omega arith in
+      let f : r .0 .count ≡ y .1 .count = ap (λ (z : Sorted). z .count) (y .3) in
+      let h = below-at (r .0 .count) (n .1) in
+      let o : n .0 ≡ x .copy = ap (λ (z : Copy). z .copy) (n .2) in
+      (y .1, subst (λ (i : ℕ). Nth (t .pieces) i (y .1)) (sym e) (y .2), omega arith)
+
+  copies-apart : (g : Grid) → Apart (copiesOf (sorted t) g)
+  unfolding copiesOf copy-of
+  copies-apart g =
+      apart-each (λ (q : Sorted). map (copy-of q) (below (q .count))) (keep (λ (q : Sorted). sameGrid (q .shape) g) (sorted t)) (apart-keep (λ (q : Sorted). sameGrid (q .shape) g) (sorted t) sorted-apart)
+      (λ q m. apart-map-in (copy-of q) (below (q .count)) (apart-ascending ltb ltb-irrefl (below (q .count)) (from-ascending 0 (q .count))) (λ a b k l e. ap (λ (z : Copy). z .copy) e))
+      (λ q r m k x a b.
+      let n = Memᴰ·of-map (copy-of q) (below (q .count)) a in
+      let o = Memᴰ·of-map (copy-of r) (below (r .count)) b in
+      same-piece q r (keep-at (λ (z : Sorted). sameGrid (z .shape) g) (sorted t) m .0) (keep-at (λ (z : Sorted). sameGrid (z .shape) g) (sorted t) k .0) (ap (λ (z : Copy). z .piece) (n .2 ∙ sym (o .2))))
+
+  copies-are : (d : Kind) → List·Memᴰ d (kindsOf t) → d .copies ≡ copiesOf (sorted t) (d .shape)
+  unfolding kindsOf
+  copies-are d k = let r = Memᴰ·of-map _ (shapes (sorted t)) k in sym (ap (λ (x : Kind). x .copies) (r .2)) ∙ ap (copiesOf (sorted t)) (ap (λ (x : Kind). x .shape) (r .2))
+
+  pub kind-copy-below : (d : Kind) → List·Memᴰ d (kindsOf t) → (x : Copy) → List·Memᴰ x (d .copies) → (q : Piece) × Nth (t .pieces) (x .piece) q × (x .copy < q .count)
+  kind-copy-below d k x m = copy-below (d .shape) x (subst (λ (l : List Copy). List·Memᴰ x l) (copies-are d k) m)
+
+  module _ (wholes : (q : Piece) → List·Memᴰ q (t .pieces) → length (q .grid .cells) ≡ volume (q .grid .sides)) where
+    pub one-copy-of : (k k′ j j′ : ℕ) (d d′ : Kind) (x : Copy) → Nth (kindsOf t) k d → Nth (kindsOf t) k′ d′ → Nth (d .copies) j x → Nth (d′ .copies) j′ x → (k ≡ k′) × (j ≡ j′)
+    one-copy-of k k′ j j′ d d′ x a b h i = (k-same, nth-apart (d′ .copies) (subst Apart (sym (copies-are d′ (nth-mem (kindsOf t) k′ b))) (copies-apart (d′ .shape))) j j′ x (subst (λ (e : Kind). Nth (e .copies) j x) d-same h) i)
+      where
+        q : (z : Sorted) × List·Memᴰ z (sorted t) × (z .shape ≡ d .shape) × (x .piece ≡ z .piece)
+        q = copies-at (d .shape) x (subst (λ (l : List Copy). List·Memᴰ x l) (copies-are d (nth-mem (kindsOf t) k a)) (nth-mem (d .copies) j h))
+
+        q′ : (z : Sorted) × List·Memᴰ z (sorted t) × (z .shape ≡ d′ .shape) × (x .piece ≡ z .piece)
+        q′ = copies-at (d′ .shape) x (subst (λ (l : List Copy). List·Memᴰ x l) (copies-are d′ (nth-mem (kindsOf t) k′ b)) (nth-mem (d′ .copies) j′ i))
+
+        shape-same : d .shape ≡ d′ .shape
+        shape-same = sym (q .2) ∙ ap (λ (z : Sorted). z .shape) (same-piece (q .0) (q′ .0) (q .1) (q′ .1) (sym (q .3) ∙ q′ .3)) ∙ q′ .2
+
+        k-same : k ≡ k′
+        k-same =
+            nth-apart (gs t wholes) (apart-ascending gridAhead grid-irrefl (gs t wholes) (gs-up t wholes)) k k′ (d′ .shape) (subst (λ (g : Grid). Nth (gs t wholes) k g) shape-same (shape-nth t wholes k d a)) (shape-nth t wholes k′ d′ b)
+
+        d-same : d ≡ d′
+        d-same = nth-unique (kindsOf t) k′ d d′ (subst (λ (n : ℕ). Nth (kindsOf t) n d) k-same a) b
+
+-- ---- accepted calls
+module _ (l : Call) (ok : refusal l ≡ 0) where
+  kinds-of : compile (trayOf l) .kinds ≡ kindsOf (trayOf l)
+  unfolding compile
+  kinds-of = refl
+
+  answers-differ : (P Q : List Placement) → Packing (compile (trayOf l)) P → Packing (compile (trayOf l)) Q → answer (compile (trayOf l)) P ≡ answer (compile (trayOf l)) Q → P ≡ Q
+  answers-differ P Q g h e = copies-differ C (W l ok) (numbered-cells l ok) one-copy P Q g h same
+    where
+      C : Compiled
+      C = compile (trayOf l)
+
+      one-copy : (k k′ j j′ : ℕ) (d d′ : Kind) (x : Copy) → Nth (C .kinds) k d → Nth (C .kinds) k′ d′ → Nth (d .copies) j x → Nth (d′ .copies) j′ x → (k ≡ k′) × (j ≡ j′)
+      one-copy k k′ j j′ d d′ x a b c f =
+          one-copy-of (trayOf l) (piece-whole l ok) k k′ j j′ d d′ x (subst (λ (ks : List Kind). Nth ks k d) kinds-of a) (subst (λ (ks : List Kind). Nth ks k′ d′) kinds-of b) c f
+
+      same : (n : ℕ) → n < length (C .cells) → copyOn (taken C P) n ≡ copyOn (taken C Q) n
+      same n b = subst (λ (i : ℕ). copyOn (taken C P) i ≡ copyOn (taken C Q) i) (numbered-cells l ok .number-cell n b) (copy-same (getD (C .cells) n (record { x = 0; y = 0; z = 0 })) (in-box l ok (getD (C .cells) n (record { x = 0; y = 0; z = 0 })) (numbered-cells l ok .cell-in n b)))
+        where
+          copy-path : {x y : Copy} → x .piece ≡ y .piece → x .copy ≡ y .copy → x ≡ y
+          copy-path p q = λ i. record { piece = p i; copy = q i }
+
+          copy-same : (u : Cell) → InBox (C .board .sides) u → copyOn (taken C P) (scanNumber (C .cells) u) ≡ copyOn (taken C Q) (scanNumber (C .cells) u)
+          copy-same u k = let r = answers-at C P Q e u (box-of (C .board .sides) u k) in copy-path (r .0) (r .1)
+
+  pub geometry : Geometry (compile (trayOf l))
+  geometry = record { ontoItself = onto-itself l ok; onlyItself = only-itself l ok; turned = acts l ok Turned tt; mirrored = acts l ok Mirrored tt; answersDiffer = answers-differ }

@@ -1,0 +1,386 @@
+-- The outcome of document 01's definitions meets demands 2 and 3. Assumes nothing.
+use Prim.Native.Nat.{ℕ, zero, suc, _+_, _-_, _*_, _/_, _≤_, _<_, min}
+use mathlib.Core.Bool.{Bool, true, false, cond, not, _&&_}
+use mathlib.Core.List.{List, [], _∷_, _++_, map, Perm, Perm·map, List·Memᴰ, List·Memᴰ·head, List·Memᴰ·tail, List·Memᴰ·not-nil, List·Memᴰ·cases-cons, Memᴰ·cast, Memᴰ·map, Memᴰ·of-map}
+use mathlib.Core.Path.{_≡_, refl, sym, ap, ap₂, _∙_, subst}
+use mathlib.Core.Logic.{_⊎_, inl, inr, _↔_}
+use native.Mathlib.Nat.{suc-mul, zero-mul, mul-comm, div-mul-le-self, lt-div-mul-add, add-mul, one-mul, mul-le-mul-right, le-trans, mul-pos}
+use native.Mathlib.Omega.{arith}
+use lib.Dec.{T, ltb, leb, eqb, eqb→eq, ltb→lt, lt→ltb, leb→le, nltb→le}
+use lib.ListN.{length, getD, take, drop, replicate, length-take, length-drop, length-append, length-map, length-replicate}
+use lib.Seq.{length-front, length-take-le, take-take}
+use Rattle.definitions.specs.Lists.{all, any, keep, each, below, joined, headOr, member, sum, ascending, Apart}
+use Rattle.definitions.proofs.ListLaws.{and-left, and-right, and-both, all-at, all-of, keep-at, each-at, keep-ascending, is-true, below-at, member-at, eqb-of}
+use Rattle.definitions.specs.Grid.{Sides, Cell, Grid, box, volume}
+use Rattle.definitions.proofs.MoveLaws.{length-box}
+use Rattle.definitions.specs.Scan.{scanNumber}
+use Rattle.definitions.specs.Kinds.{Tray, Piece, Sorted, sorted, Copy, Kind, kindsOf, copiesOf}
+use Rattle.definitions.specs.Placements.{Placement, Compiled, compile}
+use Rattle.definitions.specs.Packing.{Packing}
+use Rattle.definitions.specs.Kept.{Identify, kept}
+use Rattle.definitions.specs.Kept.Identify.{None}
+use Rattle.definitions.specs.Orders.{listed, packings, fastList, fastAhead}
+use Rattle.definitions.specs.Answers.{Taken, taken, copyOn, answer}
+use Rattle.definitions.specs.Page.{Page, page}
+use Rattle.definitions.specs.Refusals.{Call, sidesOf, gridOf, trayOf, identifyOf, isSide, sidesFit, copyCount, isPorted, isKnuth, table, refusal}
+use Rattle.definitions.specs.Outcomes.{Outcome, answersOf, answerSize, capacity, pageOf, overStart, cleared, accepted, outcome}
+use Rattle.definitions.specs.Demands.{Lends, Stretch, Pages, ExactCover, CoverWithin, placementsIn, coverAnswer, Covers, Demand2, demand2, Reached, StandsFor, OneList, demand3}
+use Rattle.definitions.specs.declared.SolverKind.{SolverKind}
+use Rattle.definitions.specs.declared.SolverKind.the-variants.{Auto, Naive, Fast, KnuthAlgorithm}
+use Rattle.definitions.specs.declared.Record.{Record}
+use Rattle.definitions.proofs.RefusalLaws.{none-applies, outcome-accepted}
+use Rattle.definitions.proofs.SearchLaws.{WellMade}
+use Rattle.definitions.proofs.WellMadeLaws.{Nth, nth-mem, nth-below, numbered-at}
+use Rattle.definitions.proofs.CellLaws.{apart-map-in}
+use Rattle.definitions.proofs.ShapeLaws.{fails, accepted-well-made}
+use Rattle.definitions.proofs.CoverLaws.{CoverList, fast-covers, knuth-covers, fast-knuth, knuth-fast, fast-apart, knuth-apart, rows-same, cover-packing, perm-of}
+use Rattle.definitions.proofs.KeptLaws.{Geometry, ListFacts, list-facts}
+use Rattle.definitions.proofs.AnswerLaws.{geometry, kind-copy-below, taken-at}
+use Rattle.definitions.proofs.OrderLaws.{fast-ascending}
+
+-- ---- lists of entries of one size
+Sized : ℕ → List (List ℕ) → Type 0
+Sized n xs = (x : List ℕ) → List·Memᴰ x xs → length x ≡ n
+
+pub length-joined : (n : ℕ) (xs : List (List ℕ)) → ((x : List ℕ) → List·Memᴰ x xs → length x ≡ n) → length (joined xs) ≡ length xs * n
+length-joined n [] h = sym (zero-mul n)
+length-joined n (x ∷ xs) h =
+    let a = length-append x (joined xs) in
+    let b = h x (List·Memᴰ·head refl) in
+    let c = length-joined n xs (λ y m. h y (List·Memᴰ·tail m)) in
+    let d = suc-mul (length xs) n in
+    omega arith
+
+pub drop-in : {A : Type 0} (n : ℕ) (xs : List A) {x : A} → List·Memᴰ x (drop n xs) → List·Memᴰ x xs
+drop-in zero xs m = m
+drop-in (suc n) [] m = m
+drop-in (suc n) (y ∷ ys) m = List·Memᴰ·tail (drop-in n ys m)
+
+pub take-in : {A : Type 0} (n : ℕ) (xs : List A) {x : A} → List·Memᴰ x (take n xs) → List·Memᴰ x xs
+take-in zero xs m = absurd (List·Memᴰ·not-nil m)
+take-in (suc n) [] m = m
+take-in (suc n) (y ∷ ys) {x} m = go (List·Memᴰ·cases-cons m) (λ (k : List·Memᴰ x (take n ys)). take-in n ys k)
+  where
+    go : (x ≡ y) ⊎ List·Memᴰ x (take n ys) → (List·Memᴰ x (take n ys) → List·Memᴰ x ys) → List·Memᴰ x (y ∷ ys)
+    go (inl e) f = List·Memᴰ·head e
+    go (inr k) f = List·Memᴰ·tail (f k)
+
+take-min : {A : Type 0} (n : ℕ) (xs : List A) → take (length (take n xs)) xs ≡ take n xs
+take-min zero xs = refl
+take-min (suc n) [] = refl
+take-min (suc n) (x ∷ xs) = ap (λ (l : List _). x ∷ l) (take-min n xs)
+
+each-length : {A : Type 0} (n : ℕ) (f : A → List ℕ) (xs : List A) → ((x : A) → length (f x) ≡ n) → length (each xs f) ≡ length xs * n
+each-length n f [] h = sym (zero-mul n)
+each-length n f (x ∷ xs) h =
+    let a = length-append (f x) (each xs f) in
+    let b = h x in
+    let c = each-length n f xs h in
+    let d = suc-mul (length xs) n in
+    omega arith
+
+-- two numbers for each cell of the box
+pub answer-length : (c : Compiled) (P : List Placement) → length (answer c P) ≡ answerSize (c .board .sides)
+unfolding answer answerSize
+answer-length c P =
+    let a = each-length 2 (λ u. let d = copyOn (taken c P) (scanNumber (c .cells) u) in d .piece ∷ d .copy ∷ []) (box (c .board .sides)) (λ u. refl) in
+    let b = length-box (c .board .sides) in
+    let d = mul-comm (length (box (c .board .sides))) 2 in
+    a ∙ d ∙ ap (λ (n : ℕ). 2 * n) b
+
+-- ---- pages
+module _ (l : Call) (ok : refusal l ≡ 0) where
+  abbrev size : ℕ
+  size = answerSize (trayOf l .board .sides)
+
+  -- a side is at least 1
+  side-pos : (n : ℕ) → T (isSide n) → 0 < n
+  unfolding isSide
+  side-pos n t = leb→le 1 n (and-left (leb 1 n) (leb n 8) t)
+
+  board-sides : T (sidesFit (l .board))
+  unfolding table
+  board-sides = all-at sidesFit (l .board ∷ l .pieces) (fails l ok (all sidesFit (l .board ∷ l .pieces)) (none-applies l ok 2)) (List·Memᴰ·head refl)
+
+  size-pos : 0 < size
+  unfolding answerSize trayOf gridOf sidesOf volume sidesFit
+  size-pos =
+      let t = board-sides in
+      let a = side-pos (l .board .a) (and-left (isSide (l .board .a)) (isSide (l .board .b) && isSide (l .board .c)) t) in
+      let u = and-right (isSide (l .board .a)) (isSide (l .board .b) && isSide (l .board .c)) t in
+      let b = side-pos (l .board .b) (and-left (isSide (l .board .b)) (isSide (l .board .c)) u) in
+      let c = side-pos (l .board .c) (and-right (isSide (l .board .b)) (isSide (l .board .c)) u) in
+      let v = mul-pos (mul-pos a b) c in
+      omega arith
+
+  -- 12 and 13
+  below-of : (m n : ℕ) → ltb m n ≡ false → n ≤ m
+  below-of m n e = nltb→le m n (subst (λ (b : Bool). T (not b)) (sym e) tt)
+
+  work-long : 8192 ≤ length (l .work)
+  unfolding table
+  work-long = below-of (length (l .work)) 8192 (none-applies l ok 11)
+
+  links-long : isKnuth (l .config .solver) ≡ true → 32768 ≤ length (l .links)
+  unfolding table
+  links-long e = below-of (length (l .links)) 32768 (subst (λ (b : Bool). (b && ltb (length (l .links)) 32768) ≡ false) e (none-applies l ok 12))
+
+  ported : T (isPorted (l .config .solver))
+  unfolding table
+  ported = fails l ok (isPorted (l .config .solver)) (none-applies l ok 10)
+
+  cleared-length : (n : ℕ) (old : List ℕ) → n ≤ length old → length (replicate n 0 ++ drop n old) ≡ length old
+  cleared-length n old h = length-front old (replicate n 0) n (length-replicate n 0 ∙ sym (length-take-le n old h))
+
+  links-length : (b : Bool) → isKnuth (l .config .solver) ≡ b → length (cond b (replicate 32768 0 ++ drop 32768 (l .links)) (l .links)) ≡ length (l .links)
+  links-length true e = cleared-length 32768 (l .links) (links-long e)
+  links-length false e = refl
+
+  module _ (list : List (List ℕ)) (sized : (x : List ℕ) → List·Memᴰ x list → length x ≡ size) (its : list ≡ answersOf (trayOf l) (identifyOf (l .config)) (l .config .solver)) where
+    abbrev entries : List (List ℕ)
+    entries = take (capacity l) (drop (l .skip) list)
+
+    abbrev room : ℕ
+    room = capacity l
+
+    fit : room * size ≤ length (l .answers)
+    unfolding capacity trayOf gridOf
+    fit = div-mul-le-self (length (l .answers)) size
+
+    no-more : length (l .answers) < (room + 1) * size
+    unfolding capacity trayOf gridOf
+    no-more =
+        let a = lt-div-mul-add {a = length (l .answers)} size-pos in
+        let b = add-mul (length (l .answers) / size) 1 size in
+        let c = one-mul size in
+        omega arith
+
+    entries-length : length (joined entries) ≡ length entries * size
+    entries-length = length-joined size entries (λ x m. sized x (drop-in (l .skip) list (take-in room (drop (l .skip) list) m)))
+
+    how-many : length entries ≡ min room (length list - l .skip)
+    how-many = length-take room (drop (l .skip) list) ∙ ap (λ (n : ℕ). min room n) (length-drop (l .skip) list)
+
+    they-fit : length entries * size ≤ length (l .answers)
+    they-fit = le-trans (mul-le-mul-right size (let a = how-many in omega arith)) fit
+
+    bytes-length : length (joined entries ++ drop (length (joined entries)) (l .answers)) ≡ length (l .answers)
+    bytes-length =
+        length-front (l .answers) (joined entries) (length (joined entries))
+        (sym (length-take-le (length (joined entries)) (l .answers) (let a = entries-length in let b = they-fit in omega arith)))
+
+    bytes-are : joined entries ++ drop (length (joined entries)) (l .answers) ≡ joined (take (length entries) (drop (l .skip) list)) ++ drop (length entries * size) (l .answers)
+    bytes-are = ap₂ (λ (xs : List (List ℕ)) (n : ℕ). joined xs ++ drop n (l .answers)) (sym (take-min room (drop (l .skip) list))) entries-length
+
+    of-list : Outcome
+    of-list =
+        record {
+          number = 0;
+          written = length entries;
+          further = ltb (l .skip + length entries) (length list);
+          answers = joined entries ++ drop (length (joined entries)) (l .answers);
+          work = replicate 8192 0 ++ drop 8192 (l .work);
+          links = cond (isKnuth (l .config .solver)) (replicate 32768 0 ++ drop 32768 (l .links)) (l .links);
+        }
+
+    its-outcome : outcome l ≡ of-list
+    unfolding accepted pageOf page overStart cleared of-list
+    its-outcome =
+        outcome-accepted l ok
+        ∙ ap {B = Outcome} (λ (xs : List (List ℕ)). record {
+          number = 0;
+          written = length (take (capacity l) (drop (l .skip) xs));
+          further = ltb (l .skip + length (take (capacity l) (drop (l .skip) xs))) (length xs);
+          answers = joined (take (capacity l) (drop (l .skip) xs)) ++ drop (length (joined (take (capacity l) (drop (l .skip) xs)))) (l .answers);
+          work = replicate 8192 0 ++ drop 8192 (l .work);
+          links = cond (isKnuth (l .config .solver)) (replicate 32768 0 ++ drop 32768 (l .links)) (l .links);
+        }) (sym its)
+
+    stretch-of : Stretch list l of-list
+    unfolding of-list
+    stretch-of =
+        record {
+          number = refl;
+          capacity = room;
+          theyFit = fit;
+          oneMoreDoesNot = no-more;
+          written = how-many;
+          further = (λ t. ltb→lt (l .skip + length entries) (length list) t, λ h. lt→ltb (l .skip + length entries) (length list) h);
+          bytes = bytes-are;
+          answersLength = bytes-length;
+          work = refl;
+          workLength = cleared-length 8192 (l .work) work-long;
+          links = refl;
+          linksLength = links-length (isKnuth (l .config .solver)) refl;
+        }
+
+    pub stretch : Stretch list l (outcome l)
+    stretch = subst (λ (o : Outcome). Stretch list l o) (sym its-outcome) stretch-of
+
+-- every page of a tray's one list is its stretch
+answers-sized : (t : Tray) (i : Identify) (e : SolverKind) (x : List ℕ) → List·Memᴰ x (answersOf t i e) → length x ≡ answerSize (t .board .sides)
+unfolding answersOf compile
+answers-sized t i e x m =
+    let r = Memᴰ·of-map (answer (compile t)) (listed (compile t) i e) m in
+    ap length (sym (r .2)) ∙ answer-length (compile t) (r .0)
+
+pub pages-of : (t : Tray) (i : Identify) (e : SolverKind) → Pages outcome t i e (answersOf t i e)
+unfolding Pages
+pages-of t i e l h =
+    stretch l (h .notRefused) (answersOf t i e)
+    (λ x m. answers-sized t i e x m ∙ ap (λ (u : Tray). answerSize (u .board .sides)) (sym (h .tray)))
+    (sym (λ k. answersOf (h .tray k) (h .identification k) (h .engine k)))
+
+-- ---- copies fit a byte
+member-sum : (f : Piece → ℕ) (qs : List Piece) (q : Piece) → List·Memᴰ q qs → f q ≤ sum (map f qs)
+member-sum f [] q m = absurd (List·Memᴰ·not-nil m)
+member-sum f (p ∷ qs) q m = go (List·Memᴰ·cases-cons m) (λ (k : List·Memᴰ q qs). member-sum f qs q k)
+  where
+    go : (q ≡ p) ⊎ List·Memᴰ q qs → (List·Memᴰ q qs → f q ≤ sum (map f qs)) → f q ≤ f p + sum (map f qs)
+    go (inl e) r = let i = ap f e in omega arith
+    go (inr k) r = let i = r k in omega arith
+
+-- in an accepted tray piece numbers are below 16 and copy numbers below 128
+module _ (l : Call) (ok : refusal l ≡ 0) where
+  few-pieces : length (trayOf l .pieces) ≤ 16
+  unfolding table trayOf
+  few-pieces =
+      let a = below-of l ok 16 (length (l .pieces)) (none-applies l ok 1) in
+      let b = length-map {B = Piece} (l .pieces) (λ r. record { grid = gridOf (l .bytes) r; count = r .count }) in
+      omega arith
+
+  few-copies : copyCount (trayOf l) ≤ 128
+  unfolding table
+  few-copies = below-of l ok 128 (copyCount (trayOf l)) (none-applies l ok 7)
+
+  pub copy-fits : (d : Kind) → List·Memᴰ d (compile (trayOf l) .kinds) → (x : Copy) → List·Memᴰ x (d .copies) → (x .piece < 16) × (x .copy < 128)
+  unfolding compile copyCount
+  copy-fits d k x m =
+      let r = kind-copy-below (trayOf l) d k x m in
+      let a = nth-below (trayOf l .pieces) (x .piece) (r .0) (r .1) in
+      let b = few-pieces in
+      let c = member-sum (λ (q : Piece). q .count) (trayOf l .pieces) (r .0) (nth-mem (trayOf l .pieces) (x .piece) (r .1)) in
+      let e = few-copies in
+      let f = r .2 in
+      (omega arith, omega arith)
+
+  -- what lies on a cell: a copy of some kind, or 255.255
+  on-cell : (P : List Placement) (n : ℕ) → (copyOn (taken (compile (trayOf l)) P) n .piece < 256) × (copyOn (taken (compile (trayOf l)) P) n .copy < 256)
+  unfolding copyOn
+  on-cell P n = go (keep (λ (z : Taken). member n (z .cells)) (taken C P)) (λ x m. keep-at (λ (z : Taken). member n (z .cells)) (taken C P) m .0)
+    where
+      C : Compiled
+      C = compile (trayOf l)
+
+      go : (xs : List Taken) → ((x : Taken) → List·Memᴰ x xs → List·Memᴰ x (taken C P))
+          → (headOr (record { piece = 255; copy = 255 }) (map (λ z. z .copy) xs) .piece < 256) × (headOr (record { piece = 255; copy = 255 }) (map (λ z. z .copy) xs) .copy < 256)
+      go [] f = (omega arith, omega arith)
+      go (y ∷ ys) f =
+          let r = taken-at C (accepted-well-made l ok) P y (f y (List·Memᴰ·head refl)) in
+          let k = copy-fits (r .1) (nth-mem (C .kinds) (r .0) (r .2)) (y .copy) (nth-mem (r .1 .copies) (r .3) (r .5)) in
+          let a = k .0 in
+          let b = k .1 in
+          (omega arith, omega arith)
+
+  are-bytes : (P : List Placement) → T (all (λ n. ltb n 256) (answer (compile (trayOf l)) P))
+  unfolding answer
+  are-bytes P = all-of (λ n. ltb n 256) (each (box (C .board .sides)) two) (λ n m. go n (each-at two (box (C .board .sides)) m))
+    where
+      C : Compiled
+      C = compile (trayOf l)
+
+      two : Cell → List ℕ
+      two u = copyOn (taken C P) (scanNumber (C .cells) u) .piece ∷ copyOn (taken C P) (scanNumber (C .cells) u) .copy ∷ []
+
+      go : (n : ℕ) → (u : Cell) × List·Memᴰ u (box (C .board .sides)) × List·Memᴰ n (two u) → T (ltb n 256)
+      go n x = at (List·Memᴰ·cases-cons (x .2))
+        where
+          fits : (copyOn (taken C P) (scanNumber (C .cells) (x .0)) .piece < 256) × (copyOn (taken C P) (scanNumber (C .cells) (x .0)) .copy < 256)
+          fits = on-cell P (scanNumber (C .cells) (x .0))
+
+          last : (n ≡ copyOn (taken C P) (scanNumber (C .cells) (x .0)) .copy) ⊎ List·Memᴰ n [] → T (ltb n 256)
+          last (inl e) = subst (λ (k : ℕ). T (ltb k 256)) (sym e) (lt→ltb (copyOn (taken C P) (scanNumber (C .cells) (x .0)) .copy) 256 (fits .1))
+          last (inr k) = absurd (List·Memᴰ·not-nil k)
+
+          at : (n ≡ copyOn (taken C P) (scanNumber (C .cells) (x .0)) .piece) ⊎ List·Memᴰ n (copyOn (taken C P) (scanNumber (C .cells) (x .0)) .copy ∷ []) → T (ltb n 256)
+          at (inl e) = subst (λ (k : ℕ). T (ltb k 256)) (sym e) (lt→ltb (copyOn (taken C P) (scanNumber (C .cells) (x .0)) .piece) 256 (fits .0))
+          at (inr k) = last (List·Memᴰ·cases-cons k)
+
+  -- ---- the demands
+  abbrev T₀ : Tray
+  T₀ = trayOf l
+
+  abbrev C₀ : Compiled
+  C₀ = compile (trayOf l)
+
+  well : WellMade (compile (trayOf l))
+  well = accepted-well-made l ok
+
+  listed-facts : (i : Identify) (e : SolverKind) → T (isPorted e) → ListFacts (compile (trayOf l)) i (listed (compile (trayOf l)) i e)
+  listed-facts = list-facts (compile (trayOf l)) well (geometry l ok)
+
+  -- no answer stands twice
+  answers-apart : (L : List (List Placement)) → Apart L → ((P : List Placement) → List·Memᴰ P L → Packing C₀ P) → Apart (map (answer C₀) L)
+  answers-apart L h f = apart-map-in (answer C₀) L h (λ P Q m k e. geometry l ok .answersDiffer P Q (f P m) (f Q k) e)
+
+  covers-of : (L : List (List Placement)) → CoverList C₀ well L → Apart L → ((P : List Placement) → List·Memᴰ P L → Packing C₀ P) → Covers T₀ (map (answer C₀) L)
+  unfolding coverAnswer
+  covers-of L x h f =
+      record {
+        allOfThem = λ rows k. Memᴰ·map (answer C₀) (x .allOfThem rows k);
+        onlyThose = λ a m.
+            let r = Memᴰ·of-map (answer C₀) L m in
+            let k = x .onlyThose (r .0) (r .1) in
+            (k .0, k .1, ap (answer C₀) (k .2) ∙ r .2);
+        eachOnce = answers-apart L h f;
+        toldApart = λ rows others k m e.
+            rows-same C₀ well rows others k m (geometry l ok .answersDiffer (placementsIn C₀ rows) (placementsIn C₀ others) (cover-packing C₀ well rows k) (cover-packing C₀ well others m) e);
+      }
+
+  fast-orders : (i : Identify) → T (ascending (fastAhead C₀ i) (listed C₀ i Fast))
+  unfolding listed packings
+  fast-orders i = keep-ascending (fastAhead C₀ i) (kept C₀ i) (fastList C₀ i) (fast-ascending C₀ well i)
+
+  two : Demand2 outcome (trayOf l)
+  unfolding answersOf isPorted
+  two =
+      record {
+        fast = covers-of (listed C₀ None Fast) (fast-covers C₀ well) (fast-apart C₀ well None) (listed-facts None Fast tt .packings);
+        knuth = covers-of (listed C₀ None KnuthAlgorithm) (knuth-covers C₀ well) (knuth-apart C₀ well None) (listed-facts None KnuthAlgorithm tt .packings);
+        rearranged = λ i. Perm·map (answer C₀) (perm-of (listed C₀ i Fast) (listed C₀ i KnuthAlgorithm) (fast-apart C₀ well i) (knuth-apart C₀ well i) (fast-knuth C₀ well i) (knuth-fast C₀ well i));
+        pages = λ i e. pages-of T₀ i e;
+        fastOrder = fast-orders;
+      }
+
+  three : OneList outcome (trayOf l) (identifyOf (l .config)) (l .config .solver) (listed (compile (trayOf l)) (identifyOf (l .config)) (l .config .solver))
+  unfolding answersOf
+  three =
+      record {
+        onlyPackings = f .packings;
+        noneTwice = answers-apart (listed C₀ (identifyOf (l .config)) (l .config .solver)) (f .apart) (f .packings);
+        answersDiffer = geometry l ok .answersDiffer;
+        listedExactly = f .exactly;
+        noTwoAlike = f .noTwoAlike;
+        exactlyOne = f .exactlyOne;
+        withNeither = f .withNeither;
+        emptyIffNone = f .emptyIffNone;
+        answerLength = λ P. length-is P;
+        areBytes = are-bytes;
+        pages = pages-of T₀ (identifyOf (l .config)) (l .config .solver);
+      }
+    where
+      f : ListFacts C₀ (identifyOf (l .config)) (listed C₀ (identifyOf (l .config)) (l .config .solver))
+      f = listed-facts (identifyOf (l .config)) (l .config .solver) (ported l ok)
+
+      length-is : (P : List Placement) → length (answer C₀ P) ≡ answerSize (T₀ .board .sides)
+      length-is P = unfold compile in (answer-length C₀ P)
+
+-- Demand 2
+pub demand2-holds : demand2 outcome
+unfolding demand2
+demand2-holds l ok = two l ok
+
+-- Demand 3
+pub demand3-holds : demand3 outcome
+unfolding demand3
+demand3-holds l ok = three l ok

@@ -1,0 +1,351 @@
+-- The kinds of an accepted call's tray are its pieces' grids up to quarter turns, with their mirror partners and the copies lent. Assumes nothing.
+use Prim.Native.Nat.{ℕ, zero, suc, _+_, _<_}
+use mathlib.Core.Bool.{Bool, true, false, _&&_}
+use mathlib.Core.List.{List, [], _∷_, map, List·Memᴰ, List·Memᴰ·not-nil, List·Memᴰ·cases-cons, Memᴰ·cast, Memᴰ·map, Memᴰ·of-map}
+use mathlib.Core.Path.{_≡_, sym, ap, ap₂, _∙_, subst}
+use mathlib.Core.Logic.{_⊎_, inl, inr, _↔_}
+use native.Mathlib.Omega.{arith}
+use lib.Dec.{T, ltb, eqb, lt→ltb, eqb-refl}
+use lib.ListN.{length, getD, length-map}
+use Rattle.definitions.specs.Lists.{all, keep, each, before, headOr, ascending, below, less}
+use Rattle.definitions.proofs.ListLaws.{and-left, and-right, and-both, or-left, or-right, all-at, all-of, keep-at, keep-of, each-at, each-of, not-T, is-true, first-ahead, keep-ascending, from-ascending, below-at, below-of}
+use Rattle.definitions.specs.Grid.{Cell, Grid, volume, filledCells, sameGrid, gridAhead}
+use Rattle.definitions.specs.Maps.{Map, mapGrid, turns, mirrorings, mirror, product}
+use Rattle.definitions.specs.Scan.{axes, cellAhead}
+use Rattle.definitions.specs.Kinds.{Piece, Tray, variants, smallest, Sorted, sorted, shapes, Copy, copiesOf, partnerOf, Kind, kindsOf}
+use Rattle.definitions.specs.Placements.{Compiled, compile}
+use Rattle.definitions.specs.Moves.{Move, isOdd, gridAfter}
+use Rattle.definitions.specs.Moves.Move.{turn, mirroring}
+use Rattle.definitions.specs.Refusals.{Call, trayOf, areBits, refusal}
+use Rattle.definitions.specs.PlacementsRight.{TurnsOnto, MirrorsOnto, noGrid, pieceAt, kindAt, copyAhead}
+use Rattle.definitions.proofs.GroupLaws.{identity-grid, sameGrid→eq, sameGrid-of}
+use Rattle.definitions.proofs.EngineLaws.{sort-at}
+use Rattle.definitions.proofs.WellMadeLaws.{Nth, nth-mem, nth-below, nth-getD, getD-nth, numbered-at, numbered-ascending, up-board}
+use Rattle.definitions.proofs.ShapeLaws.{bits, shape-facts, sort-of, smallest-at}
+use Rattle.definitions.proofs.ActLaws.{mapsOf, product-in, product-on, back-in}
+use Rattle.definitions.proofs.MoveLaws.{movesMap, moves-in, moves-grid, turn-moves, mirroring-moves, turns-alone, mapped-whole, mirror-in}
+use Rattle.definitions.proofs.CellLaws.{nth-unique, nth-value, grid-trans, grid-irrefl}
+use Rattle.definitions.proofs.PartnerLaws.{variant-of, variants-up, smallest-turned, grids-tied, before-holds, before-grid, gs-up, shapes-are, gs, one-kind}
+use Rattle.definitions.proofs.GeometryLaws.{piece-whole, to-filled, of-filled, turns-not-odd}
+use Rattle.definitions.proofs.AnswerLaws.{numbered-of}
+use Rattle.definitions.proofs.OrderLaws.{each-ascending}
+
+-- ---- lists
+module _ {A : Type 0} where
+  -- an entry has a number, and a number below the length an entry
+  pub nth-of : (xs : List A) {x : A} → List·Memᴰ x xs → (n : ℕ) × Nth xs n x
+  nth-of [] m = absurd (List·Memᴰ·not-nil m)
+  nth-of (y ∷ ys) {x} m = go (List·Memᴰ·cases-cons m) (λ (k : List·Memᴰ x ys). nth-of ys k)
+    where
+      go : (x ≡ y) ⊎ List·Memᴰ x ys → (List·Memᴰ x ys → (n : ℕ) × Nth ys n x) → (n : ℕ) × Nth (y ∷ ys) n x
+      go (inl e) f = (zero, e)
+      go (inr k) f = let r = f k in (suc (r .0), r .1)
+
+  pub nth-at : (d : A) (xs : List A) (n : ℕ) → n < length xs → Nth xs n (getD xs n d)
+  nth-at d xs n h = let r = getD-nth xs n h in subst (λ (x : A). Nth xs n x) (sym (nth-value xs n (r .0) d (r .1))) (r .1)
+
+  -- no entry of an ascending list stands ahead of its first
+  head-first : (ahead : A → A → Bool) → ((x y z : A) → T (ahead x y) → T (ahead y z) → T (ahead x z)) → ((x : A) → T (ahead x x) → ⊥)
+      → (d : A) (xs : List A) → T (ascending ahead xs) → {z : A} → List·Memᴰ z xs → T (ahead z (headOr d xs)) → ⊥
+  head-first ahead trans irrefl d [] t m a = List·Memᴰ·not-nil m
+  head-first ahead trans irrefl d (x ∷ xs) t {z} m a = go (List·Memᴰ·cases-cons m)
+    where
+      go : (z ≡ x) ⊎ List·Memᴰ z xs → ⊥
+      go (inl e) = irrefl x (subst (λ (w : A). T (ahead w x)) e a)
+      go (inr k) = irrefl x (trans x z x (first-ahead ahead trans irrefl x xs t k) a)
+
+map-up : {A B : Type 0} (first : A → A → Bool) (rel : B → B → Bool) (f : A → B) → ((x y : A) → T (first x y) → T (rel (f x) (f y)))
+    → (xs : List A) → T (ascending first xs) → T (ascending rel (map f xs))
+map-up first rel f h [] t = tt
+map-up first rel f h (x ∷ xs) t =
+    and-both (all (rel (f x)) (map f xs)) (ascending rel (map f xs))
+    (all-of (rel (f x)) (map f xs) (λ z m.
+    let r = Memᴰ·of-map f xs m in
+    subst (λ (w : _). T (rel (f x) w)) (r .2) (h x (r .0) (all-at (first x) xs (and-left (all (first x) xs) (ascending first xs) t) (r .1)))))
+    (map-up first rel f h xs (and-right (all (first x) xs) (ascending first xs) t))
+
+-- ---- sequences of moves and maps, on a grid of 0 and 1 with all its cells
+abbrev Whole : Grid → Type 0
+Whole g = length (g .cells) ≡ volume (g .sides)
+
+module _ (g : Grid) (b : T (areBits g)) (w : Whole g) where
+  by-map : (odd : Bool) (ms : List Move) (h : Grid) → isOdd ms ≡ odd → gridAfter ms g ≡ h → (m : Map) × List·Memᴰ m (mapsOf odd) × (mapGrid m g ≡ h)
+  by-map odd ms h o e = (movesMap ms, subst (λ (x : Bool). List·Memᴰ (movesMap ms) (mapsOf x)) o (moves-in ms), sym (moves-grid ms g b w) ∙ e)
+
+  by-moves : (ms : List Move) (m : Map) (h : Grid) → movesMap ms ≡ m → mapGrid m g ≡ h → gridAfter ms g ≡ h
+  by-moves ms m h e f = moves-grid ms g b w ∙ ap (λ (n : Map). mapGrid n g) e ∙ f
+
+  pub turned-onto : (m : Map) (h : Grid) → List·Memᴰ m turns → mapGrid m g ≡ h → TurnsOnto g h
+  turned-onto m h k e = let r = turn-moves m k in record { moves = map turn (r .0); byTurns = turns-alone (r .0); equal = by-moves (map turn (r .0)) m h (r .1) e }
+
+  pub mirrored-onto : (m : Map) (h : Grid) → List·Memᴰ m mirrorings → mapGrid m g ≡ h → MirrorsOnto g h
+  mirrored-onto m h k e = let r = mirroring-moves m k in record { moves = mirroring (r .0) ∷ []; byMirroring = tt; equal = by-moves (mirroring (r .0) ∷ []) m h (r .1) e }
+
+  pub mirrors-by : (h : Grid) → MirrorsOnto g h → (m : Map) × List·Memᴰ m mirrorings × (mapGrid m g ≡ h)
+  mirrors-by h r = by-map true (r .moves) h (is-true (isOdd (r .moves)) (r .byMirroring)) (r .equal)
+
+-- ---- all 24 mirrored grids have one smallest turned grid
+smallest-mirrored : (m n : Map) → List·Memᴰ m mirrorings → List·Memᴰ n mirrorings → (g : Grid) → Whole g → smallest (mapGrid m g) ≡ smallest (mapGrid n g)
+smallest-mirrored m n a b g w =
+    let r = back-in true n b in
+    let undo : mapGrid (r .0) (mapGrid n g) ≡ g = product-on true true (r .0) n (r .1) b g ∙ ap (λ (j : Map). mapGrid j g) (r .2) ∙ identity-grid g w in
+    ap (λ (h : Grid). smallest (mapGrid m h)) (sym undo) ∙ ap smallest (product-on true true m (r .0) a (r .1) (mapGrid n g))
+    ∙ smallest-turned (product m (r .0)) (product-in true true m (r .0) a (r .1)) (mapGrid n g) (mapped-whole n g)
+
+smallest-partner : (g : Grid) → Whole g → smallest (mapGrid mirror (smallest g)) ≡ smallest (mapGrid mirror g)
+smallest-partner g w =
+    let r = smallest-at g in
+    ap (λ (h : Grid). smallest (mapGrid mirror h)) (sym (r .2)) ∙ ap smallest (product-on true false mirror (r .0) mirror-in (r .1) g)
+    ∙ smallest-mirrored (product mirror (r .0)) mirror (product-in true false mirror (r .0) mirror-in (r .1)) mirror-in g w
+
+-- the kind of the mirrored grids is a grid's kind exactly if a mirroring makes the grids equal
+mirror-kind : (g h : Grid) → Whole g → Whole h → (smallest (mapGrid mirror (smallest g)) ≡ smallest h) ↔ ((m : Map) × List·Memᴰ m mirrorings × (mapGrid m g ≡ h))
+mirror-kind g h wg wh = (there, λ r. smallest-partner g wg ∙ smallest-mirrored mirror (r .0) mirror-in (r .1) g wg ∙ ap smallest (r .2))
+  where
+    there : smallest (mapGrid mirror (smallest g)) ≡ smallest h → (m : Map) × List·Memᴰ m mirrorings × (mapGrid m g ≡ h)
+    there e =
+        let r = one-kind (mapGrid mirror g) h (mapped-whole mirror g) wh .0 (sym (smallest-partner g wg) ∙ e) in
+        (product (r .0) mirror, product-in false true (r .0) mirror (r .1) mirror-in, sym (product-on false true (r .0) mirror (r .1) mirror-in g) ∙ r .2)
+
+-- ---- accepted calls
+module _ (l : Call) (ok : refusal l ≡ 0) where
+  abbrev T₀ : Tray
+  T₀ = trayOf l
+
+  abbrev C : Compiled
+  C = compile (trayOf l)
+
+  abbrev G : List Grid
+  G = shapes (sorted T₀)
+
+  abbrev gridAt : ℕ → Grid
+  gridAt n = pieceAt (trayOf l) n .grid
+
+  -- a piece's kind is the place of its smallest turned grid among those of all pieces
+  unfoldable pub kindNumber : ℕ → ℕ
+  kindNumber n = before (sameGrid (smallest (pieceAt (trayOf l) n .grid))) (shapes (sorted (trayOf l)))
+
+  -- ---- the board's cells
+  pub cells-filled : (u : Cell) → List·Memᴰ u (compile (trayOf l) .cells) ↔ List·Memᴰ u (filledCells (trayOf l .board))
+  unfolding compile
+  cells-filled u = (to-filled l ok u, of-filled l ok u)
+
+  pub cells-in-order : T (ascending (cellAhead (axes (trayOf l .board .sides))) (compile (trayOf l) .cells))
+  unfolding compile
+  cells-in-order = up-board T₀ (shape-facts l ok)
+
+  -- ---- pieces
+  pub piece-nth : (n : ℕ) → n < length (trayOf l .pieces) → Nth (trayOf l .pieces) n (pieceAt (trayOf l) n)
+  unfolding pieceAt
+  piece-nth n h = nth-at (record { grid = noGrid; count = 0 }) (T₀ .pieces) n h
+
+  piece-is : (n : ℕ) (q : Piece) → Nth (T₀ .pieces) n q → pieceAt T₀ n ≡ q
+  unfolding pieceAt
+  piece-is n q h = nth-value (T₀ .pieces) n q (record { grid = noGrid; count = 0 }) h
+
+  pub grid-bits : (n : ℕ) → n < length (trayOf l .pieces) → T (areBits (pieceAt (trayOf l) n .grid))
+  grid-bits n h = bits l ok (pieceAt T₀ n) (nth-mem (T₀ .pieces) n (piece-nth n h))
+
+  pub grid-all : (n : ℕ) → n < length (trayOf l .pieces) → length (pieceAt (trayOf l) n .grid .cells) ≡ volume (pieceAt (trayOf l) n .grid .sides)
+  grid-all n h = piece-whole l ok (pieceAt T₀ n) (nth-mem (T₀ .pieces) n (piece-nth n h))
+
+  -- ---- smallest turned grids: those of the pieces, sorted, are the kinds' shapes
+  sort-piece : ℕ → Piece → Sorted
+  sort-piece i q = record { piece = i; count = q .count; shape = smallest (q .grid) }
+
+  sorted-at : (x : Sorted) → List·Memᴰ x (sorted T₀) → (n : ℕ) × (n < length (T₀ .pieces)) × (x ≡ sort-piece n (pieceAt T₀ n))
+  unfolding sorted sort-piece
+  sorted-at x m =
+      let r = numbered-at sort-piece 0 (T₀ .pieces) m in
+      let e : r .0 + 0 ≡ r .0 = omega arith in
+      (r .0, nth-below (T₀ .pieces) (r .0) (r .1) (r .2), r .3 ∙ ap₂ (λ (n : ℕ) (q : Piece). sort-piece n q) e (sym (piece-is (r .0) (r .1) (r .2))))
+
+  sorted-of : (n : ℕ) → n < length (T₀ .pieces) → List·Memᴰ (sort-piece n (pieceAt T₀ n)) (sorted T₀)
+  unfolding sorted sort-piece
+  sorted-of n h =
+      let e : n ≡ n + 0 = omega arith in
+      Memᴰ·cast (ap (λ (i : ℕ). sort-piece i (pieceAt T₀ n)) e) (numbered-of sort-piece 0 (T₀ .pieces) n (pieceAt T₀ n) (piece-nth n h))
+
+  shapes-up : T (ascending gridAhead G)
+  unfolding gs
+  shapes-up = gs-up T₀ (piece-whole l ok)
+
+  shape-in : (n : ℕ) → n < length (T₀ .pieces) → List·Memᴰ (smallest (gridAt n)) G
+  unfolding shapes sort-piece
+  shape-in n h = sort-of gridAhead grids-tied (map (λ q. q .shape) (sorted T₀)) (Memᴰ·map (λ (q : Sorted). q .shape) (sorted-of n h))
+
+  shape-at : (g : Grid) → List·Memᴰ g G → (n : ℕ) × (n < length (T₀ .pieces)) × (smallest (gridAt n) ≡ g)
+  unfolding shapes sort-piece
+  shape-at g m =
+      let r = Memᴰ·of-map (λ (q : Sorted). q .shape) (sorted T₀) (sort-at gridAhead (map (λ q. q .shape) (sorted T₀)) m) in
+      let s = sorted-at (r .0) (r .1) in
+      (s .0, s .1, sym (ap (λ (q : Sorted). q .shape) (s .2)) ∙ r .2)
+
+  number-is : (n k : ℕ) → Nth G k (smallest (gridAt n)) → kindNumber n ≡ k
+  unfolding kindNumber
+  number-is n k h = before-grid G shapes-up k (smallest (gridAt n)) h
+
+  number-nth : (n : ℕ) → n < length (T₀ .pieces) → Nth G (kindNumber n) (smallest (gridAt n))
+  number-nth n h = let r = nth-of G (shape-in n h) in subst (λ (k : ℕ). Nth G k (smallest (gridAt n))) (sym (number-is n (r .0) (r .1))) (r .1)
+
+  -- ---- kinds
+  -- the kind with a shape
+  made : Grid → Kind
+  made g = record { shape = g; partner = partnerOf G g; copies = copiesOf (sorted T₀) g }
+
+  kind-made : (k : ℕ) (g : Grid) → Nth G k g → kindAt C k ≡ made g
+  unfolding kindAt compile kindsOf made
+  kind-made k g h = nth-getD made (record { shape = noGrid; partner = 0; copies = [] }) G k h
+
+  kinds-length : length (C .kinds) ≡ length G
+  unfolding compile kindsOf made
+  kinds-length = length-map G made
+
+  kind-nth : (k : ℕ) → k < length (C .kinds) → (g : Grid) × Nth G k g
+  kind-nth k h = getD-nth G k (subst (λ (n : ℕ). k < n) kinds-length h)
+
+  pub kind-shape : (n : ℕ) → n < length (trayOf l .pieces) → kindAt (compile (trayOf l)) (kindNumber n) .shape ≡ smallest (pieceAt (trayOf l) n .grid)
+  unfolding made
+  kind-shape n h = ap (λ (d : Kind). d .shape) (kind-made (kindNumber n) (smallest (gridAt n)) (number-nth n h))
+
+  pub is-kind : (n : ℕ) → n < length (trayOf l .pieces) → kindNumber n < length (compile (trayOf l) .kinds)
+  is-kind n h = subst (λ (k : ℕ). kindNumber n < k) (sym kinds-length) (nth-below G (kindNumber n) (smallest (gridAt n)) (number-nth n h))
+
+  pub some-lent : (k : ℕ) → k < length (compile (trayOf l) .kinds) → (n : ℕ) × (n < length (trayOf l .pieces)) × (kindNumber n ≡ k)
+  some-lent k h =
+      let r = kind-nth k h in
+      let s = shape-at (r .0) (nth-mem G k (r .1)) in
+      (s .0, s .1, number-is (s .0) k (subst (λ (g : Grid). Nth G k g) (sym (s .2)) (r .1)))
+
+  one-shape : (n m : ℕ) → n < length (T₀ .pieces) → m < length (T₀ .pieces) → kindNumber n ≡ kindNumber m → smallest (gridAt n) ≡ smallest (gridAt m)
+  one-shape n m a b e = nth-unique G (kindNumber m) (smallest (gridAt n)) (smallest (gridAt m)) (subst (λ (k : ℕ). Nth G k (smallest (gridAt n))) e (number-nth n a)) (number-nth m b)
+
+  pub turns-by : (n : ℕ) → n < length (trayOf l .pieces) → (g : Grid) → TurnsOnto (pieceAt (trayOf l) n .grid) g → (m : Map) × List·Memᴰ m turns × (mapGrid m (pieceAt (trayOf l) n .grid) ≡ g)
+  turns-by n h g r = by-map (gridAt n) (grid-bits n h) (grid-all n h) false (r .moves) g (not-T (isOdd (r .moves)) (turns-not-odd l ok (r .moves) (r .byTurns))) (r .equal)
+
+  pub one-kind-turns : (n m : ℕ) → n < length (trayOf l .pieces) → m < length (trayOf l .pieces)
+      → (kindNumber n ≡ kindNumber m) ↔ TurnsOnto (pieceAt (trayOf l) n .grid) (pieceAt (trayOf l) m .grid)
+  unfolding kindNumber
+  one-kind-turns n m a b = (
+    λ e. let r = both .0 (one-shape n m a b e) in turned-onto (gridAt n) (grid-bits n a) (grid-all n a) (r .0) (gridAt m) (r .1) (r .2),
+    λ x. ap (λ (g : Grid). before (sameGrid g) G) (both .1 (turns-by n a (gridAt m) x)),
+  )
+    where
+      both : (smallest (gridAt n) ≡ smallest (gridAt m)) ↔ ((j : Map) × List·Memᴰ j turns × (mapGrid j (gridAt n) ≡ gridAt m))
+      both = one-kind (gridAt n) (gridAt m) (grid-all n a) (grid-all m b)
+
+  -- ---- a kind's shape
+  pub shape-turned : (n : ℕ) → n < length (trayOf l .pieces) → TurnsOnto (pieceAt (trayOf l) n .grid) (kindAt (compile (trayOf l)) (kindNumber n) .shape)
+  shape-turned n h =
+      let r = smallest-at (gridAt n) in
+      turned-onto (gridAt n) (grid-bits n h) (grid-all n h) (r .0) (kindAt C (kindNumber n) .shape) (r .1) (r .2 ∙ sym (kind-shape n h))
+
+  pub shape-smallest : (n : ℕ) → n < length (trayOf l .pieces) → (g : Grid) → TurnsOnto (pieceAt (trayOf l) n .grid) g → T (gridAhead g (kindAt (compile (trayOf l)) (kindNumber n) .shape)) → ⊥
+  unfolding smallest
+  shape-smallest n h g x a =
+      let r = turns-by n h g x in
+      head-first gridAhead grid-trans grid-irrefl (gridAt n) (variants (gridAt n)) (variants-up (gridAt n)) (Memᴰ·cast (sym (r .2)) (variant-of (gridAt n) (r .0) (r .1)))
+      (subst (λ (k : Grid). T (gridAhead g k)) (kind-shape n h) a)
+
+  pub kinds-in-order : T (ascending gridAhead (map (λ d. d .shape) (compile (trayOf l) .kinds)))
+  unfolding compile
+  kinds-in-order = subst (λ (xs : List Grid). T (ascending gridAhead xs)) (sym (shapes-are T₀ (piece-whole l ok))) (gs-up T₀ (piece-whole l ok))
+
+  -- ---- mirror partners
+  partner-is : (n : ℕ) → n < length (T₀ .pieces) → kindAt C (kindNumber n) .partner ≡ before (sameGrid (smallest (mapGrid mirror (smallest (gridAt n))))) G
+  unfolding made partnerOf
+  partner-is n h = ap (λ (d : Kind). d .partner) (kind-made (kindNumber n) (smallest (gridAt n)) (number-nth n h))
+
+  pub partner-mirrors : (n m : ℕ) → n < length (trayOf l .pieces) → m < length (trayOf l .pieces)
+      → (kindAt (compile (trayOf l)) (kindNumber n) .partner ≡ kindNumber m) ↔ MirrorsOnto (pieceAt (trayOf l) n .grid) (pieceAt (trayOf l) m .grid)
+  unfolding kindNumber
+  partner-mirrors n m a b = (
+    λ e.
+        let i : Nth G (before (sameGrid s) G) (smallest (gridAt m)) = subst (λ (k : ℕ). Nth G k (smallest (gridAt m))) (sym e ∙ partner-is n a) (number-nth m b) in
+        let r = both .0 (sameGrid→eq s (smallest (gridAt m)) (before-holds (sameGrid s) G (smallest (gridAt m)) i)) in
+        mirrored-onto (gridAt n) (grid-bits n a) (grid-all n a) (r .0) (gridAt m) (r .1) (r .2),
+    λ x. partner-is n a ∙ ap (λ (g : Grid). before (sameGrid g) G) (both .1 (mirrors-by (gridAt n) (grid-bits n a) (grid-all n a) (gridAt m) x)),
+  )
+    where
+      s : Grid
+      s = smallest (mapGrid mirror (smallest (gridAt n)))
+
+      both : (s ≡ smallest (gridAt m)) ↔ ((j : Map) × List·Memᴰ j mirrorings × (mapGrid j (gridAt n) ≡ gridAt m))
+      both = mirror-kind (gridAt n) (gridAt m) (grid-all n a) (grid-all m b)
+
+  -- ---- copies
+  abbrev ofShape : Grid → Sorted → Bool
+  ofShape g q = sameGrid (q .shape) g
+
+  copy-of : Sorted → ℕ → Copy
+  copy-of q n = record { piece = q .piece; copy = n }
+
+  abbrev copiesFrom : Sorted → List Copy
+  copiesFrom q = map (copy-of q) (below (q .count))
+
+  copies-are : (k : ℕ) (g : Grid) → Nth G k g → kindAt C k .copies ≡ each (keep (ofShape g) (sorted T₀)) copiesFrom
+  unfolding made copiesOf copy-of
+  copies-are k g h = ap (λ (d : Kind). d .copies) (kind-made k g h)
+
+  pub copies-lent : (k : ℕ) (x : Copy) → k < length (compile (trayOf l) .kinds)
+      → List·Memᴰ x (kindAt (compile (trayOf l)) k .copies) ↔ ((x .piece < length (trayOf l .pieces)) × (kindNumber (x .piece) ≡ k) × (x .copy < pieceAt (trayOf l) (x .piece) .count))
+  unfolding copy-of sort-piece
+  copies-lent k x h = (there, back)
+    where
+      g : Grid
+      g = kind-nth k h .0
+
+      at-k : Nth G k g
+      at-k = kind-nth k h .1
+
+      Lent : ℕ → Type 0
+      Lent n = (n < length (T₀ .pieces)) × (kindNumber n ≡ k) × (x .copy < pieceAt T₀ n .count)
+
+      there : List·Memᴰ x (kindAt C k .copies) → Lent (x .piece)
+      there m =
+          let r = each-at copiesFrom (keep (ofShape g) (sorted T₀)) (subst (λ (xs : List Copy). List·Memᴰ x xs) (copies-are k g at-k) m) in
+          let s = keep-at (ofShape g) (sorted T₀) (r .1) in
+          let c = Memᴰ·of-map (copy-of (r .0)) (below (r .0 .count)) (r .2) in
+          let p = sorted-at (r .0) (s .0) in
+          let e : p .0 ≡ x .piece = sym (ap (λ (q : Sorted). q .piece) (p .2)) ∙ ap (λ (y : Copy). y .piece) (c .2) in
+          let f : smallest (gridAt (p .0)) ≡ g = sym (ap (λ (q : Sorted). q .shape) (p .2)) ∙ sameGrid→eq (r .0 .shape) g (s .1) in
+          let i : c .0 < pieceAt T₀ (p .0) .count = subst (λ (q : Sorted). c .0 < q .count) (p .2) (below-at (r .0 .count) (c .1)) in
+          let j : x .copy < pieceAt T₀ (p .0) .count = subst (λ (y : Copy). y .copy < pieceAt T₀ (p .0) .count) (c .2) i in
+          subst Lent e (p .1, number-is (p .0) k (subst (λ (y : Grid). Nth G k y) (sym f) at-k), j)
+
+      back : Lent (x .piece) → List·Memᴰ x (kindAt C k .copies)
+      back r =
+          let q : Sorted = sort-piece (x .piece) (pieceAt T₀ (x .piece)) in
+          let a : Nth G k (smallest (gridAt (x .piece))) = subst (λ (n : ℕ). Nth G n (smallest (gridAt (x .piece)))) (r .1) (number-nth (x .piece) (r .0)) in
+          let f : smallest (gridAt (x .piece)) ≡ g = nth-unique G k (smallest (gridAt (x .piece))) g a at-k in
+          subst (λ (xs : List Copy). List·Memᴰ x xs) (sym (copies-are k g at-k))
+          (each-of copiesFrom (keep (ofShape g) (sorted T₀)) (keep-of (ofShape g) (sorted T₀) (sorted-of (x .piece) (r .0)) (sameGrid-of f)) (Memᴰ·map (copy-of q) (below-of (q .count) (r .2))))
+
+  -- pieces by number, and each piece's copies from 0
+  abbrev lentFirst : Sorted → Sorted → Bool
+  lentFirst x y = ltb (x .piece) (y .piece)
+
+  sorted-up : T (ascending lentFirst (sorted T₀))
+  unfolding sorted sort-piece
+  sorted-up = numbered-ascending sort-piece lentFirst (λ n m x y h. lt→ltb n m h) 0 (T₀ .pieces)
+
+  copy-next : (q : Sorted) (a b : ℕ) → T (ltb a b) → T (copyAhead (copy-of q a) (copy-of q b))
+  unfolding copyAhead copy-of
+  copy-next q a b t =
+      or-right (ltb (q .piece) (q .piece)) (eqb (q .piece) (q .piece) && less (a ∷ []) (b ∷ []))
+      (and-both (eqb (q .piece) (q .piece)) (less (a ∷ []) (b ∷ [])) (eqb-refl (q .piece)) (or-left (ltb a b) (eqb a b && less [] []) t))
+
+  copy-later : (q r : Sorted) → T (lentFirst q r) → (x y : Copy) → List·Memᴰ x (copiesFrom q) → List·Memᴰ y (copiesFrom r) → T (copyAhead x y)
+  unfolding copyAhead copy-of
+  copy-later q r t x y m k =
+      let a = Memᴰ·of-map (copy-of q) (below (q .count)) m in
+      let b = Memᴰ·of-map (copy-of r) (below (r .count)) k in
+      let e : T (ltb (x .piece) (y .piece)) = subst (λ (z : Copy). T (ltb (z .piece) (y .piece))) (a .2) (subst (λ (z : Copy). T (ltb (q .piece) (z .piece))) (b .2) t) in
+      or-left (ltb (x .piece) (y .piece)) (eqb (x .piece) (y .piece) && less (x .copy ∷ []) (y .copy ∷ [])) e
+
+  pub copies-in-order : (k : ℕ) → k < length (compile (trayOf l) .kinds) → T (ascending copyAhead (kindAt (compile (trayOf l)) k .copies))
+  copies-in-order k h =
+      let r = kind-nth k h in
+      subst (λ (xs : List Copy). T (ascending copyAhead xs)) (sym (copies-are k (r .0) (r .1)))
+      (each-ascending lentFirst copyAhead copiesFrom (keep (ofShape (r .0)) (sorted T₀)) (keep-ascending lentFirst (ofShape (r .0)) (sorted T₀) sorted-up)
+      (λ q m. map-up ltb copyAhead (copy-of q) (copy-next q) (below (q .count)) (from-ascending 0 (q .count))) (λ x y m k t. copy-later x y t))

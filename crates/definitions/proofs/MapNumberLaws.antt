@@ -1,0 +1,80 @@
+-- Each sequence of moves acts as the map with some number below 48, and each number's map is the action of a sequence. Assumes nothing.
+use Prim.Native.Nat.{ℕ, _<_}
+use mathlib.Core.Bool.{Bool, true, false}
+use mathlib.Core.List.{List, [], _∷_, map, List·Memᴰ}
+use mathlib.Core.Path.{_≡_, sym, ap, _∙_, subst}
+use native.Mathlib.Omega.{arith}
+use lib.Dec.{T, leb, leb→le, le→leb}
+use Rattle.definitions.specs.Lists.{all, any, below, from}
+use Rattle.definitions.proofs.ListLaws.{all-at, any-at, is-true, is-false, from-at, below-of}
+use Rattle.definitions.specs.Grid.{Sides}
+use Rattle.definitions.specs.Maps.{Map, mapSides, mapCell, mapGrid, permutations, transform, parity, turns, mirrorings, maps, mapOf, identity, isMirroring}
+use Rattle.definitions.specs.Moves.{Move, sidesAfterAll, isOdd}
+use Rattle.definitions.specs.Moves.Move.{turn, mirroring}
+use Rattle.definitions.specs.MovesAndMaps.{ActsAs, MovesAreMaps}
+use Rattle.definitions.proofs.GroupLaws.{identity-sides, product-sides, sameMap, sameMap→eq, codeOf, inMaps, in-maps}
+use Rattle.definitions.proofs.ActLaws.{mapsOf, flips-of}
+use Rattle.definitions.proofs.MoveLaws.{moveMap, oddMove, move-in, move-sides, movesMap, moves-in, moves-cell, moves-grid, turn-moves, mirroring-moves, turns-alone}
+
+-- ---- sides after a sequence
+pub moves-sides : (ms : List Move) (s : Sides) → sidesAfterAll ms s ≡ mapSides (movesMap ms) s
+unfolding movesMap
+moves-sides [] s = sym (identity-sides s)
+moves-sides (m ∷ ms) s =
+    ap (sidesAfterAll ms) (move-sides m s) ∙ moves-sides ms (mapSides (moveMap m) s)
+    ∙ product-sides (movesMap ms) (moveMap m) (flips-of (isOdd ms) (movesMap ms) (moves-in ms)) (flips-of (oddMove m) (moveMap m) (move-in m)) s
+
+-- ---- maps and their numbers, by the whole table
+abbrev numbersOf : Bool → List ℕ
+numbersOf false = from 0 24
+numbersOf true = from 24 24
+
+each-numbered : (odd : Bool) → T (all (λ m. any (λ n. sameMap (mapOf n) m) (numbersOf odd)) (mapsOf odd))
+unfolding mapOf maps sameMap codeOf identity turns mirrorings transform permutations parity
+each-numbered false = tt
+each-numbered true = tt
+
+each-in : T (all (λ n. inMaps (mapsOf (isMirroring n)) (mapOf n)) (below 48))
+unfolding isMirroring inMaps mapOf maps sameMap codeOf identity turns mirrorings transform permutations parity
+each-in = tt
+
+number-of : (odd : Bool) (m : Map) → List·Memᴰ m (mapsOf odd) → (n : ℕ) × (n < 48) × (isMirroring n ≡ odd) × (mapOf n ≡ m)
+number-of odd m k = (r .0, is-below odd (r .0) (r .1), is-odd odd (r .0) (r .1), sameMap→eq (mapOf (r .0)) m (r .2))
+  where
+    r : (n : ℕ) × List·Memᴰ n (numbersOf odd) × T (sameMap (mapOf n) m)
+    r = any-at (λ (n : ℕ). sameMap (mapOf n) m) (numbersOf odd) (all-at (λ (j : Map). any (λ (n : ℕ). sameMap (mapOf n) j) (numbersOf odd)) (mapsOf odd) (each-numbered odd) k)
+
+    is-below : (o : Bool) (n : ℕ) → List·Memᴰ n (numbersOf o) → n < 48
+    is-below false n i = let h = from-at 0 24 i in omega arith
+    is-below true n i = let h = from-at 24 24 i in omega arith
+
+    is-odd : (o : Bool) (n : ℕ) → List·Memᴰ n (numbersOf o) → isMirroring n ≡ o
+    is-odd false n i = unfold isMirroring in is-false (leb 24 n) (λ t. let h = from-at 0 24 i in let g = leb→le 24 n t in omega arith)
+    is-odd true n i = unfold isMirroring in is-true (leb 24 n) (le→leb 24 n (from-at 24 24 i .0))
+
+number-in : (n : ℕ) → n < 48 → List·Memᴰ (mapOf n) (mapsOf (isMirroring n))
+number-in n h = in-maps (mapsOf (isMirroring n)) (mapOf n) (all-at (λ (i : ℕ). inMaps (mapsOf (isMirroring i)) (mapOf i)) (below 48) each-in (below-of 48 h))
+
+in-turns : (n : ℕ) → n < 24 → List·Memᴰ (mapOf n) turns
+unfolding isMirroring
+in-turns n h = subst (λ (b : Bool). List·Memᴰ (mapOf n) (mapsOf b)) (is-false (isMirroring n) (λ t. let g = leb→le 24 n t in omega arith)) (number-in n (omega arith))
+
+in-mirrorings : (n : ℕ) → n < 48 → T (isMirroring n) → List·Memᴰ (mapOf n) mirrorings
+in-mirrorings n h t = subst (λ (b : Bool). List·Memᴰ (mapOf n) (mapsOf b)) (is-true (isMirroring n) t) (number-in n h)
+
+-- ---- a sequence with a number's map acts as that number
+acts-as : (ms : List Move) (n : ℕ) → movesMap ms ≡ mapOf n → ActsAs ms n
+acts-as ms n e =
+    record {
+      sides = λ s. moves-sides ms s ∙ ap (λ (m : Map). mapSides m s) e;
+      cells = λ s u b. moves-cell ms s u b ∙ ap (λ (m : Map). mapCell m s u) e;
+      grids = λ g t w. moves-grid ms g t w ∙ ap (λ (m : Map). mapGrid m g) e;
+    }
+
+pub moves-are-maps : MovesAreMaps
+moves-are-maps =
+    record {
+      actsAsOne = λ ms. let r = number-of (isOdd ms) (movesMap ms) (moves-in ms) in (r .0, r .1, r .2, acts-as ms (r .0) (sym (r .3)));
+      turnIsDone = λ n h. let r = turn-moves (mapOf n) (in-turns n h) in (map turn (r .0), turns-alone (r .0), acts-as (map turn (r .0)) n (r .1));
+      mirroringIsDone = λ n h t. let r = mirroring-moves (mapOf n) (in-mirrorings n h t) in (mirroring (r .0) ∷ [], tt, acts-as (mirroring (r .0) ∷ []) n (r .1));
+    }

@@ -1,0 +1,269 @@
+-- The placements are the pieces' grids after quarter turns, set down on filled board cells, all of them, each once and in order. Assumes nothing.
+use Prim.Native.Nat.{ℕ, _+_, _-_, _<_}
+use mathlib.Core.Bool.{Bool, false, _&&_}
+use mathlib.Core.List.{List, [], _∷_, map, List·Memᴰ, List·Memᴰ·head, List·Memᴰ·not-nil, Memᴰ·cast, Memᴰ·map, Memᴰ·of-map}
+use mathlib.Core.Path.{_≡_, refl, sym, ap, _∙_, subst}
+use native.Mathlib.Omega.{arith}
+use lib.Dec.{T, ltb, leb, le→leb}
+use lib.ListN.{length}
+use Rattle.definitions.specs.Lists.{all, any, keep, sort, ascending, numbered, joined}
+use Rattle.definitions.proofs.ListLaws.{and-both, all-at, all-of, any-at, any-of, keep-of, ltb-trans, ltb-irrefl, sort-ascending, ascending-unique}
+use Rattle.definitions.specs.Grid.{Sides, Cell, Grid, volume, filledCells, sameCell}
+use Rattle.definitions.specs.Maps.{Map, mapGrid, turns}
+use Rattle.definitions.proofs.MapLaws.{cell-path, turn-fits}
+use Rattle.definitions.proofs.GroupLaws.{map-same}
+use Rattle.definitions.specs.Scan.{axes, cellAhead, scan, scanNumber}
+use Rattle.definitions.specs.Kinds.{Tray, Kind, kindsOf, variants, smallest}
+use Rattle.definitions.specs.Placements.{origin, lies, reaches, fits, Placement, placementsAt, placementsOf, Compiled, compile}
+use Rattle.definitions.specs.Packing.{ahead}
+use Rattle.definitions.specs.Moves.{Move, areTurns, isOdd, gridAfter}
+use Rattle.definitions.specs.Moves.Move.{turn, mirroring}
+use Rattle.definitions.specs.Refusals.{Call, trayOf, refusal, areBits, isTight}
+use Rattle.definitions.specs.PlacementsRight.{setDown, SetDown, kindAt}
+use Rattle.definitions.proofs.EngineLaws.{sort-at}
+use Rattle.definitions.proofs.WellMadeLaws.{Nth, getD-nth, Made, from-made, the-variant, some-cells, up-variant, up-board, lies-on, mem-nth, sameCell→eq, sameCell-refl}
+use Rattle.definitions.proofs.ShapeLaws.{sort-of, cells-tied, variant-at, smallest-at, shape-facts}
+use Rattle.definitions.proofs.ImageLaws.{ltb-tied}
+use Rattle.definitions.proofs.ActLaws.{mapsOf}
+use Rattle.definitions.proofs.MoveLaws.{movesMap, moves-in, moves-grid, turn-moves, turns-alone}
+use Rattle.definitions.proofs.CellLaws.{Tight, tight-of, tight-mapped, nth-value}
+use Rattle.definitions.proofs.PartnerLaws.{variant-of, variants-turned}
+use Rattle.definitions.proofs.GeometryLaws.{W, numbered-cells}
+use Rattle.definitions.proofs.AnswerLaws.{joined-of, numbered-of, mem-nth-of}
+
+-- ---- lists
+-- numbers that ascend along a list are, sorted, those of any list with the same entries
+sorted-of : {A : Type 0} (f : A → ℕ) (xs ys : List A) → T (ascending ltb (map f xs))
+    → ((x : A) → List·Memᴰ x xs → List·Memᴰ x ys) → ((x : A) → List·Memᴰ x ys → List·Memᴰ x xs) → map f xs ≡ sort ltb (map f ys)
+sorted-of f xs ys up there back =
+    ascending-unique ltb ltb-trans ltb-irrefl (map f xs) (sort ltb (map f ys)) up (sort-ascending ltb ltb-trans (map f ys))
+    (λ n k. let r = Memᴰ·of-map f xs k in sort-of ltb ltb-tied (map f ys) (Memᴰ·cast (sym (r .2)) (Memᴰ·map f (there (r .0) (r .1)))))
+    (λ n k. let r = Memᴰ·of-map f ys (sort-at ltb (map f ys) k) in Memᴰ·cast (sym (r .2)) (Memᴰ·map f (back (r .0) (r .1))))
+
+origin-of : (us : List Cell) {u : Cell} → List·Memᴰ u us → List·Memᴰ (origin us) us
+unfolding origin
+origin-of [] k = absurd (List·Memᴰ·not-nil k)
+origin-of (u ∷ us) k = List·Memᴰ·head refl
+
+-- ---- scan order lists the filled cells
+module _ (s : Sides) (g : Grid) where
+  scanned-filled : (u : Cell) → List·Memᴰ u (scan (axes s) g) → List·Memᴰ u (filledCells g)
+  unfolding scan
+  scanned-filled u k = sort-at (cellAhead (axes s)) (filledCells g) k
+
+  filled-scanned : (u : Cell) → List·Memᴰ u (filledCells g) → List·Memᴰ u (scan (axes s) g)
+  unfolding scan
+  filled-scanned u k = sort-of (cellAhead (axes s)) (cells-tied s) (filledCells g) k
+
+-- the test that a cell is one of the board's, and what it says
+on-board : (cells : List Cell) (u : Cell) → T (any (sameCell u) cells) → List·Memᴰ u cells
+on-board cells u t = let r = any-at (sameCell u) cells t in Memᴰ·cast (sameCell→eq u (r .0) (r .2)) (r .1)
+
+is-on-board : (cells : List Cell) (u : Cell) → List·Memᴰ u cells → T (any (sameCell u) cells)
+is-on-board cells u k = any-of (sameCell u) cells k (sameCell-refl u)
+
+-- ---- a grid after quarter turns is one of its variants, and each of its variants is the grid after some
+turns-not-odd : (ms : List Move) → T (areTurns ms) → isOdd ms ≡ false
+turns-not-odd [] t = refl
+turns-not-odd (turn q ∷ ms) t = turns-not-odd ms t
+turns-not-odd (mirroring qs ∷ ms) t = absurd t
+
+module _ (g : Grid) (bits : T (areBits g)) (whole : length (g .cells) ≡ volume (g .sides)) where
+  turned-by : (ms : List Move) → T (areTurns ms) → List·Memᴰ (movesMap ms) turns
+  turned-by ms t = subst (λ (b : Bool). List·Memᴰ (movesMap ms) (mapsOf b)) (turns-not-odd ms t) (moves-in ms)
+
+  turned-variant : (ms : List Move) → T (areTurns ms) → List·Memᴰ (gridAfter ms g) (variants g)
+  turned-variant ms t = Memᴰ·cast (moves-grid ms g bits whole) (variant-of g (movesMap ms) (turned-by ms t))
+
+  variant-turned : (v : Grid) → List·Memᴰ v (variants g) → (ms : List Move) × T (areTurns ms) × (gridAfter ms g ≡ v)
+  variant-turned v k =
+      let r = variant-at g v k in
+      let q = turn-moves (r .0) (r .1) in
+      (map turn (q .0), turns-alone (q .0), moves-grid (map turn (q .0)) g bits whole ∙ ap (λ (m : Map). mapGrid m g) (q .1) ∙ r .2)
+
+  shape-variants : variants (smallest g) ≡ variants g
+  shape-variants = let r = smallest-at g in ap variants (sym (r .2)) ∙ variants-turned (r .0) (r .1) g whole
+
+  turned-tight : T (isTight g) → (ms : List Move) → T (areTurns ms) → Tight (gridAfter ms g)
+  turned-tight h ms t = subst Tight (sym (moves-grid ms g bits whole)) (tight-mapped (movesMap ms) (turn-fits (movesMap ms) (turned-by ms t)) g (tight-of g h))
+
+-- ---- a variant that fits is set down, and one that is set down fits
+cornerOf : Cell → Cell → Cell
+cornerOf v o = record { x = v .x - o .x; y = v .y - o .y; z = v .z - o .z }
+
+lies-down : (v o u : Cell) → lies v o u ≡ setDown (cornerOf v o) u
+unfolding lies setDown cornerOf
+lies-down v o u = refl
+
+down-reaches : (corner o : Cell) → T (reaches (setDown corner o) o)
+unfolding reaches setDown
+down-reaches corner o =
+    and-both (leb (o .x) (corner .x + o .x) && leb (o .y) (corner .y + o .y)) (leb (o .z) (corner .z + o .z))
+    (and-both (leb (o .x) (corner .x + o .x)) (leb (o .y) (corner .y + o .y)) (at (corner .x) (o .x)) (at (corner .y) (o .y))) (at (corner .z) (o .z))
+  where
+    at : (n m : ℕ) → T (leb m (n + m))
+    at n m = le→leb m (n + m) (omega arith)
+
+down-lies : (corner o u : Cell) → lies (setDown corner o) o u ≡ setDown corner u
+unfolding lies setDown
+down-lies corner o u = cell-path (at (corner .x) (o .x) (u .x)) (at (corner .y) (o .y) (u .y)) (at (corner .z) (o .z) (u .z))
+  where
+    at : (n m k : ℕ) → n + m - m + k ≡ n + k
+    at n m k = omega arith
+
+-- ---- what fits is placed
+module _ (order : List ℕ) (board : List Cell) (ks : List Kind) where
+  placed-of : (k : ℕ) (d : Kind) → Nth ks k d → (p : ℕ) (v : Cell) → Nth board p v → (us : List Cell) → List·Memᴰ us (map (scan order) (variants (d .shape))) → T (fits board v us)
+      → (r : Placement) × List·Memᴰ r (joined (numbered ks (placementsOf order board))) × (r .kind ≡ k) × (r .cells ≡ map (λ u. scanNumber board (lies v (origin us) u)) us)
+  unfolding placementsOf placementsAt
+  placed-of k d hk p v hp us m f =
+      let vs = map (scan order) (variants (d .shape)) in
+      let j = mem-nth-of (keep (fits board v) vs) us (keep-of (fits board v) vs m f) in
+      let e : k + 0 ≡ k = omega arith in (
+        _,
+        joined-of (numbered ks (placementsOf order board)) (numbered-of (placementsOf order board) 0 ks k d hk)
+            (joined-of (numbered board (placementsAt board (k + 0) vs)) (numbered-of (placementsAt board (k + 0) vs) 0 board p v hp)
+            (numbered-of (λ (i : ℕ) (ws : List Cell). record { kind = k + 0; p = p + 0; j = i; cells = map (λ u. scanNumber board (lies v (origin ws) u)) ws }) 0
+            (keep (fits board v) vs) (j .0) us (j .1))),
+        e,
+        refl,
+      )
+
+module _ (l : Call) (ok : refusal l ≡ 0) where
+  abbrev t : Tray
+  t = trayOf l
+
+  abbrev c : Compiled
+  c = compile (trayOf l)
+
+  abbrev cs : List Cell
+  cs = scan (axes (t .board .sides)) (t .board)
+
+  -- ---- of a kind, once, in order, the origin first
+  pub of-kind : (r : Placement) → List·Memᴰ r (compile (trayOf l) .placements) → r .kind < length (compile (trayOf l) .kinds)
+  of-kind r k = W l ok .ofKinds r k
+
+  pub placement-once : (r s : Placement) → List·Memᴰ r (compile (trayOf l) .placements) → List·Memᴰ s (compile (trayOf l) .placements)
+      → r .kind ≡ s .kind → r .cells ≡ s .cells → r ≡ s
+  placement-once = numbered-cells l ok .byCells
+
+  pub placements-in-order : T (ascending ahead (compile (trayOf l) .placements))
+  placements-in-order = W l ok .inOrder
+
+  pub origin-first : (r : Placement) → List·Memᴰ r (compile (trayOf l) .placements) → List·Memᴰ (r .p) (r .cells) × ((n : ℕ) → List·Memᴰ n (r .cells) → n < r .p → ⊥)
+  origin-first r k = (W l ok .coversP r k, λ n m h. let e = W l ok .fromP r k n m in omega arith)
+
+  -- ---- sound: a placement's variant is the grid after some quarter turns, and its corner is where the origin lies less the origin
+  kind-is : (k : ℕ) (d : Kind) → Nth (kindsOf t) k d → kindAt c k ≡ d
+  unfolding kindAt compile
+  kind-is k d h = nth-value (kindsOf t) k d _ h
+
+  pub placement-sound : (r : Placement) → List·Memᴰ r (compile (trayOf l) .placements) → (g : Grid) → T (areBits g) → length (g .cells) ≡ volume (g .sides)
+      → kindAt (compile (trayOf l)) (r .kind) .shape ≡ smallest g → SetDown (compile (trayOf l)) g (r .cells)
+  unfolding compile
+  placement-sound r k g bits whole e =
+      record { moves = ms .0; byTurns = ms .1; corner = corner; onBoard = subst On (sym (ms .2)) on; cellsAre = subst Are (sym (ms .2)) are }
+    where
+      x : Made (axes (t .board .sides)) cs (kindsOf t) r
+      x = from-made t (shape-facts l ok) r k
+
+      v : (h : Grid) × List·Memᴰ h (variants (x .kind .shape)) × (scan (axes (t .board .sides)) h ≡ x .variant)
+      v = the-variant t (shape-facts l ok) r x
+
+      shape : variants (x .kind .shape) ≡ variants g
+      shape = ap (λ (d : Kind). variants (d .shape)) (sym (kind-is (r .kind) (x .kind) (x .isKind))) ∙ ap variants e ∙ shape-variants g bits whole
+
+      ms : (ms : List Move) × T (areTurns ms) × (gridAfter ms g ≡ v .0)
+      ms = variant-turned g bits whole (v .0) (subst (λ (vs : List Grid). List·Memᴰ (v .0) vs) shape (v .1))
+
+      o : Cell
+      o = origin (x .variant)
+
+      corner : Cell
+      corner = cornerOf (x .on) o
+
+      On : Grid → Type 0
+      On h = T (all (λ u. any (sameCell (setDown corner u)) cs) (filledCells h))
+
+      Are : Grid → Type 0
+      Are h = r .cells ≡ sort ltb (map (λ u. scanNumber cs (setDown corner u)) (filledCells h))
+
+      there : (u : Cell) → List·Memᴰ u (filledCells (v .0)) → List·Memᴰ u (x .variant)
+      there u m = subst (λ (us : List Cell). List·Memᴰ u us) (v .2) (filled-scanned (t .board .sides) (v .0) u m)
+
+      back : (u : Cell) → List·Memᴰ u (x .variant) → List·Memᴰ u (filledCells (v .0))
+      back u m = scanned-filled (t .board .sides) (v .0) u (subst (λ (us : List Cell). List·Memᴰ u us) (sym (v .2)) m)
+
+      lying : (u : Cell) → List·Memᴰ u (x .variant) → List·Memᴰ (lies (x .on) o u) cs
+      lying = lies-on (axes (t .board .sides)) cs (up-board t (shape-facts l ok)) (kindsOf t) r x (some-cells t (shape-facts l ok) r x) (up-variant t (shape-facts l ok) r x)
+
+      on : On (v .0)
+      on = all-of (λ u. any (sameCell (setDown corner u)) cs) (filledCells (v .0)) (λ u m. is-on-board cs (setDown corner u) (Memᴰ·cast (sym (lies-down (x .on) o u)) (lying u (there u m))))
+
+      as-down : r .cells ≡ map (λ u. scanNumber cs (setDown corner u)) (x .variant)
+      as-down = x .cellsAre ∙ map-same (λ u. scanNumber cs (lies (x .on) o u)) (λ u. scanNumber cs (setDown corner u)) (x .variant) (λ u m. ap (scanNumber cs) (lies-down (x .on) o u))
+
+      are : Are (v .0)
+      are =
+          as-down ∙ sorted-of (λ u. scanNumber cs (setDown corner u)) (x .variant) (filledCells (v .0))
+          (subst (λ (ns : List ℕ). T (ascending ltb ns)) as-down (W l ok .cellsAscend r k)) back there
+
+  -- ---- complete: what is set down fits with its origin where the origin is set down; a tight grid has one
+  pub placement-complete : (k : ℕ) → k < length (compile (trayOf l) .kinds) → (g : Grid) → T (areBits g) → length (g .cells) ≡ volume (g .sides) → T (isTight g)
+      → kindAt (compile (trayOf l)) k .shape ≡ smallest g → (cells : List ℕ) → SetDown (compile (trayOf l)) g cells
+      → (r : Placement) × List·Memᴰ r (compile (trayOf l) .placements) × (r .kind ≡ k) × (r .cells ≡ cells)
+  unfolding compile
+  placement-complete k hk g bits whole h e cells s = (r .0, r .1, r .2, are)
+    where
+      d : (d : Kind) × Nth (kindsOf t) k d
+      d = getD-nth (kindsOf t) k hk
+
+      v : Grid
+      v = gridAfter (s .moves) g
+
+      us : List Cell
+      us = scan (axes (t .board .sides)) v
+
+      shape : variants (d .0 .shape) ≡ variants g
+      shape = ap (λ (x : Kind). variants (x .shape)) (sym (kind-is k (d .0) (d .1))) ∙ ap variants e ∙ shape-variants g bits whole
+
+      is-variant : List·Memᴰ us (map (scan (axes (t .board .sides))) (variants (d .0 .shape)))
+      is-variant = Memᴰ·map (scan (axes (t .board .sides))) (subst (λ (vs : List Grid). List·Memᴰ v vs) (sym shape) (turned-variant g bits whole (s .moves) (s .byTurns)))
+
+      there : (u : Cell) → List·Memᴰ u (filledCells v) → List·Memᴰ u us
+      there = filled-scanned (t .board .sides) v
+
+      back : (u : Cell) → List·Memᴰ u us → List·Memᴰ u (filledCells v)
+      back = scanned-filled (t .board .sides) v
+
+      o : Cell
+      o = origin us
+
+      o-in : List·Memᴰ o us
+      o-in = let u = turned-tight g bits whole h (s .moves) (s .byTurns) .low 0 in origin-of us (there (u .0) (u .1))
+
+      down : (u : Cell) → List·Memᴰ u us → T (any (sameCell (setDown (s .corner) u)) cs)
+      down u m = all-at (λ (w : Cell). any (sameCell (setDown (s .corner) w)) cs) (filledCells v) (s .onBoard) (back u m)
+
+      on : Cell
+      on = setDown (s .corner) o
+
+      p : (n : ℕ) × Nth cs n on
+      p = mem-nth (axes (t .board .sides)) cs (up-board t (shape-facts l ok)) (on-board cs on (down o o-in))
+
+      fitting : T (fits cs on us)
+      fitting = unfold fits in
+          and-both (reaches on o) (all (λ u. any (sameCell (lies on o u)) cs) us) (down-reaches (s .corner) o)
+          (all-of (λ u. any (sameCell (lies on o u)) cs) us (λ u m. subst (λ (w : Cell). T (any (sameCell w) cs)) (sym (down-lies (s .corner) o u)) (down u m)))
+
+      r : (r : Placement) × List·Memᴰ r (c .placements) × (r .kind ≡ k) × (r .cells ≡ map (λ u. scanNumber cs (lies on o u)) us)
+      r = placed-of (axes (t .board .sides)) cs (kindsOf t) k (d .0) (d .1) (p .0) on (p .1) us is-variant fitting
+
+      as-down : r .0 .cells ≡ map (λ u. scanNumber cs (setDown (s .corner) u)) us
+      as-down = r .3 ∙ map-same (λ u. scanNumber cs (lies on o u)) (λ u. scanNumber cs (setDown (s .corner) u)) us (λ u m. ap (scanNumber cs) (down-lies (s .corner) o u))
+
+      are : r .0 .cells ≡ cells
+      are =
+          as-down ∙ sorted-of (λ u. scanNumber cs (setDown (s .corner) u)) us (filledCells v)
+          (subst (λ (ns : List ℕ). T (ascending ltb ns)) as-down (W l ok .cellsAscend (r .0) (r .1))) back there
+          ∙ sym (s .cellsAre)

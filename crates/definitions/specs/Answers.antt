@@ -1,0 +1,31 @@
+-- Document 01, "Answer": "Two bytes for each cell of the board's box: piece number as lent, copy number; 255, 255 where the board is unfilled."
+use Prim.Native.Nat.{ℕ}
+use mathlib.Core.List.{List, [], _∷_, map}
+use lib.Dec.{eqb}
+use Rattle.definitions.specs.Lists.{each, keep, headOr, member, numbered, joined}
+use Rattle.definitions.specs.Grid.{box}
+use Rattle.definitions.specs.Scan.{scanNumber}
+use Rattle.definitions.specs.Kinds.{Copy}
+use Rattle.definitions.specs.Placements.{Placement, Compiled}
+
+-- "A kind's placements, ascending, take its copies from the first."
+pub record Taken : Type 0 where
+  pub copy : Copy
+  pub cells : List ℕ
+
+abbrev pub takes : List Copy → List Placement → List Taken
+takes [] qs = []
+takes (d ∷ ds) [] = []
+takes (d ∷ ds) (q ∷ qs) = record { copy = d; cells = q .cells } ∷ takes ds qs
+
+unfoldable pub taken : Compiled → List Placement → List Taken
+taken c P = joined (numbered (c .kinds) (λ k d. takes (d .copies) (keep (λ q. eqb (q .kind) k) P)))
+
+-- the copy on the cell with scan number n; none has the number of an unfilled cell
+unfoldable pub copyOn : List Taken → ℕ → Copy
+copyOn ts n = headOr (record { piece = 255; copy = 255 }) (map (λ t. t .copy) (keep (λ t. member n (t .cells)) ts))
+
+unfoldable pub answer : Compiled → List Placement → List ℕ
+answer c P =
+    let ts = taken c P in
+    each (box (c .board .sides)) (λ u. let d = copyOn ts (scanNumber (c .cells) u) in d .piece ∷ d .copy ∷ [])

@@ -1,0 +1,108 @@
+-- Document 01, "Fillings to hold it to": the lines marked to be proved, as one table. proofs/FillingLaws has the one theorem, which antt computes. Each line
+-- is held for both engines. M is one cell, D two in a row.
+use Prim.Native.Nat.{ℕ, _+_}
+use mathlib.Core.Bool.{Bool, true, false, not, _&&_}
+use mathlib.Core.List.{List, [], _∷_, _++_, map}
+use lib.Dec.{eqb}
+use lib.ListN.{length, drop, replicate}
+use Rattle.definitions.specs.Lists.{same, joined}
+use Rattle.definitions.specs.Refusals.{Call}
+use Rattle.definitions.specs.Outcomes.{Outcome, outcome}
+use Rattle.definitions.specs.declared.SolverKind.{SolverKind}
+use Rattle.definitions.specs.declared.SolverKind.the-variants.{Fast, KnuthAlgorithm}
+use Rattle.definitions.specs.declared.Record.{Record}
+
+-- a grid with a count, as it is written in a tray's file; and records for such grids, whose cells are lent one after the other from a place on
+pub record Lent : Type 0 where
+  pub count : ℕ
+  pub a : ℕ
+  pub b : ℕ
+  pub c : ℕ
+  pub cells : List ℕ
+
+abbrev pub piece : ℕ → ℕ → ℕ → ℕ → List ℕ → Lent
+piece n i j k cells = record { count = n; a = i; b = j; c = k; cells = cells }
+
+abbrev pub board : ℕ → ℕ → ℕ → List ℕ → Lent
+board i j k cells = piece 0 i j k cells
+
+abbrev pub M : ℕ → Lent
+M n = piece n 1 1 1 (1 ∷ [])
+
+abbrev pub D : ℕ → Lent
+D n = piece n 1 1 2 (1 ∷ 1 ∷ [])
+
+abbrev pub recordAt : ℕ → Lent → Record
+recordAt at g = record { a = g .a; b = g .b; c = g .c; count = g .count; start = at }
+
+abbrev pub recordsFrom : ℕ → List Lent → List Record
+recordsFrom at [] = []
+recordsFrom at (g ∷ gs) = recordAt at g ∷ recordsFrom (at + length (g .cells)) gs
+
+-- a call on a tray: the pieces' cells are lent first, then the board's
+unfoldable pub callOn : Lent → List Lent → Bool → Bool → SolverKind → ℕ → ℕ → Call
+callOn b ps turned mirrored engine skip room =
+    let bytes = joined (map (λ (g : Lent). g .cells) ps) in
+    record {
+      pieces = recordsFrom 0 ps;
+      board = recordAt (length bytes) b;
+      bytes = bytes ++ b .cells;
+      config = record { «identify_transformed_answers» = turned; «identify_mirrored_answers» = mirrored; solver = engine };
+      skip = skip;
+      answers = replicate room 7;
+      work = replicate 8192 7;
+      links = replicate 32768 7;
+    }
+
+-- a line: a tray, whether turned and mirrored packings are identified, and the answers that the page is to hold
+pub record Line : Type 0 where
+  pub board : Lent
+  pub pieces : List Lent
+  pub turned : Bool
+  pub mirrored : Bool
+  pub answers : List (List ℕ)
+
+abbrev pub none : Lent → List Lent → List (List ℕ) → Line
+none b ps xs = record { board = b; pieces = ps; turned = false; mirrored = false; answers = xs }
+
+abbrev pub turned : Lent → List Lent → List (List ℕ) → Line
+turned b ps xs = record { board = b; pieces = ps; turned = true; mirrored = false; answers = xs }
+
+abbrev pub mirrored : Lent → List Lent → List (List ℕ) → Line
+mirrored b ps xs = record { board = b; pieces = ps; turned = true; mirrored = true; answers = xs }
+
+unfoldable pub fillings : List Line
+fillings =
+    -- "The listing above; `turned`: one, M at z 0; pieces lent D first, `none`: 1.0 0.0 0.0, then 0.0 0.0 1.0."
+    none (board 1 1 3 (1 ∷ 1 ∷ 1 ∷ [])) (M 1 ∷ D 1 ∷ []) ((0 ∷ 0 ∷ 1 ∷ 0 ∷ 1 ∷ 0 ∷ []) ∷ (1 ∷ 0 ∷ 1 ∷ 0 ∷ 0 ∷ 0 ∷ []) ∷ []) ∷
+    turned (board 1 1 3 (1 ∷ 1 ∷ 1 ∷ [])) (M 1 ∷ D 1 ∷ []) ((0 ∷ 0 ∷ 1 ∷ 0 ∷ 1 ∷ 0 ∷ []) ∷ []) ∷
+    none (board 1 1 3 (1 ∷ 1 ∷ 1 ∷ [])) (D 1 ∷ M 1 ∷ []) ((1 ∷ 0 ∷ 0 ∷ 0 ∷ 0 ∷ 0 ∷ []) ∷ (0 ∷ 0 ∷ 0 ∷ 0 ∷ 1 ∷ 0 ∷ []) ∷ []) ∷
+    -- "Cells 1110 in a 1 by 1 by 4 box, M and D, `turned`: two."
+    turned (board 1 1 4 (1 ∷ 1 ∷ 1 ∷ 0 ∷ [])) (M 1 ∷ D 1 ∷ []) ((0 ∷ 0 ∷ 1 ∷ 0 ∷ 1 ∷ 0 ∷ 255 ∷ 255 ∷ []) ∷ (1 ∷ 0 ∷ 1 ∷ 0 ∷ 0 ∷ 0 ∷ 255 ∷ 255 ∷ []) ∷ []) ∷
+    -- "2 by 2 by 1, two D: `none` two, `turned` one; D lent twice, one copy each, `none`: two."
+    none (board 2 2 1 (1 ∷ 1 ∷ 1 ∷ 1 ∷ [])) (D 2 ∷ []) ((0 ∷ 0 ∷ 0 ∷ 0 ∷ 0 ∷ 1 ∷ 0 ∷ 1 ∷ []) ∷ (0 ∷ 0 ∷ 0 ∷ 1 ∷ 0 ∷ 0 ∷ 0 ∷ 1 ∷ []) ∷ []) ∷
+    turned (board 2 2 1 (1 ∷ 1 ∷ 1 ∷ 1 ∷ [])) (D 2 ∷ []) ((0 ∷ 0 ∷ 0 ∷ 0 ∷ 0 ∷ 1 ∷ 0 ∷ 1 ∷ []) ∷ []) ∷
+    none (board 2 2 1 (1 ∷ 1 ∷ 1 ∷ 1 ∷ [])) (D 1 ∷ D 1 ∷ []) ((0 ∷ 0 ∷ 0 ∷ 0 ∷ 1 ∷ 0 ∷ 1 ∷ 0 ∷ []) ∷ (0 ∷ 0 ∷ 1 ∷ 0 ∷ 0 ∷ 0 ∷ 1 ∷ 0 ∷ []) ∷ []) ∷
+    -- "1 by 1 by 3, two D: no packing."
+    none (board 1 1 3 (1 ∷ 1 ∷ 1 ∷ [])) (D 2 ∷ []) [] ∷
+    -- "1 by 1 by 1 unfilled, M: one, bytes 255 255."
+    none (board 1 1 1 (0 ∷ [])) (M 1 ∷ []) ((255 ∷ 255 ∷ []) ∷ []) ∷
+    -- "1 by 1 by 1, M with no copies: no packing, both engines."
+    none (board 1 1 1 (1 ∷ [])) (M 0 ∷ []) [] ∷
+    -- "1 by 1 by 1, `mirrored`, M and a handed four-cell piece: one."
+    mirrored (board 1 1 1 (1 ∷ [])) (M 1 ∷ piece 1 2 2 2 (1 ∷ 1 ∷ 1 ∷ 0 ∷ 0 ∷ 1 ∷ 0 ∷ 0 ∷ []) ∷ []) ((0 ∷ 0 ∷ []) ∷ []) ∷
+    []
+
+abbrev pub sameTest : Bool → Bool → Bool
+sameTest true b = b
+sameTest false b = not b
+
+-- the outcome of an accepted call that lists these answers and no further one: the buffer holds them, and behind them what it held
+unfoldable pub lists : List (List ℕ) → Bool → Call → Bool
+lists answers further l =
+    let o = outcome l in
+    let bytes = joined answers in
+    eqb (o .number) 0 && (eqb (o .written) (length answers) && (sameTest (o .further) further && same (o .answers) (bytes ++ drop (length bytes) (l .answers))))
+
+unfoldable pub holds : SolverKind → Line → Bool
+holds e l = lists (l .answers) false (callOn (l .board) (l .pieces) (l .turned) (l .mirrored) e 0 64)

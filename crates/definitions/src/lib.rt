@@ -1,0 +1,75 @@
+// The types that a call takes and hands back. Document 01 is written as definitions in specs/, and these types meet them there.
+ghost use mathlib.Core.Path.{_≡_};
+ghost use Rattle.definitions.specs.Outcomes.{numberOf};
+
+// A piece as it is lent, or the board ("record" of document 01): three sides, a count, and the place where its cells begin
+// in the lent bytes. A board's count is not read. Sides have the width of an index, so that one of 257 is refused and not
+// taken for 1.
+pub struct Record {
+    pub a: usize,
+    pub b: usize,
+    pub c: usize,
+    pub count: u32,
+    pub start: usize,
+}
+
+pub enum SolverKind {
+    Auto,
+    Naive,
+    Fast,
+    KnuthAlgorithm,
+}
+
+pub struct Config {
+    pub identify_transformed_answers: bool,
+    pub identify_mirrored_answers: bool,
+    pub solver: SolverKind,
+}
+
+// Why a call is refused: the rows 1 to 15 of document 01's table, in its order.
+pub enum Refusal {
+    NoPiece,
+    TooManyPieces,
+    SideOutOfRange,
+    CellsOutsideBytes,
+    CellNotZeroOrOne,
+    PieceWithoutFilledCell,
+    EmptyOuterLayer,
+    TooManyCopies,
+    TooManyBoardCells,
+    MirroredWithoutTurned,
+    EngineNotPorted,
+    WorkTooShort,
+    LinksTooShort,
+    TooManyPlacements,
+    TooManyLinks,
+}
+
+// What a call hands back beside the slices: how many answers were written and whether a further one follows, or the refusal.
+pub enum Listing {
+    Page(usize, bool),
+    Refused(Refusal),
+}
+
+// The number that document 01's table gives a refusal.
+pub fn refusal_number(refusal: Refusal) -> u8
+    ensures { λ r. ⌜ r ≡ numberOf refusal ⌝ }
+{
+    match refusal {
+        Refusal::NoPiece => 1,
+        Refusal::TooManyPieces => 2,
+        Refusal::SideOutOfRange => 3,
+        Refusal::CellsOutsideBytes => 4,
+        Refusal::CellNotZeroOrOne => 5,
+        Refusal::PieceWithoutFilledCell => 6,
+        Refusal::EmptyOuterLayer => 7,
+        Refusal::TooManyCopies => 8,
+        Refusal::TooManyBoardCells => 9,
+        Refusal::MirroredWithoutTurned => 10,
+        Refusal::EngineNotPorted => 11,
+        Refusal::WorkTooShort => 12,
+        Refusal::LinksTooShort => 13,
+        Refusal::TooManyPlacements => 14,
+        Refusal::TooManyLinks => 15,
+    }
+}
