@@ -106,7 +106,7 @@ module _ (c : Compiled) (w : WellMade c) (nu : Numbered c) (whole : length (c .b
   abbrev act : Map → Cell → Cell
   act m u = mapCell m (G .sides) u
 
-  symmetry-at : (odd : Bool) (m : Map) → List·Memᴰ m (symmetries G (mapsOf odd)) → Allowed G whole odd m
+  pub symmetry-at : (odd : Bool) (m : Map) → List·Memᴰ m (symmetries G (mapsOf odd)) → Allowed G whole odd m
   unfolding symmetries
   symmetry-at odd m k = let r = keep-at (λ (n : Map). sameGrid (mapGrid n G) G) (mapsOf odd) k in record { isMap = r .0; onItself = sameGrid→eq (mapGrid m G) G (r .1) }
 
@@ -177,7 +177,7 @@ module _ (c : Compiled) (w : WellMade c) (nu : Numbered c) (whole : length (c .b
   self-image i t P g = images-of i P P (record { odd = false; by = identity; fine = t; allowed = allowed-identity G whole; onto = image-still c w nu (act identity) (λ u k. identity-cell (G .sides) u) P g })
 
   module _ (partnerBack : (q r : Placement) → List·Memᴰ q (c .placements) → List·Memᴰ r (c .placements) → q .kind ≡ kindAfter c true (r .kind) → r .kind ≡ kindAfter c true (q .kind)) where
-    kinds-back : (odd : Bool) (q r : Placement) → List·Memᴰ q (c .placements) → List·Memᴰ r (c .placements) → q .kind ≡ kindAfter c odd (r .kind) → r .kind ≡ kindAfter c odd (q .kind)
+    pub kinds-back : (odd : Bool) (q r : Placement) → List·Memᴰ q (c .placements) → List·Memᴰ r (c .placements) → q .kind ≡ kindAfter c odd (r .kind) → r .kind ≡ kindAfter c odd (q .kind)
     unfolding kindAfter
     kinds-back false q r a b e = sym e
     kinds-back true q r a b e = partnerBack q r a b e

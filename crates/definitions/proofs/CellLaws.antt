@@ -198,7 +198,7 @@ reach-at v o t i = go (eqb i 0) (eqb i 1)
     go false true = leb→le (o .y) (v .y) (and-right (leb (o .x) (v .x)) (leb (o .y) (v .y)) t₁)
     go false false = leb→le (o .z) (v .z) (and-right (leb (o .x) (v .x) && leb (o .y) (v .y)) (leb (o .z) (v .z)) t)
 
-cell-by : (u v : Cell) → ((i : ℕ) → coordinate u i ≡ coordinate v i) → u ≡ v
+pub cell-by : (u v : Cell) → ((i : ℕ) → coordinate u i ≡ coordinate v i) → u ≡ v
 cell-by u v h = three (h 0) (h 1) (h 2)
   where
     three : coordinate u 0 ≡ coordinate v 0 → coordinate u 1 ≡ coordinate v 1 → coordinate u 2 ≡ coordinate v 2 → u ≡ v

@@ -67,7 +67,7 @@ module _ (l : Call) (ok : refusal l ≡ 0) where
   unfolding table
   board-bits = and-left (areBits (T₀ .board)) (all (λ q. areBits (q .grid)) (T₀ .pieces)) (fails l ok (areBits (T₀ .board) && all (λ q. areBits (q .grid)) (T₀ .pieces)) (none-applies l ok 4))
 
-  good : (d : Kind) → List·Memᴰ d (kindsOf T₀) → (v : Grid) → List·Memᴰ v (variants (d .shape)) → Tight v × T (areBits v) × (length (v .cells) ≡ volume (v .sides))
+  pub good : (d : Kind) → List·Memᴰ d (kindsOf T₀) → (v : Grid) → List·Memᴰ v (variants (d .shape)) → Tight v × T (areBits v) × (length (v .cells) ≡ volume (v .sides))
   good d k v m =
       let r = kind-at T₀ d k in
       let s = smallest-at (r .0 .grid) in
@@ -118,7 +118,7 @@ module _ (l : Call) (ok : refusal l ≡ 0) where
   unfolding compile
   of-filled u k = filled-scan T₀ facts W good (T₀ .board) u k
 
-  whole : length (C .board .cells) ≡ volume (C .board .sides)
+  pub whole : length (C .board .cells) ≡ volume (C .board .sides)
   unfolding compile
   whole = board-whole
 
@@ -126,7 +126,7 @@ module _ (l : Call) (ok : refusal l ≡ 0) where
   unfolding compile
   board-bits′ = board-bits
 
-  partners : (q r : Placement) → List·Memᴰ q (C .placements) → List·Memᴰ r (C .placements) → q .kind ≡ kindAfter C true (r .kind) → r .kind ≡ kindAfter C true (q .kind)
+  pub partners : (q r : Placement) → List·Memᴰ q (C .placements) → List·Memᴰ r (C .placements) → q .kind ≡ kindAfter C true (r .kind) → r .kind ≡ kindAfter C true (q .kind)
   partners = kinds-partner T₀ piece-whole W
 
   pub in-box : (u : Cell) → List·Memᴰ u (C .cells) → InBox (C .board .sides) u

@@ -37,11 +37,11 @@ module _ (c : Compiled) (w : WellMade c) (nu : Numbered c) where
   abbrev pub Onto : (Cell → Cell) → Type 0
   Onto f = (u : Cell) → List·Memᴰ u (c .cells) → List·Memᴰ (f u) (c .cells)
 
-  after-below : (f : Cell → Cell) → Onto f → (n : ℕ) → n < length (c .cells) → cellAfter c f n < length (c .cells)
+  pub after-below : (f : Cell → Cell) → Onto f → (n : ℕ) → n < length (c .cells) → cellAfter c f n < length (c .cells)
   unfolding cellAfter
   after-below f h n k = nu .number-below (f (getD (c .cells) n (record { x = 0; y = 0; z = 0 }))) (h (getD (c .cells) n (record { x = 0; y = 0; z = 0 })) (nu .cell-in n k))
 
-  after-after : (f g : Cell → Cell) → Onto f → (n : ℕ) → n < length (c .cells) → cellAfter c g (cellAfter c f n) ≡ cellAfter c (λ u. g (f u)) n
+  pub after-after : (f g : Cell → Cell) → Onto f → (n : ℕ) → n < length (c .cells) → cellAfter c g (cellAfter c f n) ≡ cellAfter c (λ u. g (f u)) n
   unfolding cellAfter
   after-after f g h n k =
       ap (λ (u : Cell). scanNumber (c .cells) (g u)) (nu .cell-number (f (getD (c .cells) n (record { x = 0; y = 0; z = 0 }))) (h (getD (c .cells) n (record { x = 0; y = 0; z = 0 })) (nu .cell-in n k)))
@@ -50,7 +50,7 @@ module _ (c : Compiled) (w : WellMade c) (nu : Numbered c) where
   unfolding cellAfter
   after-same f g e n k = ap (scanNumber (c .cells)) (e (getD (c .cells) n (record { x = 0; y = 0; z = 0 })) (nu .cell-in n k))
 
-  after-still : (f : Cell → Cell) → ((u : Cell) → List·Memᴰ u (c .cells) → f u ≡ u) → (n : ℕ) → n < length (c .cells) → cellAfter c f n ≡ n
+  pub after-still : (f : Cell → Cell) → ((u : Cell) → List·Memᴰ u (c .cells) → f u ≡ u) → (n : ℕ) → n < length (c .cells) → cellAfter c f n ≡ n
   unfolding cellAfter
   after-still f e n k = ap (scanNumber (c .cells)) (e (getD (c .cells) n (record { x = 0; y = 0; z = 0 })) (nu .cell-in n k)) ∙ nu .number-cell n k
 
@@ -101,7 +101,7 @@ module _ (c : Compiled) (w : WellMade c) (nu : Numbered c) where
     image-ascending = keep-ascending ahead (λ (z : Placement). any (same (z .kind ∷ z .cells)) (map (moved c odd f) P)) (c .placements) (w .inOrder)
 
   -- placements carried onto placements of one kind with the same cells
-  same-cells : (q r : Placement) → List·Memᴰ q (c .placements) → List·Memᴰ r (c .placements) → q .kind ≡ r .kind
+  pub same-cells : (q r : Placement) → List·Memᴰ q (c .placements) → List·Memᴰ r (c .placements) → q .kind ≡ r .kind
       → ((n : ℕ) → List·Memᴰ n (q .cells) → List·Memᴰ n (r .cells)) → ((n : ℕ) → List·Memᴰ n (r .cells) → List·Memᴰ n (q .cells)) → q ≡ r
   same-cells q r a b k f g = nu .byCells q r a b k (ascending-unique ltb ltb-trans ltb-irrefl (q .cells) (r .cells) (w .cellsAscend q a) (w .cellsAscend r b) f g)
 
@@ -127,7 +127,7 @@ module _ (c : Compiled) (w : WellMade c) (nu : Numbered c) where
           image-of false f P q q (packing-placed c P g q m) m
           (record { kinds = refl; there = λ n k. Memᴰ·cast (at q m n k) k; back = λ n k. (n, k, at q m n k) })
 
-  numbers-inj : (f : Cell → Cell) → Onto f → ((u v : Cell) → List·Memᴰ u (c .cells) → List·Memᴰ v (c .cells) → f u ≡ f v → u ≡ v)
+  pub numbers-inj : (f : Cell → Cell) → Onto f → ((u v : Cell) → List·Memᴰ u (c .cells) → List·Memᴰ v (c .cells) → f u ≡ f v → u ≡ v)
       → (n m : ℕ) → n < length (c .cells) → m < length (c .cells) → cellAfter c f n ≡ cellAfter c f m → n ≡ m
   unfolding cellAfter
   numbers-inj f on inj n m a b i =

@@ -25,3 +25,6 @@ pub mod FillingLaws
 pub mod MapNumberLaws
 pub mod KindLaws
 pub mod PlacementLaws
+pub mod BoundaryLaws
+pub mod CarryLaws
+pub mod PruningLaws

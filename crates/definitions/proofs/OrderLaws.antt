@@ -27,7 +27,7 @@ less-after [] a b t = t
 less-after (x ∷ xs) a b t = or-right (ltb x x) (eqb x x && less (xs ++ a) (xs ++ b)) (and-both (eqb x x) (less (xs ++ a) (xs ++ b)) (eqb-refl x) (less-after xs a b t))
 
 -- two numbers decide
-less-two : (a b a′ b′ : ℕ) (r r′ : List ℕ) → T (less (a ∷ b ∷ []) (a′ ∷ b′ ∷ [])) → T (less (a ∷ b ∷ r) (a′ ∷ b′ ∷ r′))
+pub less-two : (a b a′ b′ : ℕ) (r r′ : List ℕ) → T (less (a ∷ b ∷ []) (a′ ∷ b′ ∷ [])) → T (less (a ∷ b ∷ r) (a′ ∷ b′ ∷ r′))
 less-two a b a′ b′ r r′ t = go (or-cases (ltb a a′) (eqb a a′ && less (b ∷ []) (b′ ∷ [])) t)
   where
     inner : T (less (b ∷ []) (b′ ∷ [])) → T (less (b ∷ r) (b′ ∷ r′))
@@ -47,7 +47,7 @@ each-append : {A B : Type 0} (xs ys : List A) (f : A → List B) → each (xs ++
 each-append [] ys f = refl
 each-append (x ∷ xs) ys f = ap (λ (l : List _). f x ++ l) (each-append xs ys f) ∙ sym (append-assoc (f x) (each xs f) (each ys f))
 
-each-same-in : {A B : Type 0} (f g : A → List B) (xs : List A) → ((x : A) → List·Memᴰ x xs → f x ≡ g x) → each xs f ≡ each xs g
+pub each-same-in : {A B : Type 0} (f g : A → List B) (xs : List A) → ((x : A) → List·Memᴰ x xs → f x ≡ g x) → each xs f ≡ each xs g
 each-same-in f g [] h = refl
 each-same-in f g (x ∷ xs) h = ap₂ (λ (a b : List _). a ++ b) (h x (List·Memᴰ·head refl)) (each-same-in f g xs (λ z m. h z (List·Memᴰ·tail m)))
 
@@ -110,7 +110,7 @@ two-of q r e t = go (or-cases (ltb (q .kind) (r .kind)) (eqb (q .kind) (r .kind)
         (and-both (eqb (q .kind) (r .kind)) (less (q .j ∷ []) (r .j ∷ [])) (and-left (eqb (q .kind) (r .kind)) (less (q .p ∷ q .j ∷ []) (r .p ∷ r .j ∷ [])) x)
         (inner (or-cases (ltb (q .p) (r .p)) (eqb (q .p) (r .p) && less (q .j ∷ []) (r .j ∷ [])) (and-right (eqb (q .kind) (r .kind)) (less (q .p ∷ q .j ∷ []) (r .p ∷ r .j ∷ [])) x))))
 
-pj-of : (q r : Placement) → q .kind ≡ r .kind → T (ahead q r) → T (less (q .p ∷ q .j ∷ []) (r .p ∷ r .j ∷ []))
+pub pj-of : (q r : Placement) → q .kind ≡ r .kind → T (ahead q r) → T (less (q .p ∷ q .j ∷ []) (r .p ∷ r .j ∷ []))
 unfolding ahead rank
 pj-of q r e t = go (or-cases (ltb (q .kind) (r .kind)) (eqb (q .kind) (r .kind) && less (q .p ∷ q .j ∷ []) (r .p ∷ r .j ∷ [])) t)
   where

@@ -120,7 +120,7 @@ module _ (t : Tray) (wholes : (q : Piece) → List·Memᴰ q (t .pieces) → len
       map-id [] = refl
       map-id (x ∷ xs) = ap (λ (l : List Grid). x ∷ l) (map-id xs)
 
-  partner-is : (d : Kind) → List·Memᴰ d (kindsOf t) → d .partner ≡ before (sameGrid (smallest (mapGrid mirror (d .shape)))) gs
+  pub partner-is : (d : Kind) → List·Memᴰ d (kindsOf t) → d .partner ≡ before (sameGrid (smallest (mapGrid mirror (d .shape)))) gs
   unfolding kindsOf partnerOf gs
   partner-is d k = let r = Memᴰ·of-map _ (shapes (sorted t)) k in sym (ap (λ (x : Kind). x .partner) (r .2)) ∙ ap (λ (g : Grid). before (sameGrid (smallest (mapGrid mirror g))) (shapes (sorted t))) (ap (λ (x : Kind). x .shape) (r .2))
 
@@ -128,7 +128,7 @@ module _ (t : Tray) (wholes : (q : Piece) → List·Memᴰ q (t .pieces) → len
   shape-nth n d h = subst (λ (l : List Grid). Nth l n (d .shape)) shapes-are (nth-map (λ (x : Kind). x .shape) (kindsOf t) n d h)
 
   -- a kind's shape is whole, and its own smallest
-  shape-whole : (d : Kind) → List·Memᴰ d (kindsOf t) → (length (d .shape .cells) ≡ volume (d .shape .sides)) × (smallest (d .shape) ≡ d .shape)
+  pub shape-whole : (d : Kind) → List·Memᴰ d (kindsOf t) → (length (d .shape .cells) ≡ volume (d .shape .sides)) × (smallest (d .shape) ≡ d .shape)
   shape-whole d k =
       let r = kind-at t d k in
       let m = smallest-at (r .0 .grid) in (

@@ -18,3 +18,4 @@ pub mod PlacementsRight
 pub mod Emission
 pub mod Pruning
 pub mod Fillings
+pub mod Boundaries

@@ -1,0 +1,33 @@
+-- The tables of Boundaries, computed. Assumes nothing.
+use lib.Dec.{T}
+use Rattle.definitions.specs.Lists.{all}
+use Rattle.definitions.specs.Grid.{sameCell, box, volume, byteAt, gridWith, filledCells, sidesThenCells, sameGrid, gridAhead}
+use Rattle.definitions.specs.Maps.{side, coordinate, fromEnd, mapSides, mapCell, axisOf, flipOf, inverse, mapGrid, permutations, transform, parity, turns, mirrorings, mirror}
+use Rattle.definitions.specs.Scan.{axisAhead, axes, cellAhead, scan, scanNumber}
+use Rattle.definitions.specs.Kinds.{variants, smallest, sorted, shapes, copiesOf, partnerOf, kindsOf}
+use Rattle.definitions.specs.Placements.{origin, lies, reaches, fits, placementsAt, placementsOf, compile}
+use Rattle.definitions.specs.Packing.{rank, ahead, samePlacement, covering, used, limits, placed, coversOnce, withinCopies, isPacking}
+use Rattle.definitions.specs.Kept.{compared, smaller, kindAfter, cellAfter, moved, image, symmetries, turnedImages, mirroredImages, images, kept}
+use Rattle.definitions.specs.Orders.{start, possible, choose, search, fastChoices, identifiesTurned, sizes, allCells, kind0First, fastList, tallyAhead, tallies, knuthChoices, knuthList, packings, listed}
+use Rattle.definitions.specs.Answers.{taken, copyOn, answer}
+use Rattle.definitions.specs.Page.{page}
+use Rattle.definitions.specs.Refusals.{sidesOf, gridOf, trayOf, identifies, identifyOf, isSide, sidesFit, cellsLie, areBits, someFilled, filledWhere, isTight, copyCount, boardCellCount, isPorted, isKnuth, placementCount, rowsOf, linkCount, table, refusal}
+use Rattle.definitions.specs.Outcomes.{answersOf, answerSize, capacity, pageOf, overStart, cleared, refused, accepted, outcome}
+use Rattle.definitions.specs.Fillings.{callOn}
+use Rattle.definitions.specs.Boundaries.{refusals, largeBoards, isGiven, afterwards, isLeft, counts, isCounted}
+
+pub refusals-hold : T (all isGiven refusals)
+unfolding refusals isGiven sameCell box volume byteAt gridWith filledCells sidesThenCells sameGrid gridAhead side coordinate fromEnd mapSides mapCell axisOf flipOf inverse mapGrid permutations transform parity turns mirrorings mirror axisAhead axes cellAhead scan scanNumber variants smallest sorted shapes copiesOf partnerOf kindsOf origin lies reaches fits placementsAt placementsOf compile rank ahead samePlacement covering used limits placed coversOnce withinCopies isPacking compared smaller kindAfter cellAfter moved image symmetries turnedImages mirroredImages images kept start possible choose search fastChoices identifiesTurned sizes allCells kind0First fastList tallyAhead tallies knuthChoices knuthList packings listed taken copyOn answer page sidesOf gridOf trayOf identifies identifyOf isSide sidesFit cellsLie areBits someFilled filledWhere isTight copyCount boardCellCount isPorted isKnuth placementCount rowsOf linkCount table refusal answersOf answerSize capacity pageOf overStart refused accepted outcome
+refusals-hold = tt
+
+pub large-boards-hold : T (all isGiven largeBoards)
+unfolding largeBoards isGiven sameCell box volume byteAt gridWith filledCells sidesThenCells sameGrid gridAhead side coordinate fromEnd mapSides mapCell axisOf flipOf inverse mapGrid permutations transform parity turns mirrorings mirror axisAhead axes cellAhead scan scanNumber variants smallest sorted shapes copiesOf partnerOf kindsOf origin lies reaches fits placementsAt placementsOf compile rank ahead samePlacement covering used limits placed coversOnce withinCopies isPacking compared smaller kindAfter cellAfter moved image symmetries turnedImages mirroredImages images kept start possible choose search fastChoices identifiesTurned sizes allCells kind0First fastList tallyAhead tallies knuthChoices knuthList packings listed taken copyOn answer page sidesOf gridOf trayOf identifies identifyOf isSide sidesFit cellsLie areBits someFilled filledWhere isTight copyCount boardCellCount isPorted isKnuth placementCount rowsOf linkCount table refusal answersOf answerSize capacity pageOf overStart refused accepted outcome
+large-boards-hold = tt
+
+pub afterwards-hold : T (all isLeft afterwards)
+unfolding afterwards isLeft cleared sameCell box volume byteAt gridWith filledCells sidesThenCells sameGrid gridAhead side coordinate fromEnd mapSides mapCell axisOf flipOf inverse mapGrid permutations transform parity turns mirrorings mirror axisAhead axes cellAhead scan scanNumber variants smallest sorted shapes copiesOf partnerOf kindsOf origin lies reaches fits placementsAt placementsOf compile rank ahead samePlacement covering used limits placed coversOnce withinCopies isPacking compared smaller kindAfter cellAfter moved image symmetries turnedImages mirroredImages images kept start possible choose search fastChoices identifiesTurned sizes allCells kind0First fastList tallyAhead tallies knuthChoices knuthList packings listed taken copyOn answer page sidesOf gridOf trayOf identifies identifyOf isSide sidesFit cellsLie areBits someFilled filledWhere isTight copyCount boardCellCount isPorted isKnuth placementCount rowsOf linkCount table refusal answersOf answerSize capacity pageOf overStart refused accepted outcome
+afterwards-hold = tt
+
+pub counts-hold : T (all isCounted counts)
+unfolding counts isCounted callOn sameCell box volume byteAt gridWith filledCells sidesThenCells sameGrid gridAhead side coordinate fromEnd mapSides mapCell axisOf flipOf inverse mapGrid permutations transform parity turns mirrorings mirror axisAhead axes cellAhead scan scanNumber variants smallest sorted shapes copiesOf partnerOf kindsOf origin lies reaches fits placementsAt placementsOf compile rank ahead samePlacement covering used limits placed coversOnce withinCopies isPacking compared smaller kindAfter cellAfter moved image symmetries turnedImages mirroredImages images kept start possible choose search fastChoices identifiesTurned sizes allCells kind0First fastList tallyAhead tallies knuthChoices knuthList packings listed taken copyOn answer page sidesOf gridOf trayOf identifies identifyOf isSide sidesFit cellsLie areBits someFilled filledWhere isTight copyCount boardCellCount isPorted isKnuth placementCount rowsOf linkCount table refusal answersOf answerSize capacity pageOf overStart refused accepted outcome
+counts-hold = tt

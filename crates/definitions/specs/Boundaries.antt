@@ -1,0 +1,216 @@
+-- What the marked lines leave open of the table of refusals, as tables that antt computes (proofs/BoundaryLaws): each refusal and its boundary; pairs of
+-- refusals that apply at once; the slices afterwards; the counts of 14 and 15. (Trays at the limits of 14 and 15 are too large to compute here.)
+use Prim.Native.Nat.{ℕ, zero, suc, _/_, _%_}
+use mathlib.Core.Bool.{Bool, true, false, _&&_}
+use mathlib.Core.List.{List, [], _∷_, _++_}
+use lib.Dec.{eqb}
+use lib.ListN.{replicate}
+use Rattle.definitions.specs.Lists.{same}
+use Rattle.definitions.specs.Placements.{compile}
+use Rattle.definitions.specs.Refusals.{Call, trayOf, placementCount, linkCount, refusal}
+use Rattle.definitions.specs.Outcomes.{Outcome, outcome}
+use Rattle.definitions.specs.Fillings.{Lent, piece, board, M, D, callOn}
+use Rattle.definitions.specs.declared.SolverKind.{SolverKind}
+use Rattle.definitions.specs.declared.SolverKind.the-variants.{Auto, Naive, Fast, KnuthAlgorithm}
+use Rattle.definitions.specs.declared.Record.{Record}
+
+-- n cells, written as the digits of a number
+abbrev pub digits : ℕ → ℕ → List ℕ → List ℕ
+digits zero k rest = rest
+digits (suc n) k rest = digits n (k / 10) (k % 10 ∷ rest)
+
+abbrev pub cells : ℕ → ℕ → List ℕ
+cells n k = digits n k []
+
+-- ---- refusals
+-- A call that is accepted, M in a tray of one cell, and one thing in it changed; or more.
+abbrev pub plain : Call
+plain =
+    record {
+      pieces = record { a = 1; b = 1; c = 1; count = 1; start = 0 } ∷ [];
+      board = record { a = 1; b = 1; c = 1; count = 0; start = 0 };
+      bytes = 1 ∷ [];
+      config = record { «identify_transformed_answers» = false; «identify_mirrored_answers» = false; solver = Fast };
+      skip = 0;
+      answers = [];
+      work = replicate 8192 7;
+      links = replicate 32768 7;
+    }
+
+abbrev pub at : ℕ → ℕ → ℕ → ℕ → ℕ → Record
+at n i j k s = record { a = i; b = j; c = k; count = n; start = s }
+
+abbrev pub lending : Record → List Record → List ℕ → Call
+lending b ps bytes = record { pieces = ps; board = b; bytes = bytes; config = plain .config; skip = 0; answers = []; work = plain .work; links = plain .links }
+
+abbrev pub asking : Bool → Bool → SolverKind → Call → Call
+asking turned mirrored e l =
+    record {
+      pieces = l .pieces;
+      board = l .board;
+      bytes = l .bytes;
+      config = record { «identify_transformed_answers» = turned; «identify_mirrored_answers» = mirrored; solver = e };
+      skip = l .skip;
+      answers = l .answers;
+      work = l .work;
+      links = l .links;
+    }
+
+abbrev pub slices : ℕ → ℕ → Call → Call
+slices work links l =
+    record { pieces = l .pieces; board = l .board; bytes = l .bytes; config = l .config; skip = l .skip; answers = l .answers; work = replicate work 7; links = replicate links 7 }
+
+pub record Expected : Type 0 where
+  pub number : ℕ
+  pub call : Call
+
+abbrev pub gives : ℕ → Call → Expected
+gives n l = record { number = n; call = l }
+
+abbrev pub m₀ : Record
+m₀ = at 1 1 1 1 0
+
+unfoldable pub refusals : List Expected
+refusals =
+    gives 0 plain ∷
+    -- 1, and before 3: no piece, and the board has a side of 0
+    gives 1 (lending m₀ [] (1 ∷ [])) ∷
+    gives 1 (lending (at 0 0 1 1 0) [] (1 ∷ [])) ∷
+    -- 2: 16 pieces are taken, 17 are not; before 3
+    gives 0 (lending m₀ (replicate 16 m₀) (1 ∷ [])) ∷
+    gives 2 (lending m₀ (replicate 17 m₀) (1 ∷ [])) ∷
+    gives 2 (lending m₀ (replicate 17 (at 1 9 1 1 0)) (1 ∷ [])) ∷
+    -- 3: a side of 0, 8, 9 or 257, of each axis, of piece and board; before 4
+    gives 3 (lending m₀ (at 1 0 1 1 0 ∷ []) (1 ∷ [])) ∷
+    gives 3 (lending m₀ (at 1 1 0 1 0 ∷ []) (1 ∷ [])) ∷
+    gives 3 (lending m₀ (at 1 1 1 0 0 ∷ []) (1 ∷ [])) ∷
+    gives 0 (lending m₀ (at 1 8 1 1 0 ∷ []) (cells 8 11111111)) ∷
+    gives 0 (lending m₀ (at 1 1 8 1 0 ∷ []) (cells 8 11111111)) ∷
+    gives 0 (lending m₀ (at 1 1 1 8 0 ∷ []) (cells 8 11111111)) ∷
+    gives 3 (lending m₀ (m₀ ∷ at 1 9 1 1 0 ∷ []) (cells 9 111111111)) ∷
+    gives 3 (lending m₀ (at 1 1 9 1 0 ∷ m₀ ∷ []) (cells 9 111111111)) ∷
+    gives 3 (lending (at 0 1 1 9 0) (m₀ ∷ []) (cells 9 111111111)) ∷
+    gives 3 (lending (at 0 257 1 1 0) (m₀ ∷ []) (1 ∷ [])) ∷
+    gives 3 (lending (at 0 9 1 1 5) (m₀ ∷ []) (1 ∷ [])) ∷
+    -- 4: the last cell lies in the bytes, or one past them; a start near the largest number; before 5
+    gives 0 (lending (at 0 1 1 2 1) (m₀ ∷ []) (1 ∷ 1 ∷ 1 ∷ [])) ∷
+    gives 4 (lending (at 0 1 1 2 2) (m₀ ∷ []) (1 ∷ 1 ∷ 1 ∷ [])) ∷
+    gives 4 (lending m₀ (m₀ ∷ at 1 1 1 1 18446744073709551615 ∷ []) (1 ∷ [])) ∷
+    gives 4 (lending m₀ (at 1 1 1 2 0 ∷ at 1 1 1 2 1 ∷ []) (2 ∷ 1 ∷ [])) ∷
+    -- 5: in the board, in a piece; bytes that no grid reads do not count; before 6
+    gives 5 (lending (at 0 1 1 1 1) (m₀ ∷ []) (1 ∷ 2 ∷ [])) ∷
+    gives 5 (lending m₀ (at 1 1 1 1 1 ∷ []) (1 ∷ 255 ∷ [])) ∷
+    gives 0 (lending m₀ (m₀ ∷ []) (1 ∷ 2 ∷ [])) ∷
+    gives 5 (lending m₀ (at 1 1 1 1 2 ∷ at 1 1 1 1 1 ∷ []) (1 ∷ 2 ∷ 0 ∷ [])) ∷
+    -- 6: a piece, with or without copies, but not the board; before 7
+    gives 6 (lending m₀ (m₀ ∷ at 0 1 1 1 1 ∷ []) (1 ∷ 0 ∷ [])) ∷
+    gives 0 (lending (at 0 1 1 1 1) (m₀ ∷ []) (1 ∷ 0 ∷ [])) ∷
+    gives 6 (lending m₀ (at 1 1 1 2 0 ∷ at 1 1 1 1 1 ∷ []) (1 ∷ 0 ∷ [])) ∷
+    -- 7: each of the six outer layers; not of the board; before 8
+    gives 7 (lending m₀ (at 1 2 1 1 0 ∷ []) (1 ∷ 0 ∷ [])) ∷
+    gives 7 (lending m₀ (at 1 1 2 1 0 ∷ []) (1 ∷ 0 ∷ [])) ∷
+    gives 7 (lending m₀ (at 1 1 1 2 0 ∷ []) (1 ∷ 0 ∷ [])) ∷
+    gives 7 (lending m₀ (m₀ ∷ at 0 2 1 1 1 ∷ []) (1 ∷ 0 ∷ 1 ∷ [])) ∷
+    gives 7 (lending m₀ (m₀ ∷ at 0 1 2 1 1 ∷ []) (1 ∷ 0 ∷ 1 ∷ [])) ∷
+    gives 7 (lending m₀ (m₀ ∷ at 0 1 1 2 1 ∷ []) (1 ∷ 0 ∷ 1 ∷ [])) ∷
+    gives 0 (lending m₀ (at 1 1 1 3 0 ∷ []) (1 ∷ 0 ∷ 1 ∷ [])) ∷
+    gives 0 (lending (at 0 1 1 2 0) (m₀ ∷ []) (1 ∷ 0 ∷ [])) ∷
+    gives 7 (lending m₀ (at 129 1 1 2 0 ∷ []) (1 ∷ 0 ∷ [])) ∷
+    -- 8: 128 copies are taken, 129 are not; a sum past 32 bits; before 10
+    gives 0 (lending m₀ (at 128 1 1 1 0 ∷ []) (1 ∷ [])) ∷
+    gives 8 (lending m₀ (at 129 1 1 1 0 ∷ []) (1 ∷ [])) ∷
+    gives 0 (lending m₀ (at 64 1 1 1 0 ∷ at 64 1 1 1 0 ∷ []) (1 ∷ [])) ∷
+    gives 8 (lending m₀ (at 64 1 1 1 0 ∷ at 65 1 1 1 0 ∷ []) (1 ∷ [])) ∷
+    gives 8 (lending m₀ (at 4294967295 1 1 1 0 ∷ at 1 1 1 1 0 ∷ []) (1 ∷ [])) ∷
+    gives 8 (asking false true Fast (lending m₀ (at 129 1 1 1 0 ∷ []) (1 ∷ []))) ∷
+    -- 10, before 11; 11, both engines that are not ported, before 12; 12, before 13; 13
+    gives 10 (asking false true Fast plain) ∷
+    gives 10 (asking false true Auto plain) ∷
+    gives 0 (asking true true Fast plain) ∷
+    gives 0 (asking true false KnuthAlgorithm plain) ∷
+    gives 11 (asking false false Auto plain) ∷
+    gives 11 (asking true true Naive plain) ∷
+    gives 11 (asking true true Naive (slices 0 0 plain)) ∷
+    gives 12 (slices 8191 32768 plain) ∷
+    gives 12 (asking false false KnuthAlgorithm (slices 8191 32767 plain)) ∷
+    gives 13 (asking false false KnuthAlgorithm (slices 8192 32767 plain)) ∷
+    gives 0 (slices 8192 0 plain) ∷
+    []
+
+-- 9: 128 filled board cells are taken, 129 are not; 8 comes before, 10 after. The piece is too large for the board, so that nothing more is computed.
+abbrev pub bar : ℕ → Record
+bar n = at n 1 1 8 0
+
+unfoldable pub largeBoards : List Expected
+largeBoards =
+    gives 0 (lending (at 0 8 8 3 0) (bar 1 ∷ []) (replicate 128 1 ++ replicate 64 0)) ∷
+    gives 9 (lending (at 0 8 8 3 0) (bar 1 ∷ []) (replicate 129 1 ++ replicate 63 0)) ∷
+    gives 8 (lending (at 0 8 8 3 0) (bar 129 ∷ []) (replicate 129 1 ++ replicate 63 0)) ∷
+    gives 9 (asking false true Fast (lending (at 0 8 8 3 0) (bar 1 ∷ []) (replicate 129 1 ++ replicate 63 0))) ∷
+    []
+
+unfoldable pub isGiven : Expected → Bool
+isGiven x = eqb (refusal (x .call)) (x .number)
+
+-- ---- the slices afterwards
+-- what an outcome leaves: equal numbers, one after the other
+pub record Left : Type 0 where
+  pub call : Call
+  pub number : ℕ
+  pub answers : List ℕ
+  pub work : List ℕ
+  pub links : List ℕ
+
+abbrev pub leaves : Call → ℕ → List ℕ → List ℕ → List ℕ → Left
+leaves l n a w k = record { call = l; number = n; answers = a; work = w; links = k }
+
+abbrev pub roomy : SolverKind → Call → Call
+roomy e l =
+    record {
+      pieces = l .pieces;
+      board = l .board;
+      bytes = l .bytes;
+      config = record { «identify_transformed_answers» = false; «identify_mirrored_answers» = false; solver = e };
+      skip = 0;
+      answers = 7 ∷ 7 ∷ 7 ∷ [];
+      work = replicate 8194 7;
+      links = replicate 32769 7;
+    }
+
+unfoldable pub afterwards : List Left
+afterwards =
+    leaves (roomy Fast plain) 0 (0 ∷ 0 ∷ 7 ∷ []) (replicate 8192 0 ++ 7 ∷ 7 ∷ []) (replicate 32769 7) ∷
+    leaves (roomy KnuthAlgorithm plain) 0 (0 ∷ 0 ∷ 7 ∷ []) (replicate 8192 0 ++ 7 ∷ 7 ∷ []) (replicate 32768 0 ++ 7 ∷ []) ∷
+    leaves (roomy Auto plain) 11 (7 ∷ 7 ∷ 7 ∷ []) (replicate 8194 7) (replicate 32769 7) ∷
+    []
+
+unfoldable pub isLeft : Left → Bool
+isLeft x =
+    let o = outcome (x .call) in
+    eqb (o .number) (x .number) && (same (o .answers) (x .answers) && (same (o .work) (x .work) && same (o .links) (x .links)))
+
+-- ---- the counts of 14 and 15
+-- a tray, its placements and its links
+pub record Counted : Type 0 where
+  pub board : Lent
+  pub pieces : List Lent
+  pub placements : ℕ
+  pub links : ℕ
+
+abbrev pub counted : Lent → List Lent → ℕ → ℕ → Counted
+counted b ps n k = record { board = b; pieces = ps; placements = n; links = k }
+
+unfoldable pub counts : List Counted
+counts =
+    -- one kind counts once, however many pieces are of it; a kind without copies counts for 14 and has no rows for 15
+    counted (board 1 2 3 (cells 6 111111)) (D 1 ∷ piece 1 1 2 1 (cells 2 11) ∷ piece 0 2 1 1 (cells 2 11) ∷ []) 7 28 ∷
+    counted (board 1 2 3 (cells 6 111111)) (D 0 ∷ []) 7 7 ∷
+    counted (board 1 2 3 (cells 6 111111)) (M 0 ∷ D 2 ∷ []) 13 29 ∷
+    counted (board 2 2 2 (cells 8 11111111)) (piece 1 2 2 2 (cells 8 11100100) ∷ piece 0 2 2 2 (cells 8 11100010) ∷ D 1 ∷ []) 36 107 ∷
+    counted (board 1 3 3 (cells 9 111101111)) (D 1 ∷ piece 1 1 2 2 (cells 4 1110) ∷ []) 12 50 ∷
+    []
+
+unfoldable pub isCounted : Counted → Bool
+isCounted x =
+    let c = compile (trayOf (callOn (x .board) (x .pieces) false false Fast 0 0)) in
+    eqb (placementCount c) (x .placements) && eqb (linkCount c) (x .links)
