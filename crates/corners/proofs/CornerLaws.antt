@@ -13,7 +13,8 @@ use Rattle.definitions.specs.Answers.{taken, copyOn, answer}
 use Rattle.definitions.specs.Page.{page}
 use Rattle.definitions.specs.Refusals.{sidesOf, gridOf, trayOf, identifies, identifyOf, isSide, sidesFit, cellsLie, areBits, someFilled, filledWhere, isTight, copyCount, boardCellCount, isPorted, isKnuth, placementCount, rowsOf, linkCount, table, refusal}
 use Rattle.definitions.specs.Outcomes.{answersOf, answerSize, capacity, pageOf, overStart, refused, accepted, outcome}
-use Rattle.definitions.specs.Fillings.{callOn, lists}
+use Rattle.definitions.specs.Files.{callOn}
+use Rattle.definitions.specs.Fillings.{lists}
 use Rattle.corners.specs.Corners.{corners, callAt, turnsOut}
 
 pub corners-hold : T (all turnsOut corners)

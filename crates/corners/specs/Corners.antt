@@ -8,7 +8,8 @@ use Rattle.definitions.specs.Lists.{each}
 use Rattle.definitions.specs.Kept.{Identify}
 use Rattle.definitions.specs.Kept.Identify.{None, Turned, Mirrored}
 use Rattle.definitions.specs.Refusals.{Call}
-use Rattle.definitions.specs.Fillings.{Lent, piece, board, M, D, callOn, lists}
+use Rattle.definitions.specs.Files.{Written, callOn}
+use Rattle.definitions.specs.Fillings.{piece, board, M, D, lists}
 use Rattle.definitions.specs.Boundaries.{cells}
 use Rattle.definitions.specs.declared.SolverKind.{SolverKind}
 use Rattle.definitions.specs.declared.SolverKind.the-variants.{Fast, KnuthAlgorithm}
@@ -23,15 +24,15 @@ bytesOf ns = each ns (λ n. cond (eqb n gap) (255 ∷ 255 ∷ []) (n / 10 ∷ n 
 -- a tray, a skip, the answers that fit (and a byte more), whether a further one follows, and what Fast and Knuth write
 pub record Corner : Type 0 where
   pub identify : Identify
-  pub board : Lent
-  pub pieces : List Lent
+  pub board : Written
+  pub pieces : List Written
   pub skip : ℕ
   pub room : ℕ
   pub further : Bool
   pub fast : List (List ℕ)
   pub knuth : List (List ℕ)
 
-abbrev pub corner : Identify → Lent → List Lent → ℕ → ℕ → Bool → List (List ℕ) → List (List ℕ) → Corner
+abbrev pub corner : Identify → Written → List Written → ℕ → ℕ → Bool → List (List ℕ) → List (List ℕ) → Corner
 corner i b ps skip room further fast knuth =
     record { identify = i; board = b; pieces = ps; skip = skip; room = room; further = further; fast = fast; knuth = knuth }
 

@@ -14,7 +14,8 @@ use Rattle.definitions.specs.Answers.{taken, copyOn, answer}
 use Rattle.definitions.specs.Page.{page}
 use Rattle.definitions.specs.Refusals.{sidesOf, gridOf, trayOf, identifies, identifyOf, isSide, sidesFit, cellsLie, areBits, someFilled, filledWhere, isTight, copyCount, boardCellCount, isPorted, isKnuth, placementCount, rowsOf, linkCount, table, refusal}
 use Rattle.definitions.specs.Outcomes.{answersOf, answerSize, capacity, pageOf, overStart, refused, accepted, outcome}
-use Rattle.definitions.specs.Fillings.{callOn, fillings, lists, holds}
+use Rattle.definitions.specs.Fillings.{fillings, lists, holds}
+use Rattle.definitions.specs.Files.{callOn}
 use Rattle.definitions.specs.declared.SolverKind.the-variants.{Fast, KnuthAlgorithm}
 
 pub fillings-hold : T (all (λ l. holds Fast l && holds KnuthAlgorithm l) fillings)

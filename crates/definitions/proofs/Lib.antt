@@ -1,3 +1,5 @@
+pub mod FillingLaws
+pub mod BoundaryLaws
 pub mod ListLaws
 pub mod CountLaws
 pub mod MapLaws
@@ -21,10 +23,8 @@ pub mod OrderLaws
 pub mod DemandLaws
 pub mod EmissionLaws
 pub mod SetDownLaws
-pub mod FillingLaws
 pub mod MapNumberLaws
 pub mod KindLaws
 pub mod PlacementLaws
-pub mod BoundaryLaws
 pub mod CarryLaws
 pub mod PruningLaws

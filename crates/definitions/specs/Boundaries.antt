@@ -1,6 +1,8 @@
--- What the marked lines leave open of the table of refusals, as tables that antt computes (proofs/BoundaryLaws): each refusal and its boundary; pairs of
--- refusals that apply at once; the slices afterwards; the counts of 14 and 15. (Trays at the limits of 14 and 15 are too large to compute here.)
-use Prim.Native.Nat.{ℕ, zero, suc, _/_, _%_}
+-- What the marked lines leave open, as tables that antt computes (proofs/BoundaryLaws): each refusal and its boundary; pairs of refusals that apply at
+-- once; the slices afterwards; the counts of 14 and 15 (trays at their limits are too large to compute here); pages; files. More lists and pages, of trays
+-- that take longer, are in the crate corners.
+use Prim.Native.Nat.{ℕ, zero, suc, _+_, _*_, _/_, _%_}
+use Prim.Native.String.{String}
 use mathlib.Core.Bool.{Bool, true, false, _&&_}
 use mathlib.Core.List.{List, [], _∷_, _++_}
 use lib.Dec.{eqb}
@@ -9,7 +11,9 @@ use Rattle.definitions.specs.Lists.{same}
 use Rattle.definitions.specs.Placements.{compile}
 use Rattle.definitions.specs.Refusals.{Call, trayOf, placementCount, linkCount, refusal}
 use Rattle.definitions.specs.Outcomes.{Outcome, outcome}
-use Rattle.definitions.specs.Fillings.{Lent, piece, board, M, D, callOn}
+use Rattle.definitions.specs.Texts.{text}
+use Rattle.definitions.specs.Fillings.{Line, piece, board, M, D, none, mirrored, lists}
+use Rattle.definitions.specs.Files.{Written, callOn, packed}
 use Rattle.definitions.specs.declared.SolverKind.{SolverKind}
 use Rattle.definitions.specs.declared.SolverKind.the-variants.{Auto, Naive, Fast, KnuthAlgorithm}
 use Rattle.definitions.specs.declared.Record.{Record}
@@ -192,12 +196,12 @@ isLeft x =
 -- ---- the counts of 14 and 15
 -- a tray, its placements and its links
 pub record Counted : Type 0 where
-  pub board : Lent
-  pub pieces : List Lent
+  pub board : Written
+  pub pieces : List Written
   pub placements : ℕ
   pub links : ℕ
 
-abbrev pub counted : Lent → List Lent → ℕ → ℕ → Counted
+abbrev pub counted : Written → List Written → ℕ → ℕ → Counted
 counted b ps n k = record { board = b; pieces = ps; placements = n; links = k }
 
 unfoldable pub counts : List Counted
@@ -214,3 +218,95 @@ unfoldable pub isCounted : Counted → Bool
 isCounted x =
     let c = compile (trayOf (callOn (x .board) (x .pieces) false false Fast 0 0)) in
     eqb (placementCount c) (x .placements) && eqb (linkCount c) (x .links)
+
+-- ---- pages of document 01's listing
+-- skip, answers that fit, the answers written, whether a further one follows
+pub record Paged : Type 0 where
+  pub skip : ℕ
+  pub room : ℕ
+  pub answers : List (List ℕ)
+  pub further : Bool
+
+abbrev pub paged : ℕ → ℕ → List (List ℕ) → Bool → Paged
+paged skip room answers further = record { skip = skip; room = room; answers = answers; further = further }
+
+abbrev pub entry₀ : List ℕ
+entry₀ = 0 ∷ 0 ∷ 1 ∷ 0 ∷ 1 ∷ 0 ∷ []
+
+abbrev pub entry₁ : List ℕ
+entry₁ = 1 ∷ 0 ∷ 1 ∷ 0 ∷ 0 ∷ 0 ∷ []
+
+unfoldable pub pages : List Paged
+pages =
+    paged 0 0 [] true ∷
+    paged 0 1 (entry₀ ∷ []) true ∷
+    paged 0 2 (entry₀ ∷ entry₁ ∷ []) false ∷
+    paged 0 3 (entry₀ ∷ entry₁ ∷ []) false ∷
+    paged 1 0 [] true ∷
+    paged 1 1 (entry₁ ∷ []) false ∷
+    paged 1 2 (entry₁ ∷ []) false ∷
+    paged 2 0 [] false ∷
+    paged 2 1 [] false ∷
+    paged 18446744073709551615 1 [] false ∷
+    []
+
+-- the buffer has five bytes more than fit whole answers
+unfoldable pub isPaged : SolverKind → Paged → Bool
+isPaged e x = lists (x .answers) (x .further) (callOn (board 1 1 3 (cells 3 111)) (M 1 ∷ D 1 ∷ []) false false e (x .skip) (x .room * 6 + 5))
+
+-- ---- files
+-- the bytes read, and the bytes printed
+pub record Printed : Type 0 where
+  pub read : List ℕ
+  pub prints : List ℕ
+
+abbrev pub prints : String → String → Printed
+prints s t = record { read = text s; prints = text t }
+
+unfoldable pub files : List Printed
+files =
+    -- document 01's listing; `turned`; the other engine, pieces lent in the other order
+    prints "config\tfast\tnone\nboard\t1\t1\t3\t111\npiece\t1\t1\t1\t1\t1\npiece\t1\t1\t1\t2\t11\n" "0\t0.0 1.0 1.0\n1\t1.0 1.0 0.0\npackings\t2\n" ∷
+    prints "config\tfast\tturned\nboard\t1\t1\t3\t111\npiece\t1\t1\t1\t1\t1\npiece\t1\t1\t1\t2\t11\n" "0\t0.0 1.0 1.0\npackings\t1\n" ∷
+    prints "config\tknuth\tnone\nboard\t1\t1\t3\t111\npiece\t1\t1\t1\t2\t11\npiece\t1\t1\t1\t1\t1\n" "0\t1.0 0.0 0.0\n1\t0.0 0.0 1.0\npackings\t2\n" ∷
+    -- an unfilled cell; no packing; `mirrored` identifies turned packings too; leading zeros
+    prints "config\tfast\tmirrored\nboard\t1\t1\t2\t10\npiece\t000000001\t001\t1\t1\t1\n" "0\t0.0 -\npackings\t1\n" ∷
+    prints "config\tknuth\tnone\nboard\t1\t1\t1\t1\npiece\t0\t1\t1\t1\t1\n" "packings\t0\n" ∷
+    -- refusals: no piece; sides of 0 (with no cells) and 9
+    prints "config\tfast\tnone\nboard\t1\t1\t1\t1\n" "refused\t1\n" ∷
+    prints "config\tfast\tnone\nboard\t1\t0\t1\t\npiece\t1\t1\t1\t1\t1\n" "refused\t3\n" ∷
+    prints "config\tfast\tnone\nboard\t1\t1\t9\t111111111\npiece\t1\t1\t1\t1\t1\n" "refused\t3\n" ∷
+    -- malformed: nothing; no board; a line not ended, an empty line, a carriage return; words; fields; digits; cells
+    prints "" "refused\t16\n" ∷
+    prints "\n" "refused\t16\n" ∷
+    prints "config\tfast\tnone\n" "refused\t16\n" ∷
+    prints "config\tfast\tnone\nboard\t1\t1\t1\t1\npiece\t1\t1\t1\t1\t1" "refused\t16\n" ∷
+    prints "config\tfast\tnone\nboard\t1\t1\t1\t1\n\npiece\t1\t1\t1\t1\t1\n" "refused\t16\n" ∷
+    prints "config\tfast\tnone\nboard\t1\t1\t1\t1\npiece\t1\t1\t1\t1\t1\n\n" "refused\t16\n" ∷
+    prints "config\tfast\tnone\r\nboard\t1\t1\t1\t1\npiece\t1\t1\t1\t1\t1\n" "refused\t16\n" ∷
+    prints "config\tauto\tnone\nboard\t1\t1\t1\t1\npiece\t1\t1\t1\t1\t1\n" "refused\t16\n" ∷
+    prints "config\tfast\nboard\t1\t1\t1\t1\npiece\t1\t1\t1\t1\t1\n" "refused\t16\n" ∷
+    prints "config\tfast\tnone\t\nboard\t1\t1\t1\t1\npiece\t1\t1\t1\t1\t1\n" "refused\t16\n" ∷
+    prints "board\t1\t1\t1\t1\nconfig\tfast\tnone\npiece\t1\t1\t1\t1\t1\n" "refused\t16\n" ∷
+    prints "config\tfast\tnone\npiece\t1\t1\t1\t1\t1\nboard\t1\t1\t1\t1\n" "refused\t16\n" ∷
+    prints "config\tfast\tnone\nboard\t1\t1\t1\t1\npiece\t1\t1\t1\t1\n" "refused\t16\n" ∷
+    prints "config\tfast\tnone\nboard\t0001\t1\t1\t1\npiece\t1\t1\t1\t1\t1\n" "refused\t16\n" ∷
+    prints "config\tfast\tnone\nboard\t1\t1\t1\t1\npiece\t0000000001\t1\t1\t1\t1\n" "refused\t16\n" ∷
+    prints "config\tfast\tnone\nboard\t1\t1\t1\t1\npiece\t\t1\t1\t1\t1\n" "refused\t16\n" ∷
+    prints "config\tfast\tnone\nboard\t1\t1\t1\t1\npiece\t+1\t1\t1\t1\t1\n" "refused\t16\n" ∷
+    prints "config\tfast\tnone\nboard\t1\t1\t1\t1\npiece\t1\t1\t1\t1\t2\n" "refused\t16\n" ∷
+    prints "config\tfast\tnone\nboard\t1\t1\t2\t1\npiece\t1\t1\t1\t1\t1\n" "refused\t16\n" ∷
+    prints "config\tfast\tnone\nboard\t999\t999\t999\t1\npiece\t1\t1\t1\t1\t1\n" "refused\t16\n" ∷
+    []
+
+unfoldable pub isPrinted : Printed → Bool
+isPrinted x = same (packed (x .read)) (x .prints)
+
+-- ---- two more trays, for both engines
+-- a handed piece whose partner is not in the box, on a board that a mirroring brings onto itself; a piece of five cells
+unfoldable pub moreFillings : List Line
+moreFillings =
+    mirrored (board 2 2 2 (cells 8 00111111)) (piece 1 2 2 2 (cells 8 11100100) ∷ D 1 ∷ [])
+    ((255 ∷ 255 ∷ 255 ∷ 255 ∷ 0 ∷ 0 ∷ 0 ∷ 0 ∷ 1 ∷ 0 ∷ 0 ∷ 0 ∷ 1 ∷ 0 ∷ 0 ∷ 0 ∷ []) ∷ []) ∷
+    none (board 1 1 5 (cells 5 11111)) (piece 1 1 1 5 (cells 5 11111) ∷ []) ((0 ∷ 0 ∷ 0 ∷ 0 ∷ 0 ∷ 0 ∷ 0 ∷ 0 ∷ 0 ∷ 0 ∷ []) ∷ []) ∷
+    []

@@ -1,74 +1,44 @@
 -- Document 01, "Fillings to hold it to": the lines marked to be proved, as one table. proofs/FillingLaws has the one theorem, which antt computes. Each line
 -- is held for both engines. M is one cell, D two in a row.
-use Prim.Native.Nat.{ℕ, _+_}
+use Prim.Native.Nat.{ℕ}
 use mathlib.Core.Bool.{Bool, true, false, not, _&&_}
-use mathlib.Core.List.{List, [], _∷_, _++_, map}
+use mathlib.Core.List.{List, [], _∷_, _++_}
 use lib.Dec.{eqb}
-use lib.ListN.{length, drop, replicate}
+use lib.ListN.{length, drop}
 use Rattle.definitions.specs.Lists.{same, joined}
 use Rattle.definitions.specs.Refusals.{Call}
+use Rattle.definitions.specs.Files.{Written, callOn}
 use Rattle.definitions.specs.Outcomes.{Outcome, outcome}
 use Rattle.definitions.specs.declared.SolverKind.{SolverKind}
 use Rattle.definitions.specs.declared.SolverKind.the-variants.{Fast, KnuthAlgorithm}
-use Rattle.definitions.specs.declared.Record.{Record}
 
--- a grid with a count, as it is written in a tray's file; and records for such grids, whose cells are lent one after the other from a place on
-pub record Lent : Type 0 where
-  pub count : ℕ
-  pub a : ℕ
-  pub b : ℕ
-  pub c : ℕ
-  pub cells : List ℕ
-
-abbrev pub piece : ℕ → ℕ → ℕ → ℕ → List ℕ → Lent
+abbrev pub piece : ℕ → ℕ → ℕ → ℕ → List ℕ → Written
 piece n i j k cells = record { count = n; a = i; b = j; c = k; cells = cells }
 
-abbrev pub board : ℕ → ℕ → ℕ → List ℕ → Lent
+abbrev pub board : ℕ → ℕ → ℕ → List ℕ → Written
 board i j k cells = piece 0 i j k cells
 
-abbrev pub M : ℕ → Lent
+abbrev pub M : ℕ → Written
 M n = piece n 1 1 1 (1 ∷ [])
 
-abbrev pub D : ℕ → Lent
+abbrev pub D : ℕ → Written
 D n = piece n 1 1 2 (1 ∷ 1 ∷ [])
-
-abbrev pub recordAt : ℕ → Lent → Record
-recordAt at g = record { a = g .a; b = g .b; c = g .c; count = g .count; start = at }
-
-abbrev pub recordsFrom : ℕ → List Lent → List Record
-recordsFrom at [] = []
-recordsFrom at (g ∷ gs) = recordAt at g ∷ recordsFrom (at + length (g .cells)) gs
-
--- a call on a tray: the pieces' cells are lent first, then the board's
-unfoldable pub callOn : Lent → List Lent → Bool → Bool → SolverKind → ℕ → ℕ → Call
-callOn b ps turned mirrored engine skip room =
-    let bytes = joined (map (λ (g : Lent). g .cells) ps) in
-    record {
-      pieces = recordsFrom 0 ps;
-      board = recordAt (length bytes) b;
-      bytes = bytes ++ b .cells;
-      config = record { «identify_transformed_answers» = turned; «identify_mirrored_answers» = mirrored; solver = engine };
-      skip = skip;
-      answers = replicate room 7;
-      work = replicate 8192 7;
-      links = replicate 32768 7;
-    }
 
 -- a line: a tray, whether turned and mirrored packings are identified, and the answers that the page is to hold
 pub record Line : Type 0 where
-  pub board : Lent
-  pub pieces : List Lent
+  pub board : Written
+  pub pieces : List Written
   pub turned : Bool
   pub mirrored : Bool
   pub answers : List (List ℕ)
 
-abbrev pub none : Lent → List Lent → List (List ℕ) → Line
+abbrev pub none : Written → List Written → List (List ℕ) → Line
 none b ps xs = record { board = b; pieces = ps; turned = false; mirrored = false; answers = xs }
 
-abbrev pub turned : Lent → List Lent → List (List ℕ) → Line
+abbrev pub turned : Written → List Written → List (List ℕ) → Line
 turned b ps xs = record { board = b; pieces = ps; turned = true; mirrored = false; answers = xs }
 
-abbrev pub mirrored : Lent → List Lent → List (List ℕ) → Line
+abbrev pub mirrored : Written → List Written → List (List ℕ) → Line
 mirrored b ps xs = record { board = b; pieces = ps; turned = true; mirrored = true; answers = xs }
 
 unfoldable pub fillings : List Line

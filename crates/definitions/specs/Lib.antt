@@ -17,5 +17,7 @@ pub mod MovesAndMaps
 pub mod PlacementsRight
 pub mod Emission
 pub mod Pruning
+pub mod Texts
+pub mod Files
 pub mod Fillings
 pub mod Boundaries
