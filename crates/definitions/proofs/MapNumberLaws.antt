@@ -1,19 +1,22 @@
 -- Each sequence of moves acts as the map with some number below 48, and each number's map is the action of a sequence. Assumes nothing.
-use Prim.Native.Nat.{ℕ, _<_}
-use mathlib.Core.Bool.{Bool, true, false}
-use mathlib.Core.List.{List, [], _∷_, map, List·Memᴰ}
-use mathlib.Core.Path.{_≡_, sym, ap, _∙_, subst}
+use Prim.Native.Nat.{ℕ, _<_, _≤_}
+use mathlib.Core.Bool.{Bool, true, false, not, _&&_}
+use mathlib.Core.List.{List, [], _∷_, map, List·Memᴰ, Memᴰ·cast}
+use mathlib.Core.Path.{_≡_, refl, sym, ap, _∙_, subst}
+use mathlib.Core.Logic.{_⊎_, inl, inr}
 use native.Mathlib.Omega.{arith}
-use lib.Dec.{T, leb, leb→le, le→leb}
+use lib.Dec.{T, ltb, leb, leb→le, le→leb, ltb→lt, nltb→le}
+use lib.ListN.{length, List·getD-eq-default}
 use Rattle.definitions.specs.Lists.{all, any, below, from}
-use Rattle.definitions.proofs.ListLaws.{all-at, any-at, is-true, is-false, from-at, below-of}
-use Rattle.definitions.specs.Grid.{Sides}
-use Rattle.definitions.specs.Maps.{Map, mapSides, mapCell, mapGrid, permutations, transform, parity, turns, mirrorings, maps, mapOf, identity, isMirroring}
+use Rattle.definitions.proofs.ListLaws.{all-at, any-at, is-true, is-false, from-at, below-of, decide, and-left, and-right}
+use Rattle.definitions.specs.Grid.{Sides, Grid}
+use Rattle.definitions.specs.Maps.{Map, mapSides, mapCell, mapGrid, permutations, transform, parity, turns, mirrorings, maps, mapOf, identity, product, inverse, axisAt, flipAt, axisOf, flipOf, isMirroring}
 use Rattle.definitions.specs.Moves.{Move, sidesAfterAll, isOdd}
 use Rattle.definitions.specs.Moves.Move.{turn, mirroring}
 use Rattle.definitions.specs.MovesAndMaps.{ActsAs, MovesAreMaps}
-use Rattle.definitions.proofs.GroupLaws.{identity-sides, product-sides, sameMap, sameMap→eq, codeOf, inMaps, in-maps}
-use Rattle.definitions.proofs.ActLaws.{mapsOf, flips-of}
+use Rattle.definitions.proofs.MapLaws.{Fits}
+use Rattle.definitions.proofs.GroupLaws.{isFlips, identity-turn, identity-sides, product-sides, sameMap, sameMap→eq, codeOf, inMaps, in-maps}
+use Rattle.definitions.proofs.ActLaws.{mapsOf, fits-of, flips-of, product-on}
 use Rattle.definitions.proofs.MoveLaws.{moveMap, oddMove, move-in, move-sides, movesMap, moves-in, moves-cell, moves-grid, turn-moves, mirroring-moves, turns-alone}
 
 -- ---- sides after a sequence
@@ -62,6 +65,63 @@ in-turns n h = subst (λ (b : Bool). List·Memᴰ (mapOf n) (mapsOf b)) (is-fals
 in-mirrorings : (n : ℕ) → n < 48 → T (isMirroring n) → List·Memᴰ (mapOf n) mirrorings
 in-mirrorings n h t = subst (λ (b : Bool). List·Memᴰ (mapOf n) (mapsOf b)) (is-true (isMirroring n) t) (number-in n h)
 
+-- ---- any number: from 48 on it stands for the map that moves nothing
+maps-length : length maps ≡ 48
+unfolding maps turns mirrorings transform permutations parity
+maps-length = refl
+
+pub past-maps : (n : ℕ) → 48 ≤ n → mapOf n ≡ identity
+unfolding mapOf
+past-maps n h = List·getD-eq-default maps identity (let e = maps-length in omega arith)
+
+pub map-in : (n : ℕ) → (odd : Bool) × List·Memᴰ (mapOf n) (mapsOf odd)
+map-in n = go (decide (ltb n 48))
+  where
+    go : T (ltb n 48) ⊎ T (not (ltb n 48)) → (odd : Bool) × List·Memᴰ (mapOf n) (mapsOf odd)
+    go (inl t) = (isMirroring n, number-in n (ltb→lt n 48 t))
+    go (inr t) = (false, Memᴰ·cast (past-maps n (nltb→le n 48 t)) identity-turn)
+
+pub map-fits : (n : ℕ) → Fits (mapOf n)
+map-fits n = let r = map-in n in fits-of (r .0) (mapOf n) (r .1)
+
+pub map-flips : (n : ℕ) → T (isFlips (mapOf n))
+map-flips n = let r = map-in n in flips-of (r .0) (mapOf n) (r .1)
+
+-- a product of the maps of two numbers acts as they do one after the other
+pub map-product-grid : (m n : ℕ) (g : Grid) → mapGrid (product (mapOf m) (mapOf n)) g ≡ mapGrid (mapOf m) (mapGrid (mapOf n) g)
+map-product-grid m n g = let r = map-in m in let k = map-in n in sym (product-on (r .0) (k .0) (mapOf m) (mapOf n) (r .1) (k .1) g)
+
+-- ---- the inverse undoes a map, by the whole table
+undone : Map → Bool
+undone m = sameMap (product (inverse m) m) identity && (sameMap (product m (inverse m)) identity && isFlips (inverse m))
+
+each-undone : (odd : Bool) → T (all undone (mapsOf odd))
+unfolding undone sameMap codeOf isFlips product axisAt flipAt inverse axisOf flipOf identity turns mirrorings transform permutations parity
+each-undone false = tt
+each-undone true = tt
+
+module _ (n : ℕ) where
+  is-undone : T (undone (mapOf n))
+  is-undone = let r = map-in n in all-at undone (mapsOf (r .0)) (each-undone (r .0)) (r .1)
+
+  pub inverse-before : product (inverse (mapOf n)) (mapOf n) ≡ identity
+  unfolding undone
+  inverse-before = sameMap→eq (product (inverse (mapOf n)) (mapOf n)) identity (and-left (sameMap (product (inverse (mapOf n)) (mapOf n)) identity) _ is-undone)
+
+  pub inverse-after : product (mapOf n) (inverse (mapOf n)) ≡ identity
+  unfolding undone
+  inverse-after =
+      sameMap→eq (product (mapOf n) (inverse (mapOf n))) identity
+      (and-left (sameMap (product (mapOf n) (inverse (mapOf n))) identity) (isFlips (inverse (mapOf n))) (and-right (sameMap (product (inverse (mapOf n)) (mapOf n)) identity) _ is-undone))
+
+  pub inverse-flips : T (isFlips (inverse (mapOf n)))
+  unfolding undone
+  inverse-flips =
+      and-right (sameMap (product (mapOf n) (inverse (mapOf n))) identity) (isFlips (inverse (mapOf n))) (and-right (sameMap (product (inverse (mapOf n)) (mapOf n)) identity) _ is-undone)
+
+  pub sides-back : (s : Sides) → mapSides (inverse (mapOf n)) (mapSides (mapOf n) s) ≡ s
+  sides-back s = product-sides (inverse (mapOf n)) (mapOf n) inverse-flips (map-flips n) s ∙ ap (λ (m : Map). mapSides m s) inverse-before ∙ identity-sides s
+
 -- ---- a sequence with a number's map acts as that number
 acts-as : (ms : List Move) (n : ℕ) → movesMap ms ≡ mapOf n → ActsAs ms n
 acts-as ms n e =
@@ -70,6 +130,13 @@ acts-as ms n e =
       cells = λ s u b. moves-cell ms s u b ∙ ap (λ (m : Map). mapCell m s u) e;
       grids = λ g t w. moves-grid ms g t w ∙ ap (λ (m : Map). mapGrid m g) e;
     }
+
+pub map-done : (n : ℕ) → (ms : List Move) × ActsAs ms n
+map-done n = go (map-in n .0) (map-in n .1)
+  where
+    go : (odd : Bool) → List·Memᴰ (mapOf n) (mapsOf odd) → (ms : List Move) × ActsAs ms n
+    go false k = let r = turn-moves (mapOf n) k in (map turn (r .0), acts-as (map turn (r .0)) n (r .1))
+    go true k = let r = mirroring-moves (mapOf n) k in (mirroring (r .0) ∷ [], acts-as (mirroring (r .0) ∷ []) n (r .1))
 
 pub moves-are-maps : MovesAreMaps
 moves-are-maps =

@@ -34,9 +34,12 @@ volume s = s .a * s .b * s .c
 abbrev pub InBox : Sides → Cell → Type 0
 InBox s u = (u .x < s .a) × (u .y < s .b) × (u .z < s .c)
 
--- the byte of a cell, and the grid with the byte f u at each cell u
+-- the place of a cell among those of its box, the byte of a cell, and the grid with the byte f u at each cell u
+abbrev pub placeOf : Sides → Cell → ℕ
+placeOf s u = (u .x * s .b + u .y) * s .c + u .z
+
 unfoldable pub byteAt : Grid → Cell → ℕ
-byteAt g u = getD (g .cells) ((u .x * g .sides .b + u .y) * g .sides .c + u .z) 0
+byteAt g u = getD (g .cells) (placeOf (g .sides) u) 0
 
 unfoldable pub gridWith : Sides → (Cell → ℕ) → Grid
 gridWith s f = record { sides = s; cells = map f (box s) }

@@ -1,0 +1,107 @@
+#!/bin/sh
+# Runs the known results: document 01's fillings and the counts of well-known
+# trays, with the original and with the model. Exit status 1 on any difference.
+#   known.sh        about a minute
+#   known.sh long   also Conway's 5 by 5 by 5, about a minute more
+cd "$(dirname "$0")" || exit 1
+cargo build --release --offline --quiet || exit 1
+oracle=target/release/oracle
+failed=0
+got=$(mktemp) || exit 1
+trap 'rm -f "$got"' EXIT
+
+differs() {
+    echo "DIFFERS: $1"
+    failed=1
+}
+
+# Trays with a listing beside them: the model prints it byte for byte, and so
+# does the original, save where it is known to panic.
+for listing in trays/*.listing; do
+    tray=${listing%.listing}.tray
+    python3 model.py <"$tray" >"$got"
+    cmp -s "$got" "$listing" || differs "$tray (model)"
+    "$oracle" <"$tray" >"$got"
+    case $tray in
+    trays/no_copies_knuth.tray | trays/spare_handed_*.tray)
+        [ "$(cat "$got")" = panic ] || differs "$tray (original, panic expected)" ;;
+    *)
+        cmp -s "$got" "$listing" || differs "$tray (original)" ;;
+    esac
+done
+
+# under TRAY ENGINE IDENTIFIED: the tray with that first line
+under() {
+    printf 'config\t%s\t%s\n' "$2" "$3"
+    tail -n +2 "trays/$1.tray"
+}
+
+# last TRAY ENGINE IDENTIFIED EXPECTED: the original's last line
+last() {
+    line=$(under "$1" "$2" "$3" | "$oracle" | tail -n 1)
+    [ "$line" = "$(printf "$4")" ] || differs "$1 $2 $3: $line"
+}
+
+# counts TRAY NONE TURNED MIRRORED: how many packings, with both engines
+counts() {
+    for engine in fast knuth; do
+        last "$1" $engine none "packings\t$2"
+        last "$1" $engine turned "packings\t$3"
+        last "$1" $engine mirrored "packings\t$4"
+    done
+}
+
+# limits TRAY PLACEMENTS LINKS
+limits() {
+    numbers=$(python3 model.py limits <"trays/$1.tray")
+    [ "$numbers" = "$(printf 'placements\t%s\nlinks\t%s' "$2" "$3")" ] || differs "$1: $numbers"
+}
+
+counts soma 11520 480 240
+counts tetracubes 11120 1390 695
+counts slothouber_graatsma 8 1 1
+counts dominoes 6728 930 930
+counts t_tetrominoes 84 15 15
+limits soma 688 3330
+limits tetracubes 666 3370
+limits slothouber_graatsma 63 263
+limits dominoes 60 217
+limits t_tetrominoes 168 905
+limits conway 769 4965
+last conway knuth none "refused\t15"
+
+# The long listings agree with the model line for line.
+for tray in soma tetracubes t_tetrominoes; do
+    for identified in none turned mirrored; do
+        for engine in fast knuth; do
+            under $tray $engine $identified | python3 model.py >"$got"
+            under $tray $engine $identified | "$oracle" | cmp -s - "$got" ||
+                differs "$tray $engine $identified (model)"
+        done
+    done
+done
+
+if [ "$1" = long ]; then
+    last conway fast none "packings\t27456"
+    last conway fast turned "packings\t1144"
+    last conway fast mirrored "packings\t572"
+fi
+
+# page SKIP CAPACITY EXPECTED: a page of the listing's two entries, by the model
+page() {
+    lines=$(python3 model.py page "$1" "$2" <trays/listing.tray)
+    [ "$lines" = "$(printf "$3")" ] || differs "page $1 $2: $lines"
+}
+
+page 0 0 "written\t0\nfollows\tyes"
+page 0 1 "0\t0.0 1.0 1.0\nwritten\t1\nfollows\tyes"
+page 1 1 "1\t1.0 1.0 0.0\nwritten\t1\nfollows\tno"
+page 1 9 "1\t1.0 1.0 0.0\nwritten\t1\nfollows\tno"
+page 2 1 "written\t0\nfollows\tno"
+page 18446744073709551615 1 "written\t0\nfollows\tno"
+
+# Refusals that no file reaches, 8,191 work words among them.
+cargo test --release --offline --quiet --lib >"$got" 2>&1 || differs "cargo test"
+
+[ $failed = 0 ] && echo "known results: all come out"
+exit $failed

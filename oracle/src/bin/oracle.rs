@@ -1,0 +1,11 @@
+//! Reads a tray in the file format of `pack` and prints what `pack` is to print,
+//! or the single line `panic` where the original panics.
+
+use std::io::{self, Read, Write};
+
+fn main() -> io::Result<()> {
+    oracle::listing::silence_panics();
+    let mut file = vec![];
+    io::stdin().read_to_end(&mut file)?;
+    io::stdout().write_all(oracle::listing::of_file(&file).as_bytes())
+}

@@ -1,0 +1,68 @@
+//! What `pack` prints, with the original's `solve` behind it.
+
+use std::fmt::Write;
+use std::panic;
+
+use crate::placements::shape;
+use crate::refusals::{refusal_of_tray, MALFORMED};
+use crate::shape::{Answer, Shape};
+use crate::solver::{self, SolverKind};
+use crate::tray::{self, Engine, Tray};
+
+pub const PANIC: &str = "panic\n";
+
+/// What `pack` is to print for a file, or `panic` where the original panics.
+pub fn of_file(file: &[u8]) -> String {
+    match tray::parse(file, tray::config_of_file) {
+        None => refused(MALFORMED),
+        Some(tray) => match refusal_of_tray(&tray) {
+            Some(number) => refused(number),
+            None => of_original(&tray),
+        },
+    }
+}
+
+pub fn refused(number: u8) -> String {
+    format!("refused\t{number}\n")
+}
+
+/// The listing of what the original's `solve` returns, or `panic`.
+pub fn of_original(tray: &Tray) -> String {
+    panic::catch_unwind(|| solve(tray)).unwrap_or_else(|_| PANIC.to_string())
+}
+
+/// The panic message goes nowhere: the line `panic` stands for it.
+pub fn silence_panics() {
+    panic::set_hook(Box::new(|_| {}));
+}
+
+fn solve(tray: &Tray) -> String {
+    let pieces: Vec<Shape> = tray.pieces.iter().map(|piece| shape(&piece.grid)).collect();
+    let counts: Vec<u32> = tray.pieces.iter().map(|piece| piece.count).collect();
+    let config = solver::Config {
+        identify_transformed_answers: tray.config.turned,
+        identify_mirrored_answers: tray.config.mirrored,
+        solver: match tray.config.engine {
+            Engine::Auto => SolverKind::Auto,
+            Engine::Naive => SolverKind::Naive,
+            Engine::Fast => SolverKind::Fast,
+            Engine::Knuth => SolverKind::KnuthAlgorithm,
+        },
+    };
+    let answers = solver::solve(&pieces, &counts, &shape(&tray.board), config);
+
+    let mut listing = String::new();
+    for entry in 0..answers.len() {
+        writeln!(listing, "{entry}\t{}", box_cells(&answers.get(entry))).unwrap();
+    }
+    writeln!(listing, "packings\t{}", answers.len()).unwrap();
+    listing
+}
+
+fn box_cells(answer: &Answer) -> String {
+    let cell = |&owner: &Option<(usize, usize)>| match owner {
+        Some((piece, copy)) => format!("{piece}.{copy}"),
+        None => "-".to_string(),
+    };
+    answer.data.iter().map(cell).collect::<Vec<_>>().join(" ")
+}

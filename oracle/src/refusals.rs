@@ -1,0 +1,227 @@
+//! The refusals 1 to 15 of a call, tested in their order. The original knows none.
+//! (16, a malformed file, is the parser's.)
+
+use crate::placements::{self, kinds};
+use crate::tray::{Config, Engine, Grid, Piece, Tray};
+
+pub const MALFORMED: u8 = 16;
+
+pub const MOST_PIECES: usize = 16;
+pub const LONGEST_SIDE: u32 = 8;
+pub const MOST_COPIES: u64 = 128;
+pub const MOST_FILLED: usize = 128;
+pub const MOST_PLACEMENTS: usize = 1_024;
+pub const MOST_LINKS: usize = 4_096;
+pub const WORK_WORDS: usize = 8_192;
+pub const LINK_NUMBERS: usize = 32_768;
+
+/// A grid as it is lent: sides, count, and where its cells begin.
+#[derive(Clone, Copy, Debug)]
+pub struct Record {
+    pub sides: [u32; 3],
+    pub count: u32,
+    pub start: u64,
+}
+
+/// What a caller lends. Of the work and links slices only the lengths matter.
+pub struct Call<'a> {
+    pub config: Config,
+    pub board: Record,
+    pub pieces: &'a [Record],
+    pub cells: &'a [u8],
+    pub work_words: usize,
+    pub link_numbers: usize,
+}
+
+/// The refusal of a call, None where it is accepted.
+pub fn refusal(call: &Call) -> Option<u8> {
+    let pieces = call.pieces;
+    let grids = || std::iter::once(&call.board).chain(pieces);
+
+    if pieces.is_empty() {
+        return Some(1);
+    }
+    if pieces.len() > MOST_PIECES {
+        return Some(2);
+    }
+    if grids().any(|grid| grid.sides.iter().any(|side| !(1..=LONGEST_SIDE).contains(side))) {
+        return Some(3);
+    }
+    if grids().any(|grid| lent_cells(grid, call.cells).is_none()) {
+        return Some(4);
+    }
+    if grids().any(|grid| lent_cells(grid, call.cells).unwrap().iter().any(|&cell| cell > 1)) {
+        return Some(5);
+    }
+
+    // From here on the grids can be read.
+    let board = read(&call.board, call.cells);
+    let pieces: Vec<Piece> = pieces
+        .iter()
+        .map(|record| Piece { count: record.count, grid: read(record, call.cells) })
+        .collect();
+
+    if pieces.iter().any(|piece| placements::filled_cells(&piece.grid) == 0) {
+        return Some(6);
+    }
+    if pieces.iter().any(|piece| has_empty_outer_layer(&piece.grid)) {
+        return Some(7);
+    }
+    if pieces.iter().map(|piece| u64::from(piece.count)).sum::<u64>() > MOST_COPIES {
+        return Some(8);
+    }
+    let filled = placements::filled_cells(&board);
+    if filled > MOST_FILLED {
+        return Some(9);
+    }
+    let Config { engine, turned, mirrored } = call.config;
+    if mirrored && !turned {
+        return Some(10);
+    }
+    if engine == Engine::Auto || engine == Engine::Naive {
+        return Some(11);
+    }
+    if call.work_words < WORK_WORDS {
+        return Some(12);
+    }
+    if engine == Engine::Knuth && call.link_numbers < LINK_NUMBERS {
+        return Some(13);
+    }
+    let kinds = kinds(&board, &pieces);
+    if kinds.iter().map(|kind| kind.rows.len()).sum::<usize>() > MOST_PLACEMENTS {
+        return Some(14);
+    }
+    if engine == Engine::Knuth && placements::links(filled, &kinds) > MOST_LINKS {
+        return Some(15);
+    }
+    None
+}
+
+/// The refusal of a well-formed file: `pack` lends slices that are big enough.
+pub fn refusal_of_tray(tray: &Tray) -> Option<u8> {
+    let mut cells = vec![];
+    let mut lend = |grid: &Grid, count| {
+        let start = cells.len() as u64;
+        cells.extend(&grid.cells);
+        Record { sides: grid.sides, count, start }
+    };
+    let board = lend(&tray.board, 0);
+    let pieces: Vec<Record> =
+        tray.pieces.iter().map(|piece| lend(&piece.grid, piece.count)).collect();
+    refusal(&Call {
+        config: tray.config,
+        board,
+        pieces: &pieces,
+        cells: &cells,
+        work_words: WORK_WORDS,
+        link_numbers: LINK_NUMBERS,
+    })
+}
+
+/// The cells of a grid with sides 1 to 8, None if they do not all lie in the lent bytes.
+fn lent_cells<'a>(grid: &Record, cells: &'a [u8]) -> Option<&'a [u8]> {
+    let volume: u32 = grid.sides.iter().product();
+    let end = grid.start.checked_add(u64::from(volume))?;
+    cells.get(usize::try_from(grid.start).ok()?..usize::try_from(end).ok()?)
+}
+
+fn read(grid: &Record, cells: &[u8]) -> Grid {
+    Grid { sides: grid.sides, cells: lent_cells(grid, cells).unwrap().to_vec() }
+}
+
+/// Whether the first or last layer across one of the three axes has no filled cell.
+fn has_empty_outer_layer(grid: &Grid) -> bool {
+    let [_, b, c] = grid.sides;
+    (0..3).any(|axis| {
+        let is_filled = |layer: u32| {
+            (0u32..).zip(&grid.cells).any(|(index, &cell)| {
+                let place = [index / (b * c), index / c % b, index % c];
+                cell == 1 && place[axis] == layer
+            })
+        };
+        !is_filled(0) || !is_filled(grid.sides[axis] - 1)
+    })
+}
+
+#[cfg(test)]
+mod tests {
+    use super::*;
+
+    /// One cell in a board of one cell, everything big enough.
+    const CELL: Record = Record { sides: [1, 1, 1], count: 1, start: 0 };
+    const CONFIG: Config = Config { engine: Engine::Knuth, turned: true, mirrored: true };
+
+    fn call<'a>(pieces: &'a [Record], cells: &'a [u8]) -> Call<'a> {
+        let (work_words, link_numbers) = (WORK_WORDS, LINK_NUMBERS);
+        Call { config: CONFIG, board: CELL, pieces, cells, work_words, link_numbers }
+    }
+
+    fn of_pieces(pieces: &[Record]) -> Option<u8> {
+        refusal(&call(pieces, &[1, 0]))
+    }
+
+    #[test]
+    fn accepted() {
+        assert_eq!(of_pieces(&[CELL]), None);
+    }
+
+    #[test]
+    fn the_pieces_and_their_cells() {
+        assert_eq!(of_pieces(&[]), Some(1));
+        assert_eq!(of_pieces(&[CELL; 16]), None);
+        assert_eq!(of_pieces(&[CELL; 17]), Some(2));
+        assert_eq!(of_pieces(&[Record { sides: [1, 0, 1], ..CELL }]), Some(3));
+        assert_eq!(of_pieces(&[Record { sides: [257, 1, 1], ..CELL }]), Some(3));
+        assert_eq!(of_pieces(&[Record { sides: [1, 1, u32::MAX], ..CELL }]), Some(3));
+        assert_eq!(of_pieces(&[Record { start: 1, ..CELL }]), Some(6));
+        assert_eq!(of_pieces(&[Record { start: 2, ..CELL }]), Some(4));
+        assert_eq!(of_pieces(&[Record { start: u64::MAX, ..CELL }]), Some(4));
+        assert_eq!(refusal(&call(&[CELL], &[2])), Some(5));
+        assert_eq!(of_pieces(&[Record { sides: [1, 1, 2], ..CELL }]), Some(7));
+        assert_eq!(of_pieces(&[Record { count: 128, ..CELL }]), None);
+        assert_eq!(of_pieces(&[Record { count: 129, ..CELL }]), Some(8));
+        assert_eq!(of_pieces(&[Record { count: u32::MAX, ..CELL }; 2]), Some(8));
+    }
+
+    #[test]
+    fn the_board_and_the_limits() {
+        let full = [1; 512];
+        let board = |sides| Call { board: Record { sides, ..CELL }, ..call(&[CELL], &full) };
+        assert_eq!(refusal(&board([4, 4, 8])), None);
+        assert_eq!(refusal(&board([3, 6, 8])), Some(9));
+        // Rows of one to eight cells have 960 placements and 4,040 links there; a
+        // square of four by four adds 48 placements, one of two by two 240.
+        let mut rows: Vec<Record> =
+            (1..=8).map(|side| Record { sides: [1, 1, side], ..CELL }).collect();
+        let with = |pieces: &[Record], engine| {
+            refusal(&Call {
+                config: Config { engine, ..CONFIG },
+                board: Record { sides: [4, 4, 8], ..CELL },
+                ..call(pieces, &full)
+            })
+        };
+        assert_eq!(with(&rows, Engine::Knuth), None);
+        rows.push(Record { sides: [1, 4, 4], ..CELL });
+        assert_eq!(with(&rows, Engine::Fast), None);
+        assert_eq!(with(&rows, Engine::Knuth), Some(15));
+        rows.push(Record { sides: [1, 2, 2], ..CELL });
+        assert_eq!(with(&rows, Engine::Fast), Some(14));
+        assert_eq!(with(&rows, Engine::Knuth), Some(14));
+    }
+
+    #[test]
+    fn the_configuration_and_the_lent_lengths() {
+        let with = |config, work_words, link_numbers| {
+            refusal(&Call { config, work_words, link_numbers, ..call(&[CELL], &[1]) })
+        };
+        let (work, links) = (WORK_WORDS, LINK_NUMBERS);
+        let fast = Config { engine: Engine::Fast, ..CONFIG };
+        assert_eq!(with(Config { turned: false, ..CONFIG }, 0, 0), Some(10));
+        assert_eq!(with(Config { engine: Engine::Auto, ..CONFIG }, 0, 0), Some(11));
+        assert_eq!(with(Config { engine: Engine::Naive, ..CONFIG }, 0, 0), Some(11));
+        assert_eq!(with(CONFIG, work - 1, 0), Some(12));
+        assert_eq!(with(CONFIG, work, links - 1), Some(13));
+        assert_eq!(with(fast, work, 0), None);
+        assert_eq!(with(CONFIG, work, links), None);
+    }
+}
