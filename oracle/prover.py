@@ -26,6 +26,8 @@ import sys
 import tempfile
 import time
 
+sys.dont_write_bytecode = True  # nothing is to appear beside the sources
+
 import model
 
 HERE = os.path.dirname(os.path.abspath(__file__))

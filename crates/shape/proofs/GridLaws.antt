@@ -1,0 +1,319 @@
+-- Grids: how numbers, sides and grids compare, the cells of a box by their places, and filled layers. Assumes nothing.
+use Prim.Native.Nat.{ℕ, zero, suc, _+_, _-_, _≤_, _<_}
+use mathlib.Core.Bool.{Bool, true, false, cond, _&&_, _||_}
+use mathlib.Core.List.{List, [], _∷_, map, List·Memᴰ}
+use mathlib.Core.Path.{_≡_, refl, sym, ap, ap₂, _∙_, subst}
+use native.Mathlib.Numerals.{add-one}
+use native.Mathlib.Omega.{arith}
+use borrow.Author.Tests.{lt-ltb, le-ltb, eq-eqb, ne-eqb, eqb-true, eqb-false}
+use lib.Dec.{T, ltb, eqb, eqb→eq, eqb·suc-suc}
+use lib.ListN.{length, getD, drop, drop-of-length-le}
+use lib.Seq.{drop-cons}
+use Rattle.definitions.specs.Lists.{consIf, all, any, keep, howMany, less, same, from, below}
+use Rattle.definitions.specs.Grid.{Sides, Cell, Grid, box, volume, placeOf, byteAt, filledCells, sidesThenCells, sameGrid, gridAhead}
+use Rattle.definitions.specs.Maps.{maps, turns, transform, parity, permutations, mapOf, identity, mapSides, mapGrid, side, coordinate}
+use Rattle.definitions.specs.Refusals.{filledWhere, isTight}
+use Rattle.definitions.proofs.ListLaws.{length-below, same→eq, less-irrefl, any-at, holds, is-false}
+use Rattle.definitions.proofs.MapLaws.{map-map-of, box-at, filled-at, mapped-sides}
+use Rattle.definitions.proofs.MoveLaws.{mapped-whole}
+use Rattle.definitions.proofs.GroupLaws.{map-same, bytes-whole, coordinate-below, identity-grid, sameGrid→eq}
+use Rattle.shape.specs.Coords.{asSides, Fit}
+use Rattle.shape.specs.Places.{cellAt}
+use Rattle.shape.specs.Grids.{Decided, Whole, orderBy, numberOrder, sideList, sidesOrder, gridOrder, endsFilled}
+use Rattle.shape.specs.declared.Coord.{Coord}
+use Rattle.shape.specs.declared.Ordering.{Ordering}
+use Rattle.shape.specs.declared.Ordering.the-variants.{Less, Equal, Greater}
+use Rattle.shape.proofs.PlaceLaws.{cell-at-place, place-lt, place-of-cell, map-volume}
+
+-- ---- as many bytes as cells
+pub whole-test : (s : Coord) (cells : List ℕ) (v : ℕ) → Fit (asSides s) → v ≡ volume (asSides s) → Decided (eqb (length cells) v) (Whole s cells)
+whole-test s cells v f e = go (eqb (length cells) v) refl
+  where
+    go : (b : Bool) → eqb (length cells) v ≡ b → Decided b (Whole s cells)
+    go true h = record { fit = f; size = eqb-true (length cells) v h ∙ e }
+    go false h = λ w. eqb-false (length cells) v h (w .size ∙ sym e)
+
+-- ---- orders: of two in a row, the first that is not Equal decides
+abbrev pub chain : Ordering → Ordering → Ordering
+chain Less o = Less
+chain Equal o = o
+chain Greater o = Greater
+
+chain-assoc : (o p q : Ordering) → chain (chain o p) q ≡ chain o (chain p q)
+chain-assoc Less p q = refl
+chain-assoc Equal p q = refl
+chain-assoc Greater p q = refl
+
+chain-equal : (o : Ordering) → chain o Equal ≡ o
+chain-equal Less = refl
+chain-equal Equal = refl
+chain-equal Greater = refl
+
+abbrev pub listOrder : List ℕ → List ℕ → Ordering
+listOrder xs ys = orderBy (less xs ys) (same xs ys)
+
+order-bits : (x y l e : Bool) → orderBy (x || (y && l)) (y && e) ≡ chain (orderBy x y) (orderBy l e)
+order-bits true y l e = refl
+order-bits false true l e = refl
+order-bits false false l e = refl
+
+pub order-cons : (a b : ℕ) (xs ys : List ℕ) → listOrder (a ∷ xs) (b ∷ ys) ≡ chain (numberOrder a b) (listOrder xs ys)
+unfolding numberOrder
+order-cons a b xs ys = order-bits (ltb a b) (eqb a b) (less xs ys) (same xs ys)
+
+-- numbers
+pub number-less : {a b : ℕ} → a < b → numberOrder a b ≡ Less
+unfolding numberOrder
+number-less {a} {b} h = ap (λ (x : Bool). orderBy x (eqb a b)) (lt-ltb a b h)
+
+pub number-greater : {a b : ℕ} → b < a → numberOrder a b ≡ Greater
+unfolding numberOrder
+number-greater {a} {b} h = ap₂ orderBy (le-ltb a b (omega arith)) (ne-eqb a b (λ e. omega arith))
+
+pub number-equal : {a b : ℕ} → a ≡ b → numberOrder a b ≡ Equal
+unfolding numberOrder
+number-equal {a} {b} h = ap₂ orderBy (le-ltb a b (omega arith)) (eq-eqb a b h)
+
+pub number-decides : {a b : ℕ} → (a ≡ b → ⊥) → (o : Ordering) → chain (numberOrder a b) o ≡ numberOrder a b
+unfolding numberOrder
+number-decides {a} {b} h o = ap (λ (y : Bool). chain (orderBy (ltb a b) y) o) e ∙ go (ltb a b) ∙ ap (orderBy (ltb a b)) (sym e)
+  where
+    e : eqb a b ≡ false
+    e = ne-eqb a b h
+
+    go : (x : Bool) → chain (orderBy x false) o ≡ orderBy x false
+    go true = refl
+    go false = refl
+
+-- sides, and grids: by sides, then cells
+pub sides-order : (s t : Sides) → sidesOrder s t ≡ chain (numberOrder (s .a) (t .a)) (chain (numberOrder (s .b) (t .b)) (numberOrder (s .c) (t .c)))
+unfolding sidesOrder
+sides-order s t =
+    order-cons (s .a) (t .a) (s .b ∷ s .c ∷ []) (t .b ∷ t .c ∷ [])
+    ∙ ap (chain (numberOrder (s .a) (t .a)))
+    (order-cons (s .b) (t .b) (s .c ∷ []) (t .c ∷ []) ∙ ap (chain (numberOrder (s .b) (t .b))) (order-cons (s .c) (t .c) [] [] ∙ chain-equal (numberOrder (s .c) (t .c))))
+
+pub grid-order : (g h : Grid) → gridOrder g h ≡ chain (sidesOrder (g .sides) (h .sides)) (listOrder (g .cells) (h .cells))
+unfolding gridOrder sameGrid gridAhead sidesThenCells
+grid-order g h =
+    order-cons (s .a) (t .a) (s .b ∷ s .c ∷ g .cells) (t .b ∷ t .c ∷ h .cells)
+    ∙ ap (chain x) (order-cons (s .b) (t .b) (s .c ∷ g .cells) (t .c ∷ h .cells) ∙ ap (chain y) (order-cons (s .c) (t .c) (g .cells) (h .cells)))
+    ∙ sym (ap (λ (o : Ordering). chain o r) (sides-order s t) ∙ chain-assoc x (chain y z) r ∙ ap (chain x) (chain-assoc y z r))
+  where
+    s : Sides
+    s = g .sides
+
+    t : Sides
+    t = h .sides
+
+    x : Ordering
+    x = numberOrder (s .a) (t .a)
+
+    y : Ordering
+    y = numberOrder (s .b) (t .b)
+
+    z : Ordering
+    z = numberOrder (s .c) (t .c)
+
+    r : Ordering
+    r = listOrder (g .cells) (h .cells)
+
+sides-same : (s : Sides) → sidesOrder s s ≡ Equal
+sides-same s =
+    sides-order s s ∙ ap₂ chain (number-equal {a = s .a} refl) (ap₂ chain (number-equal {a = s .b} refl) (number-equal {a = s .c} refl))
+
+-- grids with equal sides, by their cells
+pub cells-order : (g h : Grid) → g .sides ≡ h .sides → gridOrder g h ≡ listOrder (g .cells) (h .cells)
+cells-order g h e =
+    grid-order g h
+    ∙ ap (λ (o : Ordering). chain o (listOrder (g .cells) (h .cells))) (ap (λ (t : Sides). sidesOrder (g .sides) t) (sym e) ∙ sides-same (g .sides))
+
+-- lists from place j on
+module _ (xs ys : List ℕ) (j : ℕ) where
+  pub order-at : j < length xs → j < length ys
+      → listOrder (drop j xs) (drop j ys) ≡ chain (numberOrder (getD xs j 0) (getD ys j 0)) (listOrder (drop (j + 1) xs) (drop (j + 1) ys))
+  order-at h k = rw (add-one, drop-cons xs j 0, drop-cons ys j 0) (order-cons (getD xs j 0) (getD ys j 0) (drop (suc j) xs) (drop (suc j) ys))
+
+  pub order-end : length xs ≤ j → length ys ≤ j → listOrder (drop j xs) (drop j ys) ≡ Equal
+  order-end h k = ap₂ listOrder (drop-of-length-le xs h) (drop-of-length-le ys k)
+
+-- what an order tells of being the same
+order-less : (x y : Bool) → orderBy x y ≡ Less → x ≡ true
+order-less true y e = refl
+order-less false true e = let z : _≡_ {A = ℕ} 0 1 = cc in absurd (omega arith)
+order-less false false e = let z : _≡_ {A = ℕ} 0 1 = cc in absurd (omega arith)
+
+order-equal : (x y : Bool) → orderBy x y ≡ Equal → y ≡ true
+order-equal true y e = let z : _≡_ {A = ℕ} 0 1 = cc in absurd (omega arith)
+order-equal false true e = refl
+order-equal false false e = let z : _≡_ {A = ℕ} 0 1 = cc in absurd (omega arith)
+
+order-greater : (x y : Bool) → orderBy x y ≡ Greater → y ≡ false
+order-greater true y e = let z : _≡_ {A = ℕ} 0 1 = cc in absurd (omega arith)
+order-greater false true e = let z : _≡_ {A = ℕ} 0 1 = cc in absurd (omega arith)
+order-greater false false e = refl
+
+pub sides-equal : (s t : Sides) → sidesOrder s t ≡ Equal → s ≡ t
+unfolding sidesOrder sameGrid sidesThenCells
+sides-equal s t e =
+    ap (λ (g : Grid). g .sides)
+    (sameGrid→eq (record { sides = s; cells = [] }) (record { sides = t; cells = [] })
+    (holds (same (sideList s) (sideList t)) (order-equal (less (sideList s) (sideList t)) (same (sideList s) (sideList t)) e)))
+
+-- the order of mapped grids, by the mapped sides
+pub turned-order : (m n : ℕ) (g h : Grid) (o : Ordering) → sidesOrder (mapSides (mapOf m) (g .sides)) (mapSides (mapOf n) (h .sides)) ≡ o
+    → gridOrder (mapGrid (mapOf m) g) (mapGrid (mapOf n) h) ≡ chain o (listOrder (mapGrid (mapOf m) g .cells) (mapGrid (mapOf n) h .cells))
+turned-order m n g h o e =
+    grid-order (mapGrid (mapOf m) g) (mapGrid (mapOf n) h)
+    ∙ ap (λ (o : Ordering). chain o (listOrder (mapGrid (mapOf m) g .cells) (mapGrid (mapOf n) h .cells)))
+    (ap₂ sidesOrder (mapped-sides (mapOf m) g) (mapped-sides (mapOf n) h) ∙ e)
+
+module _ (g h : Grid) where
+  pub same-less : gridOrder g h ≡ Less → sameGrid g h ≡ false
+  unfolding gridOrder sameGrid gridAhead
+  same-less e =
+      is-false (same xs ys) (λ t. less-irrefl xs (subst (λ (l : List ℕ). T (less xs l)) (sym (same→eq xs ys t)) (holds (less xs ys) (order-less (less xs ys) (same xs ys) e))))
+    where
+      xs : List ℕ
+      xs = sidesThenCells g
+
+      ys : List ℕ
+      ys = sidesThenCells h
+
+  pub same-equal : gridOrder g h ≡ Equal → sameGrid g h ≡ true
+  unfolding gridOrder
+  same-equal e = order-equal (gridAhead g h) (sameGrid g h) e
+
+  pub same-greater : gridOrder g h ≡ Greater → sameGrid g h ≡ false
+  unfolding gridOrder
+  same-greater e = order-greater (gridAhead g h) (sameGrid g h) e
+
+-- map 0 moves nothing
+zero-identity : mapOf 0 ≡ identity
+unfolding mapOf maps turns parity permutations transform identity
+zero-identity = refl
+
+pub map-zero : (g : Grid) → length (g .cells) ≡ volume (g .sides) → mapGrid (mapOf 0) g ≡ g
+map-zero g e = ap (λ m. mapGrid m g) zero-identity ∙ identity-grid g e
+
+-- a mapped grid has as many cells
+turned-length : (n : ℕ) (g : Grid) → length (mapGrid (mapOf n) g .cells) ≡ volume (g .sides)
+turned-length n g = mapped-whole (mapOf n) g ∙ ap volume (mapped-sides (mapOf n) g) ∙ map-volume n (g .sides)
+
+pub same-volume : (m n : ℕ) (s t : Sides) → mapSides (mapOf m) s ≡ mapSides (mapOf n) t → volume s ≡ volume t
+same-volume m n s t e = sym (map-volume m s) ∙ ap volume e ∙ map-volume n t
+
+pub turned-lengths : (m n : ℕ) (g h : Grid) → length (g .cells) ≡ volume (g .sides) → mapSides (mapOf m) (g .sides) ≡ mapSides (mapOf n) (h .sides)
+    → (length (mapGrid (mapOf m) g .cells) ≡ length (g .cells)) × (length (mapGrid (mapOf n) h .cells) ≡ length (g .cells))
+turned-lengths m n g h w e = (turned-length m g ∙ sym w, turned-length n h ∙ sym (same-volume m n (g .sides) (h .sides) e) ∙ sym w)
+
+-- ---- tests of the entries from place i on
+module _ (p : ℕ → Bool) (xs : List ℕ) (i : ℕ) where
+  count-at : i < length xs → (b : Bool) → p (getD xs i 0) ≡ b → howMany p (drop i xs) ≡ cond b 1 0 + howMany p (drop (i + 1) xs)
+  count-at h b e = rw (add-one, drop-cons xs i 0, e)
+
+  pub count-hit : i < length xs → p (getD xs i 0) ≡ true → howMany p (drop i xs) ≡ 1 + howMany p (drop (i + 1) xs)
+  count-hit h e = count-at h true e
+
+  pub count-miss : i < length xs → p (getD xs i 0) ≡ false → howMany p (drop i xs) ≡ howMany p (drop (i + 1) xs)
+  count-miss h e = count-at h false e ∙ omega arith
+
+  pub count-end : length xs ≤ i → howMany p (drop i xs) ≡ 0
+  count-end h = ap (howMany p) (drop-of-length-le xs h)
+
+  pub all-from : i < length xs → all p (drop i xs) ≡ p (getD xs i 0) && all p (drop (i + 1) xs)
+  all-from h = rw (add-one, drop-cons xs i 0)
+
+  pub all-end : length xs ≤ i → all p (drop i xs) ≡ true
+  all-end h = ap (all p) (drop-of-length-le xs h)
+
+-- ---- the cells of a box by their places
+getD-from : (i n k : ℕ) → k < n → getD (from i n) k 0 ≡ i + k
+getD-from i zero k h = absurd (omega arith)
+getD-from i (suc n) zero h = omega arith
+getD-from i (suc n) (suc k) h = getD-from (suc i) n k (omega arith) ∙ omega arith
+
+map-id : {A : Type 0} (xs : List A) → map (λ x. x) xs ≡ xs
+map-id [] = refl
+map-id (x ∷ xs) = ap (λ (l : List _). x ∷ l) (map-id xs)
+
+pub box-places : (s : Sides) → box s ≡ map (cellAt s) (below (volume s))
+unfolding byteAt
+box-places s =
+    sym (map-id (box s)) ∙ map-same (λ u. u) (λ u. cellAt s (byteAt g u)) (box s) back ∙ sym (map-map-of (cellAt s) (byteAt g) (box s))
+    ∙ ap (map (cellAt s)) (bytes-whole g (length-below (volume s)))
+  where
+    g : Grid
+    g = record { sides = s; cells = below (volume s) }
+
+    back : (u : Cell) → List·Memᴰ u (box s) → u ≡ cellAt s (byteAt g u)
+    back u m =
+        let b = box-at s u m in
+        sym (cell-at-place s u b) ∙ ap (cellAt s) (sym (getD-from 0 (volume s) (placeOf s u) (place-lt s u b) ∙ omega arith))
+
+-- ---- filled layers: the filled cells from place i on, n of them
+keep-any : {A : Type 0} (q p : A → Bool) (x : A) (xs : List A) → any p (keep q (x ∷ xs)) ≡ (q x && p x) || any p (keep q xs)
+keep-any q p x xs = go (q x)
+  where
+    go : (b : Bool) → any p (consIf b x (keep q xs)) ≡ (b && p x) || any p (keep q xs)
+    go true = refl
+    go false = refl
+
+module _ (s : Sides) (cells : List ℕ) (p : Cell → Bool) where
+  abbrev pub filledFrom : ℕ → ℕ → Bool
+  filledFrom i n = any p (keep (λ u. eqb (byteAt (record { sides = s; cells = cells }) u) 1) (map (cellAt s) (from i n)))
+
+  pub filled-from : length cells ≡ volume s → filledWhere (record { sides = s; cells = cells }) p ≡ filledFrom 0 (length cells)
+  unfolding filledWhere filledCells
+  filled-from e = ap (λ (l : List Cell). any p (keep (λ u. eqb (byteAt (record { sides = s; cells = cells }) u) 1) l)) (box-places s ∙ ap (λ (n : ℕ). map (cellAt s) (below n)) (sym e))
+
+  -- one more place
+  filled-more : (i : ℕ) → i < length cells
+      → filledFrom i (length cells - i) ≡ (eqb (getD cells i 0) 1 && p (cellAt s i)) || filledFrom (i + 1) (length cells - (i + 1))
+  unfolding byteAt
+  filled-more i h =
+      ap (filledFrom i) (let e : length cells - i ≡ suc (length cells - (i + 1)) = omega arith in e)
+      ∙ keep-any (λ u. eqb (byteAt (record { sides = s; cells = cells }) u) 1) p (cellAt s i) (map (cellAt s) (from (suc i) (length cells - (i + 1))))
+      ∙ ap₂ (λ (k j : ℕ). (eqb (getD cells k 0) 1 && p (cellAt s i)) || filledFrom j (length cells - (i + 1))) (place-of-cell s i) (sym (add-one i))
+
+  pub filled-found : (i : ℕ) → i < length cells → getD cells i 0 ≡ 1 → p (cellAt s i) ≡ true → filledFrom i (length cells - i) ≡ true
+  filled-found i h e f =
+      filled-more i h ∙ ap₂ (λ (x y : Bool). (x && y) || filledFrom (i + 1) (length cells - (i + 1))) (eq-eqb (getD cells i 0) 1 e) f
+
+  pub filled-passed : (i : ℕ) → i < length cells → (getD cells i 0 ≡ 1 → p (cellAt s i) ≡ false)
+      → filledFrom i (length cells - i) ≡ filledFrom (i + 1) (length cells - (i + 1))
+  filled-passed i h f = filled-more i h ∙ go (eqb (getD cells i 0) 1) refl
+    where
+      go : (b : Bool) → eqb (getD cells i 0) 1 ≡ b → (b && p (cellAt s i)) || filledFrom (i + 1) (length cells - (i + 1)) ≡ filledFrom (i + 1) (length cells - (i + 1))
+      go true e = ap (λ (y : Bool). y || filledFrom (i + 1) (length cells - (i + 1))) (f (eqb-true (getD cells i 0) 1 e))
+      go false e = refl
+
+-- a layer with a filled cell: the box has that side
+pub layer-side : (g : Grid) (axis k : ℕ) → filledWhere g (λ u. eqb (coordinate u axis) k) ≡ true → k < side (g .sides) axis
+unfolding filledWhere
+layer-side g axis k e =
+    let r = any-at (λ (u : Cell). eqb (coordinate u axis) k) (filledCells g) (holds (any (λ u. eqb (coordinate u axis) k) (filledCells g)) e) in
+    let b = coordinate-below (g .sides) (r .0) (filled-at g (r .0) (r .1) .0) axis in
+    let q = eqb→eq (coordinate (r .0) axis) k (r .2) in
+    omega arith
+
+-- the last layer, by its coordinate
+pub last-layer : (g : Grid) (axis n : ℕ) → 0 < n → filledWhere g (λ u. eqb (coordinate u axis) (n - 1)) ≡ filledWhere g (λ u. eqb (coordinate u axis + 1) n)
+last-layer g axis n h = ap (filledWhere g) (λ i u. tests (coordinate u axis) i)
+  where
+    tests : (k : ℕ) → eqb k (n - 1) ≡ eqb (k + 1) n
+    tests k = let e : n ≡ suc (n - 1) = omega arith in sym (ap₂ eqb (add-one k) e ∙ eqb·suc-suc k (n - 1))
+
+pub tight-ends : (g : Grid) → isTight g ≡ endsFilled g 0 && (endsFilled g 1 && endsFilled g 2)
+unfolding isTight endsFilled coordinate side
+tight-ends g =
+    and-assoc (F (λ u. eqb (u .x) 0)) (F (λ u. eqb (u .x + 1) (g .sides .a))) _
+    ∙ ap (λ (b : Bool). (F (λ u. eqb (u .x) 0) && F (λ u. eqb (u .x + 1) (g .sides .a))) && b)
+    (and-assoc (F (λ u. eqb (u .y) 0)) (F (λ u. eqb (u .y + 1) (g .sides .b))) _)
+  where
+    F : (Cell → Bool) → Bool
+    F = filledWhere g
+
+    and-assoc : (x y z : Bool) → x && (y && z) ≡ (x && y) && z
+    and-assoc true y z = refl
+    and-assoc false y z = refl

@@ -1,0 +1,5 @@
+pub mod PlaceLaws
+pub mod MapTableLaws
+pub mod GridLaws
+pub mod ScanLaws
+pub mod VariantLaws

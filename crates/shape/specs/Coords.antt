@@ -1,0 +1,23 @@
+-- What the code's values stand for among the definitions of document 01.
+use Prim.Native.Nat.{ℕ, _≤_}
+use mathlib.Core.Bool.{Bool, _&&_}
+use lib.Dec.{leb}
+use Rattle.definitions.specs.Grid.{Sides, Cell}
+use Rattle.definitions.specs.Maps.{Map}
+use Rattle.shape.specs.declared.Coord.{Coord}
+use Rattle.shape.specs.declared.tables.Axes.{Axes}
+
+abbrev pub asSides : Coord → Sides
+asSides s = record { a = s .0; b = s .1; c = s .2 }
+
+abbrev pub asCell : Coord → Cell
+asCell u = record { x = u .0; y = u .1; z = u .2 }
+
+abbrev pub asMap : Axes → Map
+asMap e = record { axisX = e .x; axisY = e .y; axisZ = e .z; flipX = e .«flip_x»; flipY = e .«flip_y»; flipZ = e .«flip_z» }
+
+-- no side is above 8
+pub record Fit (s : Sides) : Type 0 where
+  pub a : s .a ≤ 8
+  pub b : s .b ≤ 8
+  pub c : s .c ≤ 8

@@ -1,0 +1,51 @@
+-- Grids that are lent as cells and sides, and how grids compare.
+use Prim.Native.Nat.{ℕ, _+_}
+use mathlib.Core.Bool.{Bool, true, false, cond, _&&_}
+use mathlib.Core.List.{List, [], _∷_}
+use mathlib.Core.Path.{_≡_}
+use lib.Dec.{ltb, eqb}
+use lib.ListN.{length}
+use Rattle.definitions.specs.Lists.{less, same}
+use Rattle.definitions.specs.Grid.{Sides, Grid, volume, sameGrid, gridAhead}
+use Rattle.definitions.specs.Maps.{side, coordinate}
+use Rattle.definitions.specs.Refusals.{filledWhere}
+use Rattle.shape.specs.Coords.{asSides, Fit}
+use Rattle.shape.specs.declared.Coord.{Coord}
+use Rattle.shape.specs.declared.Ordering.{Ordering}
+use Rattle.shape.specs.declared.Ordering.the-variants.{Less, Equal, Greater}
+
+abbrev pub asGrid : Coord → List ℕ → Grid
+asGrid s cells = record { sides = asSides s; cells = cells }
+
+-- no side is above 8, and there is a byte for each cell
+pub record Whole (s : Coord) (cells : List ℕ) : Type 0 where
+  pub fit : Fit (asSides s)
+  pub size : length cells ≡ volume (asSides s)
+
+-- what an answer tells: the fact, or that it does not hold
+abbrev pub Decided : Bool → Type 0 → Type 0
+Decided true P = P
+Decided false P = P → ⊥
+
+-- how two things compare, by a test that says whether one stands ahead, and one that says whether they are the same
+abbrev pub orderBy : Bool → Bool → Ordering
+orderBy true same = Less
+orderBy false true = Equal
+orderBy false false = Greater
+
+unfoldable pub numberOrder : ℕ → ℕ → Ordering
+numberOrder a b = orderBy (ltb a b) (eqb a b)
+
+abbrev pub sideList : Sides → List ℕ
+sideList s = s .a ∷ s .b ∷ s .c ∷ []
+
+unfoldable pub sidesOrder : Sides → Sides → Ordering
+sidesOrder s t = orderBy (less (sideList s) (sideList t)) (same (sideList s) (sideList t))
+
+-- "Grids are ordered by sides (x, y, z), then cells, 0 before 1."
+unfoldable pub gridOrder : Grid → Grid → Ordering
+gridOrder g h = orderBy (gridAhead g h) (sameGrid g h)
+
+-- the outer layers of an axis each have a filled cell
+unfoldable pub endsFilled : Grid → ℕ → Bool
+endsFilled g axis = filledWhere g (λ u. eqb (coordinate u axis) 0) && filledWhere g (λ u. eqb (coordinate u axis + 1) (side (g .sides) axis))

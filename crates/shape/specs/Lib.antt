@@ -1,0 +1,5 @@
+pub mod Coords
+pub mod Places
+pub mod Grids
+pub mod Scans
+pub mod Variants

@@ -1,0 +1,48 @@
+// Cells of a box and their places: x slowest, z fastest.
+ghost use mathlib.Core.Path.{_≡_};
+ghost use Prim.Native.Nat.{_<_, _≤_};
+ghost use Rattle.definitions.specs.Grid.{volume, placeOf, InBox};
+ghost use Rattle.definitions.specs.Maps.{mapOf, mapSides};
+ghost use Rattle.shape.specs.Coords.{asSides, asCell, Fit};
+ghost use Rattle.shape.specs.Places.{cellAt, imagePlace, sourcePlace};
+use super::Coord;
+use super::maps::Map;
+
+// How many cells a box has.
+pub fn volume_of(s: Coord) -> usize
+    requires { ⌜ Fit (asSides s) ⌝ }
+    ensures { λ r. ⌜ (r ≡ volume (asSides s)) × (r ≤ 512) ⌝ }
+{
+    s.0 * s.1 * s.2
+}
+
+pub fn place(s: Coord, u: Coord) -> usize
+    requires { ⌜ Fit (asSides s) × InBox (asSides s) (asCell u) ⌝ }
+    ensures { λ r. ⌜ (r ≡ placeOf (asSides s) (asCell u)) × (r < volume (asSides s)) ⌝ }
+{
+    (u.0 * s.1 + u.1) * s.2 + u.2
+}
+
+pub fn cell_at(s: Coord, i: usize) -> Coord
+    requires { ⌜ Fit (asSides s) × (i < volume (asSides s)) ⌝ }
+    ensures { λ r. ⌜ (asCell r ≡ cellAt (asSides s) i) × InBox (asSides s) (asCell r) ⌝ }
+{
+    Coord(i / (s.1 * s.2), i / s.2 % s.1, i % s.2)
+}
+
+// The place in the mapped box of the cell at place i of a box with the sides s.
+pub fn image_index(s: Coord, m: Map, i: usize) -> usize
+    requires { ⌜ Fit (asSides s) × (i < volume (asSides s)) ⌝ }
+    ensures { λ r. ⌜ (r ≡ imagePlace (mapOf (m .0)) (asSides s) i) × (r < volume (asSides s)) ⌝ }
+{
+    let u = cell_at(s, i);
+    place(m.sides(s), m.cell(s, u))
+}
+
+// The place in a box with the sides s of the cell that the map takes to place j of the mapped box.
+pub fn source_index(s: Coord, m: Map, j: usize) -> usize
+    requires { ⌜ Fit (asSides s) × (j < volume (asSides s)) ⌝ }
+    ensures { λ r. ⌜ (r ≡ sourcePlace (mapOf (m .0)) (asSides s) j) × (r < volume (asSides s)) ⌝ }
+{
+    image_index(m.sides(s), m.inverse(), j)
+}

@@ -1,0 +1,205 @@
+// Grids and turned grids, read where they are lent: no grid is copied.
+ghost use mathlib.Core.Path.{_≡_};
+ghost use Prim.Native.Nat.{_<_, _≤_};
+ghost use lib.ListN.{length, getD};
+ghost use lib.Dec.{eqb, leb};
+ghost use Rattle.definitions.specs.Lists.{all, howMany};
+ghost use Rattle.definitions.specs.Grid.{volume, byteAt, sameGrid, InBox};
+ghost use Rattle.definitions.specs.Maps.{mapOf, mapSides, mapGrid, coordinate};
+ghost use Rattle.definitions.specs.Refusals.{filledWhere, isTight};
+ghost use Rattle.shape.specs.Coords.{asSides, asCell, Fit};
+ghost use Rattle.shape.specs.Grids.{asGrid, Decided, Whole, numberOrder, sidesOrder, gridOrder, endsFilled};
+use super::Coord;
+use super::Ordering;
+use super::cells;
+use super::maps;
+use super::maps::Map;
+
+// Whether no side is above 8 and there is a byte for each cell: what the functions below ask of a grid.
+pub fn is_whole(cells: &[u8], s: Coord) -> bool
+    ensures { λ r. ⌜ Decided r (Whole s (now (cells .entry))) ⌝ }
+{
+    if 8 < s.0 {
+        return false;
+    }
+    if 8 < s.1 {
+        return false;
+    }
+    if 8 < s.2 {
+        return false;
+    }
+    let v = cells::volume_of(s);
+    cells.len() == v
+}
+
+// The byte of a cell.
+pub fn get(cells: &[u8], s: Coord, u: Coord) -> u8
+    requires { ⌜ Whole s (now cells) × InBox (asSides s) (asCell u) ⌝ }
+    ensures { λ r. ⌜ r ≡ byteAt (asGrid s (now (cells .entry))) (asCell u) ⌝ }
+{
+    let i = cells::place(s, u);
+    cells[i]
+}
+
+// The byte at place j of the turned (or mirrored) grid.
+pub fn turned_byte(cells: &[u8], s: Coord, m: Map, j: usize) -> u8
+    requires { ⌜ Whole s (now cells) × (j < volume (asSides s)) ⌝ }
+    ensures { λ r. ⌜ r ≡ getD (mapGrid (mapOf (m .0)) (asGrid s (now (cells .entry))) .cells) j 0 ⌝ }
+{
+    let i = cells::source_index(s, m, j);
+    cells[i]
+}
+
+// The byte of a cell of the turned (or mirrored) grid.
+pub fn turned_get(cells: &[u8], s: Coord, m: Map, u: Coord) -> u8
+    requires { ⌜ Whole s (now cells) × InBox (mapSides (mapOf (m .0)) (asSides s)) (asCell u) ⌝ }
+    ensures { λ r. ⌜ r ≡ byteAt (mapGrid (mapOf (m .0)) (asGrid s (now (cells .entry)))) (asCell u) ⌝ }
+{
+    let j = cells::place(m.sides(s), u);
+    turned_byte(cells, s, m, j)
+}
+
+fn compare_numbers(a: usize, b: usize) -> Ordering
+    ensures { λ r. ⌜ r ≡ numberOrder a b ⌝ }
+{
+    if a < b {
+        return Ordering::Less;
+    }
+    if b < a {
+        return Ordering::Greater;
+    }
+    Ordering::Equal
+}
+
+// Sides are compared by x, then y, then z.
+pub fn compare_sides(s: Coord, t: Coord) -> Ordering
+    ensures { λ r. ⌜ r ≡ sidesOrder (asSides s) (asSides t) ⌝ }
+{
+    if s.0 != t.0 {
+        return compare_numbers(s.0, t.0);
+    }
+    if s.1 != t.1 {
+        return compare_numbers(s.1, t.1);
+    }
+    compare_numbers(s.2, t.2)
+}
+
+// Two turned grids: "Grids are ordered by sides (x, y, z), then cells, 0 before 1."
+pub fn compare_turned(cells: &[u8], s: Coord, m: Map, others: &[u8], t: Coord, n: Map) -> Ordering
+    requires { ⌜ Whole s (now cells) × Whole t (now others) ⌝ }
+    ensures { λ r. ⌜ r ≡ gridOrder (mapGrid (mapOf (m .0)) (asGrid s (now (cells .entry)))) (mapGrid (mapOf (n .0)) (asGrid t (now (others .entry)))) ⌝ }
+{
+    let o = compare_sides(m.sides(s), n.sides(t));
+    match o {
+        Ordering::Less => Ordering::Less,
+        Ordering::Greater => Ordering::Greater,
+        Ordering::Equal => compare_bytes(cells, s, m, others, t, n),
+    }
+}
+
+// The cells of two turned grids with equal sides.
+fn compare_bytes(cells: &[u8], s: Coord, m: Map, others: &[u8], t: Coord, n: Map) -> Ordering
+    requires { ⌜ Whole s (now cells) × Whole t (now others) × (mapSides (mapOf (m .0)) (asSides s) ≡ mapSides (mapOf (n .0)) (asSides t)) ⌝ }
+    ensures { λ r. ⌜ r ≡ gridOrder (mapGrid (mapOf (m .0)) (asGrid s (now (cells .entry)))) (mapGrid (mapOf (n .0)) (asGrid t (now (others .entry)))) ⌝ }
+{
+    let mut j = 0;
+    while j < cells.len() {
+        let a = turned_byte(cells, s, m, j);
+        let b = turned_byte(others, t, n, j);
+        if a < b {
+            return Ordering::Less;
+        }
+        if b < a {
+            return Ordering::Greater;
+        }
+        j += 1;
+    }
+    Ordering::Equal
+}
+
+// Whether a map brings a grid onto itself (`compute_symmetry`).
+pub fn keeps(cells: &[u8], s: Coord, m: Map) -> bool
+    requires { ⌜ Whole s (now cells) ⌝ }
+    ensures { λ r. ⌜ r ≡ sameGrid (mapGrid (mapOf (m .0)) (asGrid s (now (cells .entry)))) (asGrid s (now (cells .entry))) ⌝ }
+{
+    let o = compare_turned(cells, s, m, cells, s, Map(0));
+    match o {
+        Ordering::Less => false,
+        Ordering::Greater => false,
+        Ordering::Equal => true,
+    }
+}
+
+// How many cells are filled.
+pub fn count_filled(cells: &[u8]) -> usize
+    ensures { λ r. ⌜ (r ≡ howMany (eqb 1) (now (cells .entry))) × (r ≤ length (now (cells .entry))) ⌝ }
+{
+    let mut n = 0;
+    let mut i = 0;
+    while i < cells.len() {
+        if cells[i] == 1 {
+            n += 1;
+        }
+        i += 1;
+    }
+    n
+}
+
+// Whether each cell is 0 or 1.
+pub fn are_bits(cells: &[u8]) -> bool
+    ensures { λ r. ⌜ r ≡ all (λ n. leb n 1) (now (cells .entry)) ⌝ }
+{
+    let mut i = 0;
+    while i < cells.len() {
+        if 1 < cells[i] {
+            return false;
+        }
+        i += 1;
+    }
+    true
+}
+
+// Whether a cell of the layer at coordinate k of an axis is filled.
+fn layer_filled(cells: &[u8], s: Coord, axis: u8, k: usize) -> bool
+    requires { ⌜ Whole s (now cells) ⌝ }
+    ensures { λ r. ⌜ r ≡ filledWhere (asGrid s (now (cells .entry))) (λ u. eqb (coordinate u axis) k) ⌝ }
+{
+    let mut i = 0;
+    while i < cells.len() {
+        if cells[i] == 1 {
+            let u = cells::cell_at(s, i);
+            if maps::pick(axis, u) == k {
+                return true;
+            }
+        }
+        i += 1;
+    }
+    false
+}
+
+// Whether both outer layers of an axis have a filled cell.
+fn ends_filled(cells: &[u8], s: Coord, axis: u8) -> bool
+    requires { ⌜ Whole s (now cells) ⌝ }
+    ensures { λ r. ⌜ r ≡ endsFilled (asGrid s (now (cells .entry))) axis ⌝ }
+{
+    if layer_filled(cells, s, axis, 0) {
+        let n = maps::pick(axis, s);
+        layer_filled(cells, s, axis, n - 1)
+    } else {
+        false
+    }
+}
+
+// Whether no outer layer is empty.
+pub fn is_tight(cells: &[u8], s: Coord) -> bool
+    requires { ⌜ Whole s (now cells) ⌝ }
+    ensures { λ r. ⌜ r ≡ isTight (asGrid s (now (cells .entry))) ⌝ }
+{
+    if !ends_filled(cells, s, 0) {
+        return false;
+    }
+    if !ends_filled(cells, s, 1) {
+        return false;
+    }
+    ends_filled(cells, s, 2)
+}

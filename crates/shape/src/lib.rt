@@ -1,0 +1,19 @@
+// Shapes: the 48 maps, the cells of a box, grids and their turned forms, scan order, variants and kinds (utils.rs and shape.rs of
+// the original). A grid is lent as its cells, a slice with one byte a cell, and its three sides.
+
+pub mod cells;
+pub mod grids;
+pub mod maps;
+pub mod scan;
+mod tables;
+pub mod variants;
+
+// Three sides of a box, or the three coordinates of a cell.
+pub struct Coord(pub usize, pub usize, pub usize);
+
+// How two things compare.
+pub enum Ordering {
+    Less,
+    Equal,
+    Greater,
+}

@@ -1,0 +1,70 @@
+-- `shapes::all_variants` meets its contract. The loop's invariant: `i` is at most `n`, which `variants_of` keeps to at most 24, the length. Assumes nothing.
+use Prim.Native.Nat.{_≤_, _-_}
+use borrow.Author.Needs.{needs}
+use Rattle.shapes.proofs.all_variants.Statement.{statement}
+use Rattle.shapes.proofs.all_variants.Tie as tie
+
+abbrev Inv-loop : tie.InvT-loop
+Inv-loop cells s order numbers n i₀ t8 i = i ≤ n
+
+abbrev μ-loop : tie.MeasureT-loop
+μ-loop cells s order numbers n i₀ t8 i = n - i
+
+slice-aggregate-variants-of : tie.Need-slice-aggregate-variants-of Inv-loop μ-loop
+slice-aggregate-variants-of c = search needs
+
+variants-of-requires : tie.Need-variants-of-requires Inv-loop μ-loop
+variants-of-requires c κs = search needs
+
+loop-holds : tie.Need-loop-holds Inv-loop μ-loop
+loop-holds c = search needs
+
+array-read-t15 : tie.Need-array-read-t15 Inv-loop μ-loop
+array-read-t15 c = search needs
+
+slice-aggregate-write-all : tie.Need-slice-aggregate-write-all Inv-loop μ-loop
+slice-aggregate-write-all c = search needs
+
+write-all-requires : tie.Need-write-all-requires Inv-loop μ-loop
+write-all-requires c κs = search needs
+
+origin-of-requires : tie.Need-origin-of-requires Inv-loop μ-loop
+origin-of-requires c κs = search needs
+
+coord-requires : tie.Need-coord-requires Inv-loop μ-loop
+coord-requires c κs = search needs
+
+turned-requires : tie.Need-turned-requires Inv-loop μ-loop
+turned-requires c κs = search needs
+
+add-i : tie.Need-add-i Inv-loop μ-loop
+add-i c = search needs
+
+loop-less : tie.Need-loop-less Inv-loop μ-loop
+loop-less c = search needs
+
+loop-again : tie.Need-loop-again Inv-loop μ-loop
+loop-again c = search needs
+
+returns : tie.Need-returns Inv-loop μ-loop
+returns c = search needs
+
+pub all-variants-spec : {M : Type 1} → statement M
+all-variants-spec =
+    tie.close
+    (tie.spec
+    Inv-loop
+    μ-loop
+    slice-aggregate-variants-of
+    variants-of-requires
+    loop-holds
+    array-read-t15
+    slice-aggregate-write-all
+    write-all-requires
+    origin-of-requires
+    coord-requires
+    turned-requires
+    add-i
+    loop-less
+    loop-again
+    returns)
