@@ -27,20 +27,12 @@ use Rattle.definitions.proofs.MoveLaws.{movesMap, moves-in, moves-grid,
 use Rattle.definitions.proofs.CellLaws.{nth-unique, nth-value, grid-trans, grid-irrefl}
 use Rattle.definitions.proofs.PartnerLaws.{variant-of, variants-up, smallest-turned, grids-tied, before-holds, before-grid, gs-up, shapes-are, gs, one-kind}
 use Rattle.definitions.proofs.GeometryLaws.{piece-whole, to-filled, of-filled, turns-not-odd}
-use Rattle.definitions.proofs.AnswerLaws.{numbered-of}
+use Rattle.definitions.proofs.AnswerLaws.{numbered-of, mem-nth-of}
 use Rattle.definitions.proofs.OrderLaws.{each-ascending}
 
 -- ---- lists
 module _ {A : Type 0} where
-  -- an entry has a number, and a number below the length an entry
-  pub nth-of : (xs : List A) {x : A} → List·Memᴰ x xs → (n : ℕ) × Nth xs n x
-  nth-of [] m = absurd (List·Memᴰ·not-nil m)
-  nth-of (y ∷ ys) {x} m = go (List·Memᴰ·cases-cons m) (λ (k : List·Memᴰ x ys). nth-of ys k)
-    where
-      go : (x ≡ y) ⊎ List·Memᴰ x ys → (List·Memᴰ x ys → (n : ℕ) × Nth ys n x) → (n : ℕ) × Nth (y ∷ ys) n x
-      go (inl e) f = (zero, e)
-      go (inr k) f = let r = f k in (suc (r .0), r .1)
-
+  -- a number below the length has an entry
   pub nth-at : (d : A) (xs : List A) (n : ℕ) → n < length xs → Nth xs n (getD xs n d)
   nth-at d xs n h = let r = getD-nth xs n h in subst (λ (x : A). Nth xs n x) (sym (nth-value xs n (r .0) d (r .1))) (r .1)
 
@@ -186,7 +178,7 @@ module _ (l : Call) (ok : refusal l ≡ 0) where
   number-is n k h = before-grid G shapes-up k (smallest (gridAt n)) h
 
   number-nth : (n : ℕ) → n < length (T₀ .pieces) → Nth G (kindNumber n) (smallest (gridAt n))
-  number-nth n h = let r = nth-of G (shape-in n h) in subst (λ (k : ℕ). Nth G k (smallest (gridAt n))) (sym (number-is n (r .0) (r .1))) (r .1)
+  number-nth n h = let r = mem-nth-of G (smallest (gridAt n)) (shape-in n h) in subst (λ (k : ℕ). Nth G k (smallest (gridAt n))) (sym (number-is n (r .0) (r .1))) (r .1)
 
   -- ---- kinds
   -- the kind with a shape
