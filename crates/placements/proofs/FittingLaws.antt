@@ -1,0 +1,233 @@
+-- Numbering the places of a box, and the fit test place by place. Assumes nothing.
+use Prim.Native.Nat.{ℕ, zero, suc, _+_, _-_, _≤_, _<_}
+use mathlib.Core.Bool.{Bool, true, false, cond, _&&_}
+use mathlib.Core.List.{List, [], _∷_, map, List·Memᴰ, Memᴰ·cast}
+use mathlib.Core.Path.{_≡_, refl, sym, ap, ap₂, _∙_, subst}
+use native.Mathlib.Nat.{zero-add}
+use native.Mathlib.Numerals.{add-one}
+use native.Mathlib.Omega.{arith}
+use borrow.Author.Tests.{eqb-true, eqb-false, ltb-true, ltb-false}
+use lib.Dec.{T, eqb, ltb, leb, eqb→eq, ltb→lt, leb→le}
+use lib.ListN.{length, getD, take, drop, set, replicate, length-set, length-map, length-replicate, getD-replicate, drop-of-length-le}
+use lib.Seq.{drop-cons, length-take-le, getD-take, getD-set-same, getD-set-other, ext-getD}
+use Rattle.definitions.specs.Lists.{consIf, keep, all, any, howMany, before, from, below}
+use Rattle.definitions.specs.Grid.{Sides, Cell, Grid, InBox, volume, placeOf, byteAt, sameCell, filledCells}
+use Rattle.definitions.specs.Maps.{mapOf, mapGrid}
+use Rattle.definitions.specs.Scan.{scan, scanNumber}
+use Rattle.definitions.specs.Placements.{origin, lies, reaches, fits}
+use Rattle.definitions.proofs.ListLaws.{and-left, and-right, is-true, is-false, eqb-of, all-at, all-of, any-at, any-of, length-below}
+use Rattle.definitions.proofs.MapLaws.{filled-at, filled-of}
+use Rattle.definitions.proofs.WellMadeLaws.{sameCell→eq, sameCell-refl}
+use Rattle.shape.specs.Places.{cellAt}
+use Rattle.shape.specs.Grids.{Decided}
+use Rattle.shape.specs.Scans.{IsOrder}
+use Rattle.shape.specs.Variants.{turnedBy}
+use Rattle.shape.proofs.PlaceLaws.{cell-at-place, place-of-cell}
+use Rattle.shape.proofs.GridLaws.{box-places}
+use Rattle.shape.proofs.VariantLaws.{scan-has, scan-from}
+use Rattle.placements.specs.Fitting.{fitsGrid}
+
+-- two tests that imply each other are equal
+pub both-ways : (a b : Bool) → (T a → T b) → (T b → T a) → a ≡ b
+both-ways true b f g = sym (is-true b (f tt))
+both-ways false b f g = sym (is-false b g)
+
+-- ---- a box's cells
+pub box-test : (s : Sides) (u : Cell) → u .x < s .a → u .y < s .b → Decided (ltb (u .z) (s .c)) (InBox s u)
+box-test s u p q = go (ltb (u .z) (s .c)) refl
+  where
+    go : (b : Bool) → ltb (u .z) (s .c) ≡ b → Decided b (InBox s u)
+    go true e = (p, q, ltb-true (u .z) (s .c) e)
+    go false e = λ w. let h = ltb-false (u .z) (s .c) e in let l = w .2 in omega arith
+
+-- ---- numbering places
+all-getD : (p : ℕ → Bool) (xs : List ℕ) (i : ℕ) → i < length xs → T (all p xs) → T (p (getD xs i 0))
+all-getD p [] i h t = absurd (omega arith)
+all-getD p (x ∷ xs) zero h t = and-left (p x) (all p xs) t
+all-getD p (x ∷ xs) (suc i) h t = all-getD p xs i (omega arith) (and-right (p x) (all p xs) t)
+
+getD-from : (i n k : ℕ) → k < n → getD (from i n) k 0 ≡ i + k
+getD-from i zero k h = absurd (omega arith)
+getD-from i (suc n) zero h = omega arith
+getD-from i (suc n) (suc k) h = getD-from (suc i) n k (omega arith) ∙ omega arith
+
+getD-map : (f : ℕ → ℕ) (xs : List ℕ) (i : ℕ) → i < length xs → getD (map f xs) i 0 ≡ f (getD xs i 0)
+getD-map f [] i h = absurd (omega arith)
+getD-map f (x ∷ xs) zero h = refl
+getD-map f (x ∷ xs) (suc i) h = getD-map f xs i (omega arith)
+
+module _ (ps : List ℕ) where
+  -- what stands at each place once the places from number k on are written
+  unfoldable pub NumberedFrom : ℕ → List ℕ → Type 0
+  NumberedFrom k xs = (i : ℕ) → i < length xs → getD xs i 0 ≡ k + before (eqb i) (drop k ps)
+
+  numbered-none : (n size : ℕ) (xs : List ℕ) → length ps ≡ n → xs ≡ replicate size n → NumberedFrom n xs
+  unfolding NumberedFrom
+  numbered-none n size xs l e i h =
+      let k : i < size = omega (arith, ap length e, length-replicate size n) in
+      ap (λ (d : List ℕ). getD d i 0) e ∙ getD-replicate size i n 0 k ∙ omega (arith, ap (before (eqb i)) (drop-of-length-le ps {i = n} (omega arith)))
+
+  numbered-more : (k : ℕ) (xs : List ℕ) → 0 < k → k ≤ length ps → getD ps (k - 1) 0 < length xs → NumberedFrom k xs
+      → NumberedFrom (k - 1) (set xs (getD ps (k - 1) 0) (k - 1))
+  unfolding NumberedFrom
+  numbered-more k xs h l b f i m = go (eqb i p) refl ∙ ap (λ (l : List ℕ). n + before (eqb i) l) (sym (drop-cons ps n 0 (omega arith)))
+    where
+      n : ℕ
+      n = k - 1
+
+      p : ℕ
+      p = getD ps n 0
+
+      go : (b : Bool) → eqb i p ≡ b → getD (set xs p n) i 0 ≡ n + cond b 0 (suc (before (eqb i) (drop (suc n) ps)))
+      go true e = ap (λ (j : ℕ). getD (set xs p n) j 0) (eqb-true i p e) ∙ getD-set-same xs p n 0 b ∙ omega arith
+      go false e =
+          let s : k ≡ suc n = omega arith in
+          getD-set-other xs p i n 0 (eqb-false i p e) ∙ f i (subst (λ (j : ℕ). i < j) (length-set xs p n) m)
+          ∙ ap (λ (j : ℕ). j + before (eqb i) (drop j ps)) s ∙ omega arith
+
+  numbered-all : (xs : List ℕ) → NumberedFrom 0 xs → xs ≡ map (λ i. before (eqb i) ps) (below (length xs))
+  unfolding NumberedFrom
+  numbered-all xs f =
+      ext-getD 0 xs (map (λ i. before (eqb i) ps) (below (length xs))) (sym (length-map (below (length xs)) (λ i. before (eqb i) ps) ∙ length-below (length xs)))
+      (λ i h. f i h ∙ zero-add (before (eqb i) ps)
+      ∙ sym (getD-map (λ j. before (eqb j) ps) (below (length xs)) i (subst (λ (k : ℕ). i < k) (sym (length-below (length xs))) h)
+      ∙ ap (λ (j : ℕ). before (eqb j) ps) (getD-from 0 (length xs) i h ∙ zero-add i)))
+
+module _ (places : List ℕ) (n size : ℕ) (h : n ≤ length places) (t : T (all (λ i. ltb i size) (take n places))) where
+  pub place-in : (k : ℕ) → 0 < k → k ≤ n → getD places (k - 1) 0 < size
+  place-in k some most =
+      let l = length-take-le n places h in
+      subst (λ (i : ℕ). i < size) (getD-take n places (k - 1) 0 (omega arith))
+      (ltb→lt (getD (take n places) (k - 1) 0) size (all-getD (λ i. ltb i size) (take n places) (k - 1) (omega arith) t))
+
+  pub number-start : (xs : List ℕ) → xs ≡ replicate size n → NumberedFrom (take n places) n xs
+  number-start xs e = numbered-none (take n places) n size xs (length-take-le n places h) e
+
+  pub number-next : (k : ℕ) (xs : List ℕ) → length xs ≡ size → 0 < k → k ≤ n → NumberedFrom (take n places) k xs
+      → NumberedFrom (take n places) (k - 1) (set xs (getD places (k - 1) 0) (k - 1))
+  number-next k xs l some most f =
+      let e = getD-take n places (k - 1) 0 (omega arith) in
+      subst (λ (i : ℕ). NumberedFrom (take n places) (k - 1) (set xs i (k - 1))) e
+      (numbered-more (take n places) k xs some (omega (arith, length-take-le n places h)) (omega (arith, e, place-in k some most)) f)
+
+  pub number-end : (k : ℕ) (xs : List ℕ) → length xs ≡ size → k ≡ 0 → NumberedFrom (take n places) k xs → xs ≡ map (λ i. before (eqb i) (take n places)) (below size)
+  number-end k xs l e f =
+      numbered-all (take n places) xs (subst (λ (j : ℕ). NumberedFrom (take n places) j xs) e f) ∙ ap (λ (j : ℕ). map (λ i. before (eqb i) (take n places)) (below j)) l
+
+-- ---- the fit test
+pub reach-parts : (v o : Cell) → T (reaches v o) → (o .x ≤ v .x) × (o .y ≤ v .y) × (o .z ≤ v .z)
+unfolding reaches
+reach-parts v o t =
+    let s = and-left (leb (o .x) (v .x) && leb (o .y) (v .y)) (leb (o .z) (v .z)) t in (
+      leb→le (o .x) (v .x) (and-left (leb (o .x) (v .x)) (leb (o .y) (v .y)) s),
+      leb→le (o .y) (v .y) (and-right (leb (o .x) (v .x)) (leb (o .y) (v .y)) s),
+      leb→le (o .z) (v .z) (and-right (leb (o .x) (v .x) && leb (o .y) (v .y)) (leb (o .z) (v .z)) t),
+    )
+
+filled-there : (g : Grid) (u : Cell) → T (any (sameCell u) (filledCells g)) → List·Memᴰ u (filledCells g)
+filled-there g u t = let r = any-at (sameCell u) (filledCells g) t in Memᴰ·cast (sameCell→eq u (r .0) (r .2)) (r .1)
+
+-- a cell is filled: its box has it, and its byte is 1
+pub filled-in : (g : Grid) (u : Cell) → InBox (g .sides) u → eqb (byteAt g u) 1 ≡ any (sameCell u) (filledCells g)
+filled-in g u b =
+    both-ways (eqb (byteAt g u) 1) (any (sameCell u) (filledCells g))
+    (λ t. any-of (sameCell u) (filledCells g) (filled-of g u b (eqb→eq (byteAt g u) 1 t)) (sameCell-refl u))
+    (λ t. eqb-of (filled-at g u (filled-there g u t) .1))
+
+pub filled-out : (g : Grid) (u : Cell) → (InBox (g .sides) u → ⊥) → false ≡ any (sameCell u) (filledCells g)
+filled-out g u b = sym (is-false (any (sameCell u) (filledCells g)) (λ t. b (filled-at g u (filled-there g u t) .0)))
+
+-- the cell u of a grid whose cell o lies at v lies on a filled cell of g
+abbrev pub lands : Grid → Cell → Cell → Cell → Bool
+lands g v o u = any (sameCell (lies v o u)) (filledCells g)
+
+pub lands-as : (g : Grid) (v o : Cell) (r : Bool) (w u : Cell) (s t : Sides) (j : ℕ) → r ≡ any (sameCell w) (filledCells g) → w ≡ lies v o u → u ≡ cellAt s j → s ≡ t
+    → lands g v o (cellAt t j) ≡ r
+lands-as g v o r w u s t j d e f i = sym (d ∙ ap (λ (x : Cell). any (sameCell x) (filledCells g)) (e ∙ ap (lies v o) (f ∙ ap (λ (x : Sides). cellAt x j) i)))
+
+-- a test of the filled cells from place j on, n of them
+module _ (h : Grid) (p : Cell → Bool) where
+  abbrev pub passFrom : ℕ → ℕ → Bool
+  passFrom j n = all p (keep (λ u. eqb (byteAt h u) 1) (map (cellAt (h .sides)) (from j n)))
+
+  pub pass-all : all p (filledCells h) ≡ passFrom 0 (volume (h .sides))
+  unfolding filledCells
+  pass-all = ap (λ (l : List Cell). all p (keep (λ u. eqb (byteAt h u) 1) l)) (box-places (h .sides))
+
+  module _ (j v : ℕ) where
+    pub pass-end : v ≤ j → passFrom j (v - j) ≡ true
+    pass-end l = let e : v - j ≡ 0 = omega arith in rw e
+
+    pass-more : j < v
+        → passFrom j (v - j) ≡ all p (consIf (eqb (getD (h .cells) j 0) 1) (cellAt (h .sides) j) (keep (λ u. eqb (byteAt h u) 1) (map (cellAt (h .sides)) (from (j + 1) (v - (j + 1))))))
+    unfolding byteAt
+    pass-more l =
+        let e : v - j ≡ suc (v - (j + 1)) = omega arith in
+        rw (e, add-one j, place-of-cell (h .sides) j)
+
+    pub pass-fail : j < v → getD (h .cells) j 0 ≡ 1 → p (cellAt (h .sides) j) ≡ false → passFrom j (v - j) ≡ false
+    pass-fail l e f = pass-more l ∙ rw (e, f)
+
+    pub pass-on : j < v → (getD (h .cells) j 0 ≡ 1 → p (cellAt (h .sides) j) ≡ true) → passFrom j (v - j) ≡ passFrom (j + 1) (v - (j + 1))
+    pass-on l f = pass-more l ∙ go (eqb (getD (h .cells) j 0) 1) refl
+      where
+        go : (b : Bool) → eqb (getD (h .cells) j 0) 1 ≡ b
+            → all p (consIf b (cellAt (h .sides) j) (keep (λ u. eqb (byteAt h u) 1) (map (cellAt (h .sides)) (from (j + 1) (v - (j + 1)))))) ≡ passFrom (j + 1) (v - (j + 1))
+        go true e = rw (f (eqb-true (getD (h .cells) j 0) 1 e))
+        go false e = refl
+
+module _ (g h : Grid) (v o : Cell) where
+  pub fits-not : reaches v o ≡ false → false ≡ fitsGrid g v o h
+  unfolding fitsGrid
+  fits-not e = rw e
+
+  pub fits-start : (n : ℕ) → reaches v o ≡ true → n ≡ volume (h .sides) → fitsGrid g v o h ≡ passFrom h (lands g v o) 0 n
+  unfolding fitsGrid
+  fits-start n e f = rw (e, f) (pass-all h (lands g v o))
+
+-- the cells in scan order or place by place
+pub fits-scan : (order : List ℕ) → IsOrder order → (g h : Grid) (v : Cell) → fits (scan order g) v (scan order h) ≡ fitsGrid g v (origin (scan order h)) h
+unfolding fits fitsGrid
+fits-scan order o g h v =
+    ap (λ (b : Bool). reaches v (origin (scan order h)) && b)
+    (both-ways (all p (scan order h)) (all q (filledCells h))
+    (λ t. all-of q (filledCells h) (λ u m. subst T (same u) (all-at p (scan order h) t (scan-has order o h u m))))
+    (λ t. all-of p (scan order h) (λ u m. subst T (sym (same u)) (all-at q (filledCells h) t (scan-from order o h u m)))))
+  where
+    to : Cell → Cell
+    to u = lies v (origin (scan order h)) u
+
+    p : Cell → Bool
+    p u = any (sameCell (to u)) (scan order g)
+
+    q : Cell → Bool
+    q u = any (sameCell (to u)) (filledCells g)
+
+    same : (u : Cell) → p u ≡ q u
+    same u =
+        both-ways (p u) (q u)
+        (λ t. let r = any-at (sameCell (to u)) (scan order g) t in any-of (sameCell (to u)) (filledCells g) (scan-from order o g (r .0) (r .1)) (r .2))
+        (λ t. let r = any-at (sameCell (to u)) (filledCells g) t in any-of (sameCell (to u)) (scan order g) (scan-has order o g (r .0) (r .1)) (r .2))
+
+pub scan-number-place : (s : Sides) (ps : List ℕ) (u : Cell) → InBox s u → scanNumber (map (cellAt s) ps) u ≡ before (eqb (placeOf s u)) ps
+unfolding scanNumber
+scan-number-place s [] u b = refl
+scan-number-place s (p ∷ ps) u b =
+    ap₂ (λ (t : Bool) (n : ℕ). cond t 0 (suc n))
+    (both-ways (sameCell u (cellAt s p)) (eqb (placeOf s u) p) (λ t. eqb-of (ap (placeOf s) (sameCell→eq u (cellAt s p) t) ∙ place-of-cell s p))
+    (λ t. subst (λ (w : Cell). T (sameCell u w)) (sym (cell-at-place s u b) ∙ ap (cellAt s) (eqb→eq (placeOf s u) p t)) (sameCell-refl u)))
+    (scan-number-place s ps u b)
+
+-- ---- how many turned grids fit
+abbrev pub fitsBy : List ℕ → Grid → Cell → Grid → ℕ → Bool
+fitsBy order g v h n = fits (scan order g) v (scan order (mapGrid (mapOf n) h))
+
+pub fits-by : (order : List ℕ) → IsOrder order → (g : Grid) (v : Cell) (h : Grid) (n : ℕ) (o : Cell) (r : Bool) → r ≡ fitsGrid g v o (mapGrid (mapOf n) h)
+    → o ≡ origin (scan order (mapGrid (mapOf n) h)) → fitsBy order g v h n ≡ r
+fits-by order i g v h n o r d e = fits-scan order i g (mapGrid (mapOf n) h) v ∙ sym (d ∙ ap (λ (u : Cell). fitsGrid g v u (mapGrid (mapOf n) h)) e)
+
+pub count-turned : (order : List ℕ) (g : Grid) (v : Cell) (h : Grid) (ns : List ℕ)
+    → howMany (fits (scan order g) v) (map (scan order) (turnedBy h ns)) ≡ howMany (fitsBy order g v h) ns
+unfolding turnedBy
+count-turned order g v h [] = refl
+count-turned order g v h (n ∷ ns) = ap (λ (k : ℕ). cond (fitsBy order g v h n) 1 0 + k) (count-turned order g v h ns)

@@ -1,0 +1,4 @@
+pub mod Tables
+pub mod Stages
+pub mod Merging
+pub mod Fitting

@@ -1,0 +1,55 @@
+-- The table of refusals in the stages in which the code tests it.
+use Prim.Native.Nat.{ℕ}
+use mathlib.Core.Bool.{Bool, true, false, not, _&&_}
+use mathlib.Core.List.{List, [], _∷_, _++_, map}
+use mathlib.Core.Path.{_≡_, refl}
+use lib.Dec.{ltb}
+use lib.ListN.{length}
+use Rattle.definitions.specs.Lists.{all, isEmpty}
+use Rattle.definitions.specs.Placements.{Compiled, compile}
+use Rattle.definitions.specs.Refusals.{Call, Row, row, gridOf, trayOf, sidesFit, cellsLie, areBits, someFilled, isTight, copyCount, boardCellCount, isPorted, isKnuth, placementCount, linkCount, table}
+use Rattle.definitions.specs.Outcomes.{numberOf}
+use Rattle.definitions.specs.declared.Record.{Record}
+use Rattle.definitions.specs.declared.Config.{Config}
+use Rattle.placements.specs.declared.Verdict.{Verdict}
+use Rattle.placements.specs.declared.Verdict.the-variants.{Accepted, Refused}
+use Rattle.placements.specs.Tables.{trayIn, pieceOf}
+
+abbrev pub verdictNumber : Verdict → ℕ
+verdictNumber Accepted = 0
+verdictNumber (Refused why) = numberOf why
+
+-- rows 5 to 9, 1 to 9, 10 to 13, 14 and 15
+unfoldable pub gridRows : List Record → Record → List ℕ → List Row
+gridRows rs board bytes =
+    let t = trayIn rs board bytes in
+    row 5 (not (areBits (t .board) && all (λ q. areBits (q .grid)) (t .pieces))) ∷
+    row 6 (not (all (λ q. someFilled (q .grid)) (t .pieces))) ∷
+    row 7 (not (all (λ q. isTight (q .grid)) (t .pieces))) ∷
+    row 8 (ltb 128 (copyCount t)) ∷
+    row 9 (ltb 128 (boardCellCount t)) ∷
+    []
+
+unfoldable pub lentRows : List Record → Record → List ℕ → List Row
+lentRows rs board bytes =
+    row 1 (isEmpty rs) ∷
+    row 2 (ltb 16 (length rs)) ∷
+    row 3 (not (all sidesFit (board ∷ rs))) ∷
+    row 4 (not (all (cellsLie bytes) (board ∷ rs))) ∷
+    gridRows rs board bytes
+
+unfoldable pub callRows : Config → ℕ → ℕ → List Row
+callRows config work links =
+    row 10 (config .«identify_mirrored_answers» && not (config .«identify_transformed_answers»)) ∷
+    row 11 (not (isPorted (config .solver))) ∷
+    row 12 (ltb work 8192) ∷
+    row 13 (isKnuth (config .solver) && ltb links 32768) ∷
+    []
+
+unfoldable pub countRows : Compiled → Config → List Row
+countRows c config = row 14 (ltb 1024 (placementCount c)) ∷ row 15 (isKnuth (config .solver) && ltb 4096 (linkCount c)) ∷ []
+
+-- together they are the table
+pub stages : (l : Call) → table l ≡ lentRows (l .pieces) (l .board) (l .bytes) ++ callRows (l .config) (length (l .work)) (length (l .links)) ++ countRows (compile (trayOf l)) (l .config)
+unfolding table lentRows gridRows callRows countRows trayOf
+stages l = refl

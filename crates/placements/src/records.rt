@@ -1,0 +1,68 @@
+// Records, their sides and their cells.
+ghost use mathlib.Core.Path.{_≡_};
+ghost use Prim.Native.Nat.{_≤_};
+ghost use lib.Dec.{T};
+ghost use lib.ListN.{length};
+ghost use Rattle.definitions.specs.Refusals.{sidesOf, gridOf, isSide, sidesFit, cellsLie};
+ghost use Rattle.definitions.specs.Grid.{volume};
+ghost use Rattle.shape.specs.Coords.{asSides};
+use definitions::Record;
+use shape::Coord;
+
+pub fn sides_of(r: Record) -> Coord
+    ensures { λ s. ⌜ asSides s ≡ sidesOf r ⌝ }
+{
+    Coord(r.a, r.b, r.c)
+}
+
+fn is_side(n: usize) -> bool
+    ensures { λ r. ⌜ r ≡ isSide n ⌝ }
+{
+    if n < 1 {
+        return false;
+    }
+    n <= 8
+}
+
+// Whether each side is 1 to 8.
+pub fn sides_fit(r: Record) -> bool
+    ensures { λ b. ⌜ b ≡ sidesFit r ⌝ }
+{
+    if !is_side(r.a) {
+        return false;
+    }
+    if !is_side(r.b) {
+        return false;
+    }
+    is_side(r.c)
+}
+
+// How many cells a record's grid has.
+pub fn volume_of(r: Record) -> usize
+    requires { ⌜ T (sidesFit r) ⌝ }
+    ensures { λ n. ⌜ (n ≡ volume (sidesOf r)) × (n ≤ 512) ⌝ }
+{
+    r.a * r.b * r.c
+}
+
+// Whether the cells lie in the lent bytes.
+pub fn cells_lie(bytes: &[u8], r: Record) -> bool
+    requires { ⌜ T (sidesFit r) ⌝ }
+    ensures { λ b. ⌜ b ≡ cellsLie (now (bytes .entry)) r ⌝ }
+{
+    let v = volume_of(r);
+    let start = r.start;
+    if bytes.len() < start {
+        return false;
+    }
+    v <= bytes.len() - start
+}
+
+pub fn cells_of(bytes: &[u8], r: Record) -> &[u8]
+    requires { ⌜ T (sidesFit r) × T (cellsLie (now bytes) r) ⌝ }
+    ensures { λ cells. ⌜ (now cells ≡ gridOf (now (bytes .entry)) r .cells) × (length (now cells) ≡ volume (sidesOf r)) ⌝ }
+{
+    let start = r.start;
+    let end = start + volume_of(r);
+    &bytes[start..end]
+}

@@ -1,0 +1,202 @@
+// The table of refusals, rows 1 to 13. Each test over all grids is a function with one loop.
+ghost use mathlib.Core.Path.{_≡_};
+ghost use mathlib.Core.Bool.{_&&_};
+ghost use mathlib.Core.List.{_∷_, map};
+ghost use Prim.Native.Nat.{_≤_, _<_};
+ghost use lib.Dec.{T};
+ghost use Rattle.definitions.specs.Lists.{all, sum};
+ghost use Rattle.definitions.specs.Refusals.{gridOf, sidesFit, cellsLie, areBits, someFilled, isTight, firstThatApplies};
+ghost use Rattle.placements.specs.Tables.{recordsOf};
+ghost use Rattle.placements.specs.Stages.{verdictNumber, gridRows, lentRows, callRows};
+use super::Table;
+use super::Verdict;
+use super::records;
+use definitions::Config;
+use definitions::Record;
+use definitions::Refusal;
+use definitions::SolverKind;
+use shape::grids;
+
+// 3
+fn all_sides_fit(t: Table) -> bool
+    requires { ⌜ t .n ≤ 16 ⌝ }
+    ensures { λ r. ⌜ r ≡ all sidesFit (recordsOf t) ⌝ }
+{
+    let n = t.n;
+    let mut i = 0;
+    while i < n {
+        let p = t.rows[i];
+        if !records::sides_fit(p) {
+            return false;
+        }
+        i += 1;
+    }
+    true
+}
+
+// 4
+fn all_cells_lie(t: Table, bytes: &[u8]) -> bool
+    requires { ⌜ (t .n ≤ 16) × T (all sidesFit (recordsOf t)) ⌝ }
+    ensures { λ r. ⌜ r ≡ all (cellsLie (now (bytes .entry))) (recordsOf t) ⌝ }
+{
+    let n = t.n;
+    let mut i = 0;
+    while i < n {
+        let p = t.rows[i];
+        if !records::cells_lie(bytes, p) {
+            return false;
+        }
+        i += 1;
+    }
+    true
+}
+
+// 5
+fn all_bits(t: Table, bytes: &[u8]) -> bool
+    requires { ⌜ (t .n ≤ 16) × T (all sidesFit (recordsOf t)) × T (all (cellsLie (now bytes)) (recordsOf t)) ⌝ }
+    ensures { λ r. ⌜ r ≡ all (λ q. areBits (gridOf (now (bytes .entry)) q)) (recordsOf t) ⌝ }
+{
+    let n = t.n;
+    let mut i = 0;
+    while i < n {
+        let p = t.rows[i];
+        if !grids::are_bits(records::cells_of(bytes, p)) {
+            return false;
+        }
+        i += 1;
+    }
+    true
+}
+
+// 6
+fn all_filled(t: Table, bytes: &[u8]) -> bool
+    requires { ⌜ (t .n ≤ 16) × T (all sidesFit (recordsOf t)) × T (all (cellsLie (now bytes)) (recordsOf t)) ⌝ }
+    ensures { λ r. ⌜ r ≡ all (λ q. someFilled (gridOf (now (bytes .entry)) q)) (recordsOf t) ⌝ }
+{
+    let n = t.n;
+    let mut i = 0;
+    while i < n {
+        let p = t.rows[i];
+        if grids::count_filled(records::cells_of(bytes, p)) == 0 {
+            return false;
+        }
+        i += 1;
+    }
+    true
+}
+
+// 7
+fn all_tight(t: Table, bytes: &[u8]) -> bool
+    requires { ⌜ (t .n ≤ 16) × T (all sidesFit (recordsOf t)) × T (all (cellsLie (now bytes)) (recordsOf t)) ⌝ }
+    ensures { λ r. ⌜ r ≡ all (λ q. isTight (gridOf (now (bytes .entry)) q)) (recordsOf t) ⌝ }
+{
+    let n = t.n;
+    let mut i = 0;
+    while i < n {
+        let p = t.rows[i];
+        if !grids::is_tight(records::cells_of(bytes, p), records::sides_of(p)) {
+            return false;
+        }
+        i += 1;
+    }
+    true
+}
+
+// 8: a sum of 16 numbers of 32 bits.
+fn copies_lent(t: Table) -> u64
+    requires { ⌜ t .n ≤ 16 ⌝ }
+    ensures { λ r. ⌜ r ≡ sum (map (λ q. q .count) (recordsOf t)) ⌝ }
+{
+    let n = t.n;
+    let mut copies: u64 = 0;
+    let mut i = 0;
+    while i < n {
+        let p = t.rows[i];
+        copies += p.count as u64;
+        i += 1;
+    }
+    copies
+}
+
+// Rows 1 to 9: what is lent.
+pub fn refusal_of_lent(t: Table, board: Record, bytes: &[u8]) -> Verdict
+    ensures { λ r. ⌜ verdictNumber r ≡ firstThatApplies (lentRows (recordsOf t) board (now (bytes .entry))) ⌝ }
+{
+    if t.n == 0 {
+        return Verdict::Refused(Refusal::NoPiece);
+    }
+    if 16 < t.n {
+        return Verdict::Refused(Refusal::TooManyPieces);
+    }
+    if !records::sides_fit(board) {
+        return Verdict::Refused(Refusal::SideOutOfRange);
+    }
+    if !all_sides_fit(t) {
+        return Verdict::Refused(Refusal::SideOutOfRange);
+    }
+    if !records::cells_lie(bytes, board) {
+        return Verdict::Refused(Refusal::CellsOutsideBytes);
+    }
+    if !all_cells_lie(t, bytes) {
+        return Verdict::Refused(Refusal::CellsOutsideBytes);
+    }
+    refusal_of_grids(t, board, bytes)
+}
+
+// Rows 5 to 9, of grids that lie in the bytes.
+fn refusal_of_grids(t: Table, board: Record, bytes: &[u8]) -> Verdict
+    requires { ⌜ (0 < t .n) × (t .n ≤ 16) × T (all sidesFit (board ∷ recordsOf t)) × T (all (cellsLie (now bytes)) (board ∷ recordsOf t)) ⌝ }
+    ensures { λ r. ⌜ verdictNumber r ≡ firstThatApplies (gridRows (recordsOf t) board (now (bytes .entry))) ⌝ }
+{
+    if !grids::are_bits(records::cells_of(bytes, board)) {
+        return Verdict::Refused(Refusal::CellNotZeroOrOne);
+    }
+    if !all_bits(t, bytes) {
+        return Verdict::Refused(Refusal::CellNotZeroOrOne);
+    }
+    if !all_filled(t, bytes) {
+        return Verdict::Refused(Refusal::PieceWithoutFilledCell);
+    }
+    if !all_tight(t, bytes) {
+        return Verdict::Refused(Refusal::EmptyOuterLayer);
+    }
+    if 128 < copies_lent(t) {
+        return Verdict::Refused(Refusal::TooManyCopies);
+    }
+    if 128 < grids::count_filled(records::cells_of(bytes, board)) {
+        return Verdict::Refused(Refusal::TooManyBoardCells);
+    }
+    Verdict::Accepted
+}
+
+// Rows 10 to 13: configuration and slices.
+pub fn refusal_of_call(config: Config, work: usize, links: usize) -> Verdict
+    ensures { λ r. ⌜ verdictNumber r ≡ firstThatApplies (callRows config work links) ⌝ }
+{
+    if config.identify_mirrored_answers {
+        if !config.identify_transformed_answers {
+            return Verdict::Refused(Refusal::MirroredWithoutTurned);
+        }
+    }
+    let solver = config.solver;
+    match solver {
+        SolverKind::Auto => Verdict::Refused(Refusal::EngineNotPorted),
+        SolverKind::Naive => Verdict::Refused(Refusal::EngineNotPorted),
+        SolverKind::Fast => {
+            if work < 8192 {
+                Verdict::Refused(Refusal::WorkTooShort)
+            } else {
+                Verdict::Accepted
+            }
+        }
+        SolverKind::KnuthAlgorithm => {
+            if work < 8192 {
+                Verdict::Refused(Refusal::WorkTooShort)
+            } else if links < 32768 {
+                Verdict::Refused(Refusal::LinksTooShort)
+            } else {
+                Verdict::Accepted
+            }
+        }
+    }
+}
