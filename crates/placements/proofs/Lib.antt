@@ -1,3 +1,5 @@
+pub mod StageLaws
 pub mod RefusalLaws
 pub mod MergingLaws
 pub mod FittingLaws
+pub mod CountingLaws

@@ -2,3 +2,4 @@ pub mod Tables
 pub mod Stages
 pub mod Merging
 pub mod Fitting
+pub mod Counting

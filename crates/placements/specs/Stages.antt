@@ -1,19 +1,18 @@
 -- The table of refusals in the stages in which the code tests it.
 use Prim.Native.Nat.{ℕ}
 use mathlib.Core.Bool.{Bool, true, false, not, _&&_}
-use mathlib.Core.List.{List, [], _∷_, _++_, map}
-use mathlib.Core.Path.{_≡_, refl}
+use mathlib.Core.List.{List, [], _∷_}
 use lib.Dec.{ltb}
 use lib.ListN.{length}
 use Rattle.definitions.specs.Lists.{all, isEmpty}
-use Rattle.definitions.specs.Placements.{Compiled, compile}
-use Rattle.definitions.specs.Refusals.{Call, Row, row, gridOf, trayOf, sidesFit, cellsLie, areBits, someFilled, isTight, copyCount, boardCellCount, isPorted, isKnuth, placementCount, linkCount, table}
+use Rattle.definitions.specs.Placements.{Compiled}
+use Rattle.definitions.specs.Refusals.{Row, row, sidesFit, cellsLie, areBits, someFilled, isTight, copyCount, boardCellCount, isPorted, isKnuth, placementCount, linkCount}
 use Rattle.definitions.specs.Outcomes.{numberOf}
 use Rattle.definitions.specs.declared.Record.{Record}
 use Rattle.definitions.specs.declared.Config.{Config}
 use Rattle.placements.specs.declared.Verdict.{Verdict}
 use Rattle.placements.specs.declared.Verdict.the-variants.{Accepted, Refused}
-use Rattle.placements.specs.Tables.{trayIn, pieceOf}
+use Rattle.placements.specs.Tables.{trayIn}
 
 abbrev pub verdictNumber : Verdict → ℕ
 verdictNumber Accepted = 0
@@ -48,8 +47,3 @@ callRows config work links =
 
 unfoldable pub countRows : Compiled → Config → List Row
 countRows c config = row 14 (ltb 1024 (placementCount c)) ∷ row 15 (isKnuth (config .solver) && ltb 4096 (linkCount c)) ∷ []
-
--- together they are the table
-pub stages : (l : Call) → table l ≡ lentRows (l .pieces) (l .board) (l .bytes) ++ callRows (l .config) (length (l .work)) (length (l .links)) ++ countRows (compile (trayOf l)) (l .config)
-unfolding table lentRows gridRows callRows countRows trayOf
-stages l = refl

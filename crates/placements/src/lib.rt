@@ -3,6 +3,7 @@ use definitions::Record;
 use definitions::Refusal;
 
 pub mod board;
+pub mod counting;
 pub mod fitting;
 pub mod merging;
 pub mod records;

@@ -1,0 +1,535 @@
+-- Counting: how many placements a kind has, how many placements and links a tray has, and what rows 1 to 9 tell of a tray that they let pass.
+-- Assumes nothing.
+use Prim.Native.Nat.{ℕ, zero, suc, _+_, _*_, _≤_, _<_}
+use mathlib.Core.Bool.{Bool, true, false, cond, not}
+use mathlib.Core.List.{List, [], _∷_, _++_, map, append-assoc, List·Memᴰ, List·Memᴰ·head, List·Memᴰ·tail, Memᴰ·map, Memᴰ·of-map}
+use mathlib.Core.Path.{_≡_, refl, sym, ap, ap₂, _∙_, subst}
+use mathlib.Core.Logic.{_⊎_, inl, inr}
+use native.Mathlib.Nat.{zero-mul, mul-zero, mul-one, add-mul, mul-le-mul}
+use native.Mathlib.Numerals.{add-one}
+use native.Mathlib.Omega.{arith}
+use borrow.Author.Tests.{leb-true, ltb-false}
+use lib.Dec.{T, ltb, leb, eqb, ltb→lt, lt→ltb, eqb→eq}
+use lib.ListN.{length, getD, take, drop, replicate, length-replicate, length-map, length-drop, drop-of-length-le}
+use lib.Seq.{length-take-le, drop-cons, getD-take}
+use Rattle.definitions.specs.Lists.{all, howMany, keep, consIf, sum, joined, numbered, numberedFrom}
+use Rattle.definitions.specs.Grid.{Sides, Cell, Grid, volume, box, byteAt, filledCells}
+use Rattle.definitions.specs.Scan.{axes, scan, scanNumber}
+use Rattle.definitions.specs.Kinds.{Tray, Kind, kindsOf, variants, smallest, sorted, shapes, copiesOf, partnerOf}
+use Rattle.definitions.specs.Placements.{origin, lies, fits, Placement, placementsAt, placementsOf, compile}
+use Rattle.definitions.specs.Packing.{limits}
+use Rattle.definitions.specs.Refusals.{Row, row, gridOf, sidesOf, sidesFit, cellsLie, boardCellCount, placementCount, linkCount, rowsOf, firstThatApplies}
+use Rattle.definitions.specs.Outcomes.{numberOf}
+use Rattle.definitions.specs.declared.Record.{Record}
+use Rattle.definitions.specs.declared.Config.{Config}
+use Rattle.definitions.specs.declared.Refusal.{Refusal}
+use Rattle.definitions.specs.declared.Refusal.the-variants.{NoPiece, TooManyPieces, SideOutOfRange, CellsOutsideBytes, CellNotZeroOrOne, PieceWithoutFilledCell, EmptyOuterLayer, TooManyCopies, TooManyBoardCells, MirroredWithoutTurned, EngineNotPorted, WorkTooShort, LinksTooShort, TooManyPlacements, TooManyLinks}
+use Rattle.definitions.proofs.ListLaws.{and-left, and-right, all-at, all-of, keep-at, holds, decide, clash, not-T, eqb-of, is-true, is-false}
+use Rattle.definitions.proofs.CountLaws.{total, total-one, howMany-length, sum-map}
+use Rattle.definitions.proofs.MapLaws.{turn-fits, filled-at, filled-length, map-map-of}
+use Rattle.definitions.proofs.GroupLaws.{bytes-whole, map-same}
+use Rattle.definitions.proofs.WellMadeLaws.{Nth, nth-mem, nth-getD}
+use Rattle.definitions.proofs.KindLaws.{nth-at}
+use Rattle.definitions.proofs.ShapeLaws.{scan-length, smallest-at}
+use Rattle.definitions.proofs.PartnerLaws.{variants-turned}
+use Rattle.shape.specs.declared.Coord.{Coord}
+use Rattle.shape.specs.Coords.{asSides}
+use Rattle.shape.specs.Grids.{Whole}
+use Rattle.shape.specs.Places.{cellAt}
+use Rattle.shape.proofs.PlaceLaws.{place-lt, place-of-cell, volume-small}
+use Rattle.shape.proofs.VariantLaws.{variant-filled, scan-from}
+use Rattle.placements.specs.declared.Table.{Table}
+use Rattle.placements.specs.declared.Verdict.{Verdict}
+use Rattle.placements.specs.declared.Verdict.the-variants.{Refused}
+use Rattle.placements.specs.Tables.{noRecord, listed, recordsOf, trayIn}
+use Rattle.placements.specs.Stages.{verdictNumber, lentRows, gridRows, callRows}
+use Rattle.placements.specs.Merging.{Sound, gridAt, shapeAt, shapesOf, AreKinds, copiesAt}
+use Rattle.placements.specs.Counting.{fitsIn, placementsIn, OnBoard, Accepted9}
+use Rattle.placements.proofs.RefusalLaws.{cells-end, record-passes}
+
+eqb-turned : (m n : ℕ) → eqb m n ≡ eqb n m
+eqb-turned m n = go (decide (eqb m n))
+  where
+    go : T (eqb m n) ⊎ T (not (eqb m n)) → eqb m n ≡ eqb n m
+    go (inl t) = is-true (eqb m n) t ∙ sym (is-true (eqb n m) (eqb-of (sym (eqb→eq m n t))))
+    go (inr t) = not-T (eqb m n) t ∙ sym (is-false (eqb n m) (λ s. clash (eqb m n) (eqb-of (sym (eqb→eq n m s))) t))
+
+-- ---- sums over joined and numbered lists
+total-append : {A : Type 0} (f : A → ℕ) (xs ys : List A) → total f (xs ++ ys) ≡ total f xs + total f ys
+total-append f [] ys = omega arith
+total-append f (x ∷ xs) ys = let r = total-append f xs ys in omega arith
+
+total-keep : {A : Type 0} (p : A → Bool) (f : A → ℕ) (xs : List A) → total f (keep p xs) ≡ total (λ x. cond (p x) (f x) 0) xs
+total-keep p f [] = refl
+total-keep p f (x ∷ xs) = go (p x) (total-keep p f xs)
+  where
+    go : (b : Bool) → total f (keep p xs) ≡ total (λ x. cond (p x) (f x) 0) xs → total f (consIf b x (keep p xs)) ≡ cond b (f x) 0 + total (λ x. cond (p x) (f x) 0) xs
+    go true e = omega arith
+    go false e = omega arith
+
+total-each : {A : Type 0} (f : A → ℕ) (c : ℕ) (xs : List A) → ((x : A) → List·Memᴰ x xs → f x ≡ c) → total f xs ≡ length xs * c
+total-each f c [] h = sym (zero-mul c)
+total-each f c (x ∷ xs) h =
+    let r = total-each f c xs (λ z m. h z (List·Memᴰ·tail m)) in
+    let a = h x (List·Memᴰ·head refl) in
+    let e : suc (length xs) * c ≡ c + length xs * c = omega arith in
+    omega arith
+
+total-times : {A : Type 0} (f : A → ℕ) (c : ℕ) (xs : List A) → total (λ x. f x * c) xs ≡ total f xs * c
+total-times f c [] = sym (zero-mul c)
+total-times f c (x ∷ xs) = let r = total-times f c xs in let e = add-mul (f x) (total f xs) c in omega arith
+
+module _ {A B : Type 0} (f : B → ℕ) (g : A → ℕ) where
+  total-numbered : (F : ℕ → A → B) (i : ℕ) (xs : List A) → ((n : ℕ) (x : A) → List·Memᴰ x xs → f (F n x) ≡ g x) → total f (numberedFrom i xs F) ≡ total g xs
+  total-numbered F i [] h = refl
+  total-numbered F i (x ∷ xs) h = ap₂ (λ (a b : ℕ). a + b) (h i x (List·Memᴰ·head refl)) (total-numbered F (suc i) xs (λ n z m. h n z (List·Memᴰ·tail m)))
+
+  total-joined : (F : ℕ → A → List B) (i : ℕ) (xs : List A) → ((n : ℕ) (x : A) → Nth xs n x → total f (F (n + i) x) ≡ g x) → total f (joined (numberedFrom i xs F)) ≡ total g xs
+  total-joined F i [] h = refl
+  total-joined F i (x ∷ xs) h =
+      total-append f (F i x) (joined (numberedFrom (suc i) xs F))
+      ∙ ap₂ (λ (a b : ℕ). a + b) (ap (λ (k : ℕ). total f (F k x)) (omega arith) ∙ h 0 x refl)
+      (total-joined F (suc i) xs (λ n z m. ap (λ (k : ℕ). total f (F k z)) (omega arith) ∙ h (suc n) z m))
+
+-- ---- the placements of a kind
+-- a sum over a kind's placements, where each counts the same
+module _ (order : List ℕ) (board : Grid) (k : ℕ) (d : Kind) (f : Placement → ℕ) (c : ℕ) where
+  abbrev cs : List Cell
+  cs = scan order board
+
+  abbrev vs : List (List Cell)
+  vs = map (scan order) (variants (d .shape))
+
+  abbrev at : ℕ → Cell → ℕ → List Cell → Placement
+  at n v i us = record { kind = k; p = n; j = i; cells = map (λ u. scanNumber cs (lies v (origin us) u)) us }
+
+  pub total-placements : ((n : ℕ) (v : Cell) (i : ℕ) (us : List Cell) → List·Memᴰ us vs → f (at n v i us) ≡ c)
+      → total f (placementsOf order cs k d) ≡ fitsIn order board (variants (d .shape)) * c
+  unfolding placementsOf placementsAt fitsIn
+  total-placements h =
+      total-joined f (λ v. howMany (fits cs v) vs * c) (placementsAt cs k vs) 0 cs (λ n v m. here (n + 0) v)
+      ∙ total-times (λ v. howMany (fits cs v) vs) c cs ∙ ap (λ (n : ℕ). n * c) (sym (sum-map (λ v. howMany (fits cs v) vs) cs))
+    where
+      here : (n : ℕ) (v : Cell) → total f (placementsAt cs k vs n v) ≡ howMany (fits cs v) vs * c
+      here n v =
+          total-numbered f (λ us. c) (at n v) 0 (keep (fits cs v) vs) (λ i us m. h n v i us (keep-at (fits cs v) vs m .0))
+          ∙ total-each (λ us. c) c (keep (fits cs v) vs) (λ us m. refl) ∙ ap (λ (n : ℕ). n * c) (sym (howMany-length (fits cs v) vs))
+
+-- they are as many as the fits of its variants
+pub count-placements : (order : List ℕ) (board : Grid) (k : ℕ) (d : Kind) → length (placementsOf order (scan order board) k d) ≡ fitsIn order board (variants (d .shape))
+count-placements order board k d =
+    sym (total-one (placementsOf order (scan order board) k d)) ∙ total-placements order board k d (λ q. 1) 1 (λ n v i us m. refl) ∙ mul-one (fitsIn order board (variants (d .shape)))
+
+-- ---- a kind's smallest turned grid counts as any other
+pub variants-smallest : (g : Grid) → length (g .cells) ≡ volume (g .sides) → variants (smallest g) ≡ variants g
+variants-smallest g e = let r = smallest-at g in ap variants (sym (r .2)) ∙ variants-turned (r .0) (r .1) g e
+
+pub filled-smallest : (g : Grid) → length (filledCells (smallest g)) ≡ length (filledCells g)
+filled-smallest g = let r = smallest-at g in ap (λ (h : Grid). length (filledCells h)) (sym (r .2)) ∙ filled-length (r .0) (turn-fits (r .0) (r .1)) g
+
+-- a whole grid's filled cells are its bytes that are 1
+pub filled-bytes : (g : Grid) → length (g .cells) ≡ volume (g .sides) → length (filledCells g) ≡ howMany (eqb 1) (g .cells)
+unfolding filledCells
+filled-bytes g e =
+    sym (howMany-length (λ u. eqb (byteAt g u) 1) (box (g .sides))) ∙ by-bytes (box (g .sides)) ∙ ap (howMany (eqb 1)) (bytes-whole g e)
+  where
+    by-bytes : (us : List Cell) → howMany (λ u. eqb (byteAt g u) 1) us ≡ howMany (eqb 1) (map (byteAt g) us)
+    by-bytes [] = refl
+    by-bytes (u ∷ us) = ap₂ {C = ℕ} (λ (b : Bool) (n : ℕ). cond b 1 0 + n) (eqb-turned (byteAt g u) 1) (by-bytes us)
+
+-- the cells of a kind's placements are as many as its shape's filled cells
+scanned-size : (s : Sides) (g : Grid) (us : List Cell) → List·Memᴰ us (map (scan (axes s)) (variants g)) → length us ≡ length (filledCells g)
+scanned-size s g us m =
+    let r = Memᴰ·of-map (scan (axes s)) (variants g) m in
+    ap length (sym (r .2)) ∙ scan-length s (r .0) ∙ variant-filled g (r .0) (r .1)
+
+-- ---- the counts of a tray, kind by kind
+module _ (t : Tray) where
+  abbrev ord : List ℕ
+  ord = axes (t .board .sides)
+
+  abbrev bd : List Cell
+  bd = scan ord (t .board)
+
+  -- the placements of a kind by its shape, and the links of its rows
+  abbrev pub placementsBy : Grid → ℕ
+  placementsBy g = fitsIn ord (t .board) (variants g)
+
+  abbrev pub linksBy : Grid → ℕ
+  linksBy g = cond (ltb 0 (length (copiesOf (sorted t) g))) (placementsBy g * suc (length (filledCells g))) 0
+
+  abbrev made : Grid → Kind
+  made g = record { shape = g; partner = partnerOf (shapes (sorted t)) g; copies = copiesOf (sorted t) g }
+
+  total-kinds : (f : Grid → ℕ) (h : Kind → ℕ) → ((g : Grid) → h (made g) ≡ f g) → total h (kindsOf t) ≡ sum (map f (shapes (sorted t)))
+  unfolding kindsOf
+  total-kinds f h e = go (shapes (sorted t))
+    where
+      go : (gs : List Grid) → total h (map made gs) ≡ sum (map f gs)
+      go [] = refl
+      go (g ∷ gs) = ap₂ (λ (a b : ℕ). a + b) (e g) (go gs)
+
+  pub placements-sum : placementCount (compile t) ≡ sum (map placementsBy (shapes (sorted t)))
+  unfolding placementCount compile
+  placements-sum =
+      sym (total-one (joined (numbered (kindsOf t) (placementsOf ord bd))))
+      ∙ total-joined (λ q. 1) (λ d. placementsBy (d .shape)) (placementsOf ord bd) 0 (kindsOf t)
+      (λ n d m. total-one (placementsOf ord bd (n + 0) d) ∙ count-placements ord (t .board) (n + 0) d)
+      ∙ total-kinds placementsBy (λ d. placementsBy (d .shape)) (λ g. refl)
+
+  abbrev weight : Placement → ℕ
+  weight q = cond (ltb 0 (getD (map (λ d. length (d .copies)) (kindsOf t)) (q .kind) 0)) (suc (length (q .cells))) 0
+
+  abbrev linksOf : Kind → ℕ
+  linksOf d = cond (ltb 0 (length (d .copies))) (placementsBy (d .shape) * suc (length (filledCells (d .shape)))) 0
+
+  links-of : (k : ℕ) (d : Kind) → Nth (kindsOf t) k d → total weight (placementsOf ord bd k d) ≡ linksOf d
+  links-of k d m =
+      total-placements ord (t .board) k d weight (cond (ltb 0 (length (d .copies))) (suc (length (filledCells (d .shape)))) 0)
+      (λ n v i us h. ap₂ {C = ℕ} (λ (a b : ℕ). cond (ltb 0 a) (suc b) 0) (nth-getD (λ (x : Kind). length (x .copies)) 0 (kindsOf t) k m) (length-map us _ ∙ scanned-size (t .board .sides) (d .shape) us h))
+      ∙ go (ltb 0 (length (d .copies)))
+    where
+      go : (b : Bool) → placementsBy (d .shape) * cond b (suc (length (filledCells (d .shape)))) 0 ≡ cond b (placementsBy (d .shape) * suc (length (filledCells (d .shape)))) 0
+      go true = refl
+      go false = mul-zero (placementsBy (d .shape))
+
+  kinds-length : length (kindsOf t) ≡ length (shapes (sorted t))
+  unfolding kindsOf
+  kinds-length = length-map (shapes (sorted t)) made
+
+  pub links-sum : linkCount (compile t) ≡ length (scan ord (t .board)) + length (shapes (sorted t)) + sum (map linksBy (shapes (sorted t)))
+  unfolding linkCount rowsOf limits compile
+  links-sum = ap₂ (λ (a b : ℕ). length bd + a + b) kinds-length (rows ∙ total-kinds linksBy linksOf (λ g. refl))
+    where
+      all-of-them : List Placement
+      all-of-them = joined (numbered (kindsOf t) (placementsOf ord bd))
+
+      p : Placement → Bool
+      p q = ltb 0 (getD (limits (compile t)) (q .kind) 0)
+
+      rows : sum (map (λ q. suc (length (q .cells))) (keep p all-of-them)) ≡ total linksOf (kindsOf t)
+      rows =
+          sum-map (λ q. suc (length (q .cells))) (keep p all-of-them) ∙ total-keep p (λ q. suc (length (q .cells))) all-of-them
+          ∙ total-joined weight linksOf (placementsOf ord bd) 0 (kindsOf t) (λ n d m. links-of (n + 0) d (subst (λ (k : ℕ). Nth (kindsOf t) k d) (omega arith) m))
+
+-- ---- rows of the table of refusals
+-- rows with numbers from 1 on: where none applies those behind them decide, and where one does they do not
+pub first-passes : (xs ys : List Row) → T (all (λ r. ltb 0 (r .number)) xs) → firstThatApplies xs ≡ 0 → firstThatApplies (xs ++ ys) ≡ firstThatApplies ys
+first-passes [] ys p e = refl
+first-passes (r ∷ xs) ys p e = go (r .applies) e (λ (i : firstThatApplies xs ≡ 0). first-passes xs ys (and-right (ltb 0 (r .number)) (all (λ q. ltb 0 (q .number)) xs) p) i)
+  where
+    go : (b : Bool) → cond b (r .number) (firstThatApplies xs) ≡ 0 → (firstThatApplies xs ≡ 0 → firstThatApplies (xs ++ ys) ≡ firstThatApplies ys)
+        → cond b (r .number) (firstThatApplies (xs ++ ys)) ≡ firstThatApplies ys
+    go true i f = let l = ltb→lt 0 (r .number) (and-left (ltb 0 (r .number)) (all (λ q. ltb 0 (q .number)) xs) p) in absurd (omega arith)
+    go false i f = f i
+
+pub first-decides : (xs ys : List Row) → (firstThatApplies xs ≡ 0 → ⊥) → firstThatApplies (xs ++ ys) ≡ firstThatApplies xs
+first-decides [] ys e = absurd (e refl)
+first-decides (r ∷ xs) ys e = go (r .applies) e (λ (i : firstThatApplies xs ≡ 0 → ⊥). first-decides xs ys i)
+  where
+    go : (b : Bool) → (cond b (r .number) (firstThatApplies xs) ≡ 0 → ⊥) → ((firstThatApplies xs ≡ 0 → ⊥) → firstThatApplies (xs ++ ys) ≡ firstThatApplies xs)
+        → cond b (r .number) (firstThatApplies (xs ++ ys)) ≡ cond b (r .number) (firstThatApplies xs)
+    go true i f = refl
+    go false i f = f i
+
+none-applies : (xs : List Row) → T (all (λ r. ltb 0 (r .number)) xs) → firstThatApplies xs ≡ 0 → (k : ℕ) → getD (map (λ r. r .applies) xs) k false ≡ false
+none-applies [] p e k = refl
+none-applies (r ∷ xs) p e k = go (r .applies) k e (λ (i : firstThatApplies xs ≡ 0) (j : ℕ). none-applies xs (and-right (ltb 0 (r .number)) (all (λ q. ltb 0 (q .number)) xs) p) i j)
+  where
+    go : (b : Bool) (j : ℕ) → cond b (r .number) (firstThatApplies xs) ≡ 0 → (firstThatApplies xs ≡ 0 → (m : ℕ) → getD (map (λ q. q .applies) xs) m false ≡ false)
+        → getD (b ∷ map (λ q. q .applies) xs) j false ≡ false
+    go true j i f = let l = ltb→lt 0 (r .number) (and-left (ltb 0 (r .number)) (all (λ q. ltb 0 (q .number)) xs) p) in absurd (omega arith)
+    go false zero i f = refl
+    go false (suc j) i f = f i j
+
+-- a refusal has a number from 1 on
+pub refused-some : (why : Refusal) → numberOf why ≡ 0 → ⊥
+refused-some NoPiece e = omega arith
+refused-some TooManyPieces e = omega arith
+refused-some SideOutOfRange e = omega arith
+refused-some CellsOutsideBytes e = omega arith
+refused-some CellNotZeroOrOne e = omega arith
+refused-some PieceWithoutFilledCell e = omega arith
+refused-some EmptyOuterLayer e = omega arith
+refused-some TooManyCopies e = omega arith
+refused-some TooManyBoardCells e = omega arith
+refused-some MirroredWithoutTurned e = omega arith
+refused-some EngineNotPorted e = omega arith
+refused-some WorkTooShort e = omega arith
+refused-some LinksTooShort e = omega arith
+refused-some TooManyPlacements e = omega arith
+refused-some TooManyLinks e = omega arith
+
+pub refused-not : (v : Verdict) {why : Refusal} → v ≡ Refused why → verdictNumber v ≡ 0 → ⊥
+refused-not v {why} r e = refused-some why (sym (ap verdictNumber r) ∙ e)
+
+-- the table in its three parts: the first part of which a row applies decides
+module _ (t : Table) (board : Record) (bytes : List ℕ) (config : Config) (work links : ℕ) (counts : List Row) where
+  abbrev lent : List Row
+  lent = lentRows (recordsOf t) board bytes
+
+  abbrev call : List Row
+  call = callRows config work links
+
+  lent-numbered : T (all (λ r. ltb 0 (r .number)) lent)
+  unfolding lentRows gridRows
+  lent-numbered = tt
+
+  call-numbered : T (all (λ r. ltb 0 (r .number)) call)
+  unfolding callRows
+  call-numbered = tt
+
+  pub lent-decides : (firstThatApplies lent ≡ 0 → ⊥) → firstThatApplies (lent ++ call ++ counts) ≡ firstThatApplies lent
+  lent-decides d = ap firstThatApplies (append-assoc lent call counts) ∙ first-decides lent (call ++ counts) d
+
+  past-lent : firstThatApplies lent ≡ 0 → firstThatApplies (lent ++ call ++ counts) ≡ firstThatApplies (call ++ counts)
+  past-lent e = ap firstThatApplies (append-assoc lent call counts) ∙ first-passes lent (call ++ counts) lent-numbered e
+
+  pub call-decides : firstThatApplies lent ≡ 0 → (firstThatApplies call ≡ 0 → ⊥) → firstThatApplies (lent ++ call ++ counts) ≡ firstThatApplies call
+  call-decides e d = past-lent e ∙ first-decides call counts d
+
+  pub counts-decide : firstThatApplies lent ≡ 0 → firstThatApplies call ≡ 0 → firstThatApplies (lent ++ call ++ counts) ≡ firstThatApplies counts
+  counts-decide e f = past-lent e ∙ first-passes call counts call-numbered f
+
+-- ---- what rows 1 to 9 leave
+pub record Lent (t : Table) (board : Record) (bytes : List ℕ) : Type 0 where
+  pub few : t .n ≤ 16
+  pub sides : T (all sidesFit (board ∷ recordsOf t))
+  pub lie : T (all (cellsLie bytes) (board ∷ recordsOf t))
+  pub cells : sum (gridOf bytes board .cells) ≤ 128
+
+passed : (b : Bool) → not b ≡ false → T b
+passed true e = tt
+passed false e = absurd (subst T e tt)
+
+few-records : (t : Table) → ltb 16 (length (recordsOf t)) ≡ false → t .n ≤ 16
+unfolding recordsOf
+few-records t = go (leb (t .n) 16) refl
+  where
+    go : (b : Bool) → leb (t .n) 16 ≡ b → ltb 16 (length (listed b t)) ≡ false → t .n ≤ 16
+    go true e h = leb-true (t .n) 16 e
+    go false e h = let l = ltb-false 16 (length (replicate (t .n) noRecord)) h in let k = length-replicate (t .n) noRecord in omega arith
+
+pub lent-passes : (t : Table) (board : Record) (bytes : List ℕ) → Accepted9 t board bytes → Lent t board bytes
+unfolding Accepted9 lentRows gridRows boardCellCount
+lent-passes t board bytes ok =
+    let none : (k : ℕ) → getD (map (λ r. r .applies) (lentRows (recordsOf t) board bytes)) k false ≡ false = none-applies (lentRows (recordsOf t) board bytes) tt ok in
+    record {
+      few = few-records t (none 1);
+      sides = passed (all sidesFit (board ∷ recordsOf t)) (none 2);
+      lie = passed (all (cellsLie bytes) (board ∷ recordsOf t)) (none 3);
+      cells = ltb-false 128 (sum (gridOf bytes board .cells)) (none 8);
+    }
+
+-- ---- a tray's counts by a piece of each kind
+-- the placements of piece i on a board, and the links of their rows
+abbrev pub placementsAtPiece : List ℕ → Grid → Table → List ℕ → ℕ → ℕ
+placementsAtPiece order g t bytes i = placementsIn order g (gridAt t bytes i)
+
+abbrev pub linksAtPiece : List ℕ → Grid → Table → List ℕ → ℕ → ℕ
+linksAtPiece order g t bytes i = cond (ltb 0 (copiesAt t bytes i)) (placementsAtPiece order g t bytes i * (1 + howMany (eqb 1) (gridAt t bytes i .cells))) 0
+
+module _ (t : Table) (board : Record) (bytes : List ℕ) (l : Lent t board bytes) where
+  pub sound : Sound t bytes
+  sound =
+      record {
+        few = l .few;
+        sides = and-right (sidesFit board) (all sidesFit (recordsOf t)) (l .sides);
+        lie = and-right (cellsLie bytes board) (all (cellsLie bytes) (recordsOf t)) (l .lie);
+      }
+
+  pub board-fits : T (sidesFit board) × T (cellsLie bytes board)
+  board-fits = (and-left (sidesFit board) (all sidesFit (recordsOf t)) (l .sides), and-left (cellsLie bytes board) (all (cellsLie bytes) (recordsOf t)) (l .lie))
+
+  -- the grid of a lent record is whole
+  grid-size : (r : Record) → T (cellsLie bytes r) → length (gridOf bytes r .cells) ≡ volume (gridOf bytes r .sides)
+  unfolding gridOf
+  grid-size r h = let k = cells-end bytes r h in length-take-le (volume (sidesOf r)) (drop (r .start) bytes) (simp length-drop (omega arith))
+
+  pub board-size : length (gridOf bytes board .cells) ≡ volume (gridOf bytes board .sides)
+  board-size = grid-size board (board-fits .1)
+
+  abbrev tray : Tray
+  tray = trayIn (recordsOf t) board bytes
+
+  abbrev order : List ℕ
+  order = axes (gridOf bytes board .sides)
+
+  module _ (long : length (t .rows) ≡ 16) where
+    piece-size : (i : ℕ) → i < t .n → length (gridAt t bytes i .cells) ≡ volume (gridAt t bytes i .sides)
+    unfolding gridAt
+    piece-size i h = grid-size (getD (t .rows) i noRecord) (record-passes t (l .few) long i h (cellsLie bytes) (sound .lie))
+
+    placements-at : (i : ℕ) → i < t .n → placementsBy tray (shapeAt t bytes i) ≡ placementsAtPiece order (gridOf bytes board) t bytes i
+    unfolding placementsIn shapeAt
+    placements-at i h = ap (fitsIn order (gridOf bytes board)) (variants-smallest (gridAt t bytes i) (piece-size i h))
+
+    links-at : (i : ℕ) → i < t .n → linksBy tray (shapeAt t bytes i) ≡ linksAtPiece order (gridOf bytes board) t bytes i
+    unfolding copiesAt sorted shapeAt
+    links-at i h =
+        ap₂ {C = ℕ} (λ (a b : ℕ). cond (ltb 0 (copiesAt t bytes i)) (a * b) 0) (placements-at i h)
+        (let e = filled-smallest (gridAt t bytes i) in let f = filled-bytes (gridAt t bytes i) (piece-size i h) in omega arith)
+
+    module _ (first : List ℕ) (n : ℕ) (are : AreKinds t bytes first n) where
+      sum-kinds : (f : Grid → ℕ) (g : ℕ → ℕ) → ((i : ℕ) → i < t .n → f (shapeAt t bytes i) ≡ g i) → sum (map f (shapes (sorted tray))) ≡ sum (map g (take n first))
+      unfolding shapesOf sorted
+      sum-kinds f g e =
+          ap (λ (gs : List Grid). sum (map f gs)) (sym (are .shapesAre))
+          ∙ ap sum (map-map-of f (shapeAt t bytes) (take n first) ∙ map-same (λ i. f (shapeAt t bytes i)) g (take n first)
+          (λ i m. e i (ltb→lt i (t .n) (all-at (λ (j : ℕ). ltb j (t .n)) (take n first) (are .ordered .pieces) m))))
+
+      pub placements-by-pieces : placementCount (compile (trayIn (recordsOf t) board bytes)) ≡ sum (map (placementsAtPiece (axes (gridOf bytes board .sides)) (gridOf bytes board) t bytes) (take n first))
+      placements-by-pieces = placements-sum tray ∙ sum-kinds (placementsBy tray) (placementsAtPiece order (gridOf bytes board) t bytes) placements-at
+
+      pub links-by-pieces : n ≤ length first → linkCount (compile (trayIn (recordsOf t) board bytes))
+          ≡ length (scan (axes (gridOf bytes board .sides)) (gridOf bytes board)) + n + sum (map (linksAtPiece (axes (gridOf bytes board .sides)) (gridOf bytes board) t bytes) (take n first))
+      unfolding shapesOf sorted
+      links-by-pieces h =
+          links-sum tray
+          ∙ ap₂ (λ (a b : ℕ). length (scan order (gridOf bytes board)) + a + b)
+          (ap length (sym (are .shapesAre)) ∙ length-map (take n first) (shapeAt t bytes) ∙ length-take-le n first h)
+          (sum-kinds (linksBy tray) (linksAtPiece order (gridOf bytes board) t bytes) links-at)
+
+-- the kinds of a tray, given by a piece of each: their shapes are the pieces' smallest turned grids, and they are as many
+module _ (t : Table) (board : Record) (bytes first : List ℕ) (n : ℕ) (are : AreKinds t bytes first n) where
+  pub kinds-shapes : map (λ d. d .shape) (kindsOf (trayIn (recordsOf t) board bytes)) ≡ map (shapeAt t bytes) (take n first)
+  unfolding kindsOf sorted shapesOf
+  kinds-shapes = map-map-of (λ (d : Kind). d .shape) (made (trayIn (recordsOf t) board bytes)) (shapes (sorted (trayIn (recordsOf t) board bytes))) ∙ same (shapes (sorted (trayIn (recordsOf t) board bytes))) ∙ sym (are .shapesAre)
+    where
+      same : (gs : List Grid) → map (λ g. g) gs ≡ gs
+      same [] = refl
+      same (g ∷ gs) = ap (λ (l : List Grid). g ∷ l) (same gs)
+
+  pub kinds-many : n ≤ length first → length (kindsOf (trayIn (recordsOf t) board bytes)) ≡ n
+  kinds-many h =
+      sym (length-map (kindsOf (trayIn (recordsOf t) board bytes)) (λ d. d .shape)) ∙ ap length kinds-shapes ∙ length-map (take n first) (shapeAt t bytes) ∙ length-take-le n first h
+
+-- the links of piece i as the code counts them
+module _ (order : List ℕ) (g : Grid) (t : Table) (bytes : List ℕ) (i rows copies : ℕ) (r : rows ≡ placementsAtPiece order g t bytes i) (m : copies ≡ copiesAt t bytes i) where
+  pub links-some : (f : ℕ) → f ≡ howMany (eqb 1) (gridAt t bytes i .cells) → 0 < copies → linksAtPiece order g t bytes i ≡ rows * (1 + f)
+  links-some f e h =
+      ap {B = ℕ} (λ (b : Bool). cond b (placementsAtPiece order g t bytes i * (1 + howMany (eqb 1) (gridAt t bytes i .cells))) 0) (is-true (ltb 0 (copiesAt t bytes i)) (lt→ltb 0 (copiesAt t bytes i) (omega arith)))
+      ∙ ap₂ {C = ℕ} (λ (a b : ℕ). a * (1 + b)) (sym r) (sym e)
+
+  pub links-none : copies ≤ 0 → linksAtPiece order g t bytes i ≡ 0
+  links-none h =
+      ap {B = ℕ} (λ (b : Bool). cond b (placementsAtPiece order g t bytes i * (1 + howMany (eqb 1) (gridAt t bytes i .cells))) 0)
+      (is-false (ltb 0 (copiesAt t bytes i)) (λ u. let l = ltb→lt 0 (copiesAt t bytes i) u in omega arith))
+
+-- ---- sums over the first n entries, from entry k on
+abbrev pub sumFrom : (ℕ → ℕ) → List ℕ → ℕ → ℕ → ℕ
+sumFrom f xs n k = sum (map f (drop k (take n xs)))
+
+module _ (f : ℕ → ℕ) (xs : List ℕ) (n : ℕ) (h : n ≤ length xs) (k : ℕ) where
+  pub sum-next : k < n → sumFrom f xs n k ≡ f (getD xs k 0) + sumFrom f xs n (k + 1)
+  sum-next i =
+      let e = length-take-le n xs h in
+      rw (add-one, drop-cons (take n xs) k 0 (omega arith), getD-take n xs k 0 i)
+
+  pub sum-end : n ≤ k → sumFrom f xs n k ≡ 0
+  sum-end i =
+      let e : length (take n xs) ≤ k = let l = length-take-le n xs h in omega arith in
+      ap (λ (l : List ℕ). sum (map f l)) (drop-of-length-le (take n xs) e)
+
+-- two counts over the first entries, each from what is left: what is counted and what is left make all, and the counts stay small
+pub record Counted (f g : ℕ → ℕ) (first : List ℕ) (kinds base k placements links : ℕ) : Type 0 where
+  pub within : k ≤ kinds
+  pub few : placements ≤ 3072 * k
+  pub fewLinks : links ≤ 144 + 1575936 * k
+  pub all : placements + sumFrom f first kinds k ≡ sumFrom f first kinds 0
+  pub allLinks : links + sumFrom g first kinds k ≡ base + sumFrom g first kinds 0
+
+module _ (f g : ℕ → ℕ) (first : List ℕ) (kinds base : ℕ) where
+  pub counted-none : base ≤ 144 → Counted f g first kinds base 0 0 base
+  counted-none h = record { within = omega arith; few = omega arith; fewLinks = omega arith; all = omega arith; allLinks = refl }
+
+  module _ (h : kinds ≤ length first) (k placements links : ℕ) (c : Counted f g first kinds base k placements links) where
+    pub counted-next : k < kinds → (rows added all : ℕ) → rows ≡ f (getD first k 0) → rows ≤ 3072 → added ≡ g (getD first k 0) → added ≤ 1575936 → all ≡ links + added
+        → Counted f g first kinds base (k + 1) (placements + rows) all
+    counted-next i rows added all e a d b s =
+        let x = sum-next f first kinds h k i in
+        let y = sum-next g first kinds h k i in
+        record {
+          within = omega arith;
+          few = omega (arith, c .few);
+          fewLinks = omega (arith, c .fewLinks);
+          all = omega (arith, c .all);
+          allLinks = omega (arith, c .allLinks);
+        }
+
+    pub counted-all : kinds ≤ k → (placements ≡ sum (map f (take kinds first))) × (links ≡ base + sum (map g (take kinds first)))
+    counted-all i =
+        let x = sum-end f first kinds h k i in
+        let y = sum-end g first kinds h k i in
+        (omega (arith, c .all), omega (arith, c .allLinks))
+
+pub links-small : (rows f : ℕ) → rows ≤ 3072 → f ≤ 512 → rows * (1 + f) ≤ 1575936
+links-small rows f h k = let l : 1 + f ≤ 513 = omega arith in mul-le-mul h l
+
+pub whole-few : (s : Coord) (cells : List ℕ) (f : ℕ) → Whole s cells → f ≤ length cells → f ≤ 512
+whole-few s cells f w h = let v = volume-small (asSides s) (w .fit) in let e = w .size in omega arith
+
+-- ---- the filled cells of a board by their places
+-- how many grids fit at a place
+abbrev pub fitsAtPlace : List ℕ → Grid → List Grid → ℕ → ℕ
+fitsAtPlace order g grids i = howMany (fits (scan order g) (cellAt (g .sides) i)) (map (scan order) grids)
+
+module _ (order : List ℕ) (g : Grid) (places : List ℕ) (n : ℕ) (on : OnBoard order g places n) where
+  pub fits-by-places : (grids : List Grid) → fitsIn order g grids ≡ sumFrom (fitsAtPlace order g grids) places n 0
+  unfolding fitsIn
+  fits-by-places grids =
+      let f : Cell → ℕ = λ v. howMany (fits (scan order g) v) (map (scan order) grids) in
+      ap (λ (us : List Cell). sum (map f us)) (sym (on .cells)) ∙ ap sum (map-map-of f (cellAt (g .sides)) (take n places))
+
+  pub cells-many : length (scan order g) ≡ n
+  cells-many = ap length (sym (on .cells)) ∙ length-map (take n places) (cellAt (g .sides)) ∙ length-take-le n places (on .within)
+
+  pub place-below : (k : ℕ) → k < n → getD places k 0 < volume (g .sides)
+  place-below k h =
+      let e = length-take-le n places (on .within) in
+      let i = getD-take n places k 0 h in
+      let l = ltb→lt (getD (take n places) k 0) (volume (g .sides))
+      (all-at (λ (j : ℕ). ltb j (volume (g .sides))) (take n places) (on .inBox) (nth-mem (take n places) k (nth-at 0 (take n places) k (omega arith)))) in
+      omega arith
+
+-- what the code finds of a board is on it
+module _ (order : List ℕ) (g : Grid) (places : List ℕ) (n : ℕ) (is : axes (g .sides) ≡ order) (within : n ≤ length places)
+    (cells : map (cellAt (g .sides)) (take n places) ≡ scan order g) (whole : length (g .cells) ≡ volume (g .sides)) (few : sum (g .cells) ≤ 128) where
+  ones : (xs : List ℕ) → howMany (eqb 1) xs ≤ sum xs
+  ones [] = omega arith
+  ones (x ∷ xs) = go (eqb 1 x) refl (ones xs)
+    where
+      go : (b : Bool) → eqb 1 x ≡ b → howMany (eqb 1) xs ≤ sum xs → cond b 1 0 + howMany (eqb 1) xs ≤ x + sum xs
+      go true e l = let i : 1 ≡ x = eqb→eq 1 x (holds (eqb 1 x) e) in omega arith
+      go false e l = omega arith
+
+  pub on-board : OnBoard order g places n
+  on-board =
+      record {
+        isOrder = is;
+        within = within;
+        few = (let a = ap length cells in let b = length-map (take n places) (cellAt (g .sides)) in let d = length-take-le n places within in
+            let e = ap (λ (o : List ℕ). length (scan o g)) (sym is) ∙ scan-length (g .sides) g in let f = filled-bytes g whole in let i = ones (g .cells) in omega arith);
+        inBox = all-of (λ i. ltb i (volume (g .sides))) (take n places) (λ i m. lt→ltb i (volume (g .sides)) (below i m));
+        cells = cells;
+      }
+    where
+      below : (i : ℕ) → List·Memᴰ i (take n places) → i < volume (g .sides)
+      below i m =
+          let a : List·Memᴰ (cellAt (g .sides) i) (scan order g) = subst (λ (us : List Cell). List·Memᴰ (cellAt (g .sides) i) us) cells (Memᴰ·map (cellAt (g .sides)) m) in
+          let b = filled-at g (cellAt (g .sides) i) (scan-from order (record { box = g .sides; isIts = is }) g (cellAt (g .sides) i) a) .0 in
+          subst (λ (k : ℕ). k < volume (g .sides)) (place-of-cell (g .sides) i) (place-lt (g .sides) (cellAt (g .sides) i) b)
+
+-- the counts of a tray from what the code adds up, a piece of each kind
+module _ (t : Table) (board : Record) (bytes : List ℕ) (l : Lent t board bytes) (long : length (t .rows) ≡ 16) (first : List ℕ) (kinds : ℕ) (are : AreKinds t bytes first kinds)
+    (h : kinds ≤ length first) (order places : List ℕ) (n : ℕ) (on : OnBoard order (gridOf bytes board) places n) (g : Grid) (is : g ≡ gridOf bytes board) where
+  pub placements-counted : sum (map (placementsAtPiece order g t bytes) (take kinds first)) ≡ placementCount (compile (trayIn (recordsOf t) board bytes))
+  placements-counted =
+      ap₂ (λ (o : List ℕ) (b : Grid). sum (map (placementsAtPiece o b t bytes) (take kinds first))) (sym (on .isOrder)) is
+      ∙ sym (placements-by-pieces t board bytes l long first kinds are)
+
+  pub links-counted : n + kinds + sum (map (linksAtPiece order g t bytes) (take kinds first)) ≡ linkCount (compile (trayIn (recordsOf t) board bytes))
+  links-counted =
+      ap (λ (m : ℕ). m + kinds + sum (map (linksAtPiece order g t bytes) (take kinds first))) (sym (cells-many order (gridOf bytes board) places n on))
+      ∙ ap₂ (λ (o : List ℕ) (b : Grid). length (scan o (gridOf bytes board)) + kinds + sum (map (linksAtPiece o b t bytes) (take kinds first))) (sym (on .isOrder)) is
+      ∙ sym (links-by-pieces t board bytes l long first kinds are h)
