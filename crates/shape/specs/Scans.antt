@@ -6,9 +6,12 @@ use mathlib.Core.Path.{_≡_}
 use lib.Dec.{ltb, eqb}
 use lib.ListN.{length, take, drop, getD}
 use Rattle.definitions.specs.Grid.{Sides, Cell, Grid}
-use Rattle.definitions.specs.Maps.{side}
-use Rattle.definitions.specs.Scan.{axes, scan}
+use Rattle.definitions.specs.Lists.{same}
+use Rattle.definitions.specs.Maps.{side, coordinate}
+use Rattle.definitions.specs.Scan.{axes, cellAhead, scan}
 use Rattle.shape.specs.Places.{cellAt}
+use Rattle.shape.specs.Grids.{orderBy}
+use Rattle.shape.specs.declared.Ordering.{Ordering}
 use Rattle.shape.specs.declared.scan.AxisOrder.{AxisOrder}
 
 abbrev pub asOrder : AxisOrder → List ℕ
@@ -18,6 +21,10 @@ asOrder o = o .0 ∷ o .1 ∷ o .2 ∷ []
 pub record IsOrder (order : List ℕ) : Type 0 where
   pub box : Sides
   pub isIts : axes box ≡ order
+
+-- how two cells compare in an order of the axes
+unfoldable pub cellOrder : List ℕ → Cell → Cell → Ordering
+cellOrder order u v = orderBy (cellAhead order u v) (same (map (coordinate u) order) (map (coordinate v) order))
 
 -- axis i, whose side is m, is compared before axis j, whose side is n
 unfoldable pub axisBefore : ℕ → ℕ → ℕ → ℕ → Bool
