@@ -303,10 +303,10 @@ unfoldable pub isPrinted : Printed → Bool
 isPrinted x = same (packed (x .read)) (x .prints)
 
 -- ---- two more trays, for both engines
--- a handed piece whose partner is not in the box, on a board that a mirroring brings onto itself; a piece of five cells
+-- a packing of handed pieces alone, whose partner is not in the box: each mirrored image lacks all its placements; a piece of five cells
 unfoldable pub moreFillings : List Line
 moreFillings =
-    mirrored (board 2 2 2 (cells 8 00111111)) (piece 1 2 2 2 (cells 8 11100100) ∷ D 1 ∷ [])
-    ((255 ∷ 255 ∷ 255 ∷ 255 ∷ 0 ∷ 0 ∷ 0 ∷ 0 ∷ 1 ∷ 0 ∷ 0 ∷ 0 ∷ 1 ∷ 0 ∷ 0 ∷ 0 ∷ []) ∷ []) ∷
+    mirrored (board 2 2 2 (cells 8 11111111)) (piece 2 2 2 2 (cells 8 11100100) ∷ [])
+    ((0 ∷ 0 ∷ 0 ∷ 1 ∷ 0 ∷ 1 ∷ 0 ∷ 1 ∷ 0 ∷ 0 ∷ 0 ∷ 0 ∷ 0 ∷ 1 ∷ 0 ∷ 0 ∷ []) ∷ []) ∷
     none (board 1 1 5 (cells 5 11111)) (piece 1 1 1 5 (cells 5 11111) ∷ []) ((0 ∷ 0 ∷ 0 ∷ 0 ∷ 0 ∷ 0 ∷ 0 ∷ 0 ∷ 0 ∷ 0 ∷ []) ∷ []) ∷
     []
