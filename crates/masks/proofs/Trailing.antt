@@ -1,13 +1,13 @@
 -- The first number that a mask leaves open, by a count of trailing zeros. Assumes nothing.
-use mathlib.Core.Path.{_≡_, refl, sym, _∙_}
-use mathlib.Core.Bool.{true, false}
-use mathlib.Core.Logic.{⊎-elim}
+use mathlib.Core.Path.{_≡_, refl, sym, ap, _∙_}
+use mathlib.Core.Bool.{Bool, true, false, not}
+use mathlib.Core.Logic.{_⊎_, inl, inr, ⊎-elim}
 use Prim.Native.Nat.{ℕ, zero, suc, _+_, _-_, _*_, _/_, _%_, _^_, _≤_, _<_}
 use native.Mathlib.Nat.{div-one, pow-suc, add-mul, one-mul, mod-lt}
 use native.Mathlib.Omega.{arith}
 use lib.Count.{under, trailingZeros, trailing-le}
 use lib.Pow.{pow-pos, pow-add, shr-shr, shr-lt, split, high}
-use Rattle.masks.specs.Masks.{hit, hit2, FirstOpen}
+use Rattle.masks.specs.Masks.{hit, hit2, FirstOpen, FirstIn}
 use Rattle.masks.proofs.MaskLaws.{hit-no, hit-yes, hit2-low, hit2-high, lt-or-ge}
 
 -- ---- the digits below the lowest set digit, and that digit
@@ -125,3 +125,31 @@ module _ (a b n : ℕ) (low : a < 2 ^ 64) (high : b < 2 ^ 64) where
         passed = λ k u v. hit2-high a b k (omega arith) ∙ passes b (n - 64) high (k - 64) (omega arith) (omega arith) (omega arith);
         stops = λ u. absurd (omega arith);
       }
+
+-- ---- the first number in a set: the first that the flipped words leave open
+hit-flipped : (c k : ℕ) → c < 2 ^ 64 → k < 64 → hit (2 ^ 64 - 1 - c) k ≡ not (hit c k)
+hit-flipped c k l h = ⊎-elim (λ e. rw (hit-no c k e) (hit-yes (2 ^ 64 - 1 - c) k (λ f. omega (arith, flipped c k l h))))
+    (λ e. rw (hit-yes c k e) (hit-no (2 ^ 64 - 1 - c) k (omega (arith, flipped c k l h, mod-lt (c / 2 ^ k) (pow-pos 1)))))
+    (zero-or (c / 2 ^ k % 2))
+  where
+    zero-or : (n : ℕ) → (n ≡ 0) ⊎ (n ≡ 0 → ⊥)
+    zero-or zero = inl refl
+    zero-or (suc n) = inr (λ e. omega arith)
+
+hit2-flipped : (a b k : ℕ) → a < 2 ^ 64 → b < 2 ^ 64 → k < 128 → hit2 (2 ^ 64 - 1 - a) (2 ^ 64 - 1 - b) k ≡ not (hit2 a b k)
+hit2-flipped a b k low high h =
+    ⊎-elim (λ l. rw (hit2-low (2 ^ 64 - 1 - a) (2 ^ 64 - 1 - b) k l, hit2-low a b k l) (hit-flipped a k low l))
+    (λ l. rw (hit2-high (2 ^ 64 - 1 - a) (2 ^ 64 - 1 - b) k l, hit2-high a b k l) (hit-flipped b (k - 64) high (omega arith)))
+    (lt-or-ge k 64)
+
+not-back : (x y : Bool) → x ≡ not y → (z : Bool) → x ≡ z → y ≡ not z
+not-back x true e z f = ap not (sym e ∙ f)
+not-back x false e z f = ap not (sym e ∙ f)
+
+pub first-in : (a b r : ℕ) → a < 2 ^ 64 → b < 2 ^ 64 → FirstOpen (hit2 (2 ^ 64 - 1 - a) (2 ^ 64 - 1 - b)) 0 r → FirstIn (hit2 a b) r
+first-in a b r low high f =
+    record {
+      upTo = f .upTo;
+      passed = λ k l. not-back _ _ (hit2-flipped a b k low high (omega (arith, f .upTo))) true (f .passed k (omega arith) l);
+      stops = λ l. not-back _ _ (hit2-flipped a b r low high l) false (f .stops l);
+    }

@@ -2,7 +2,7 @@
 ghost use mathlib.Core.Path.{_≡_};
 ghost use mathlib.Core.Bool.{not};
 ghost use Prim.Native.Nat.{_≤_, _<_};
-ghost use Rattle.masks.specs.Masks.{has, nothing, only, either, apart, SameCells, FirstOpen};
+ghost use Rattle.masks.specs.Masks.{has, nothing, only, either, apart, SameCells, FirstOpen, FirstIn};
 
 pub struct Mask {
     pub low: u64,
@@ -95,5 +95,16 @@ impl Mask {
             return n + t;
         }
         128
+    }
+
+    // The first cell in the set, 128 where it is empty.
+    pub fn first_cell(self) -> usize
+        ensures { λ r. ⌜ FirstIn (has self) r ⌝ }
+    {
+        let others = Mask {
+            low: !self.low,
+            high: !self.high,
+        };
+        others.next_open(0)
     }
 }

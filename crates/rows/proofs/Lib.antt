@@ -1,0 +1,12 @@
+pub mod PairLaws
+pub mod AnsweringLaws
+pub mod KindListLaws
+pub mod AnswerLaws
+pub mod ChainLaws
+pub mod MovedLaws
+pub mod PictureLaws
+pub mod SystemMapLaws
+pub mod SystemLaws
+pub mod TableLaws
+pub mod BuildLaws
+pub mod BuildSystemLaws

@@ -1,0 +1,138 @@
+-- Moved cells: a mask that takes up the images of its cells one by one, and a row's cells after a map, sorted or as a mask. Assumes nothing.
+use Prim.Native.Nat.{ℕ, zero, suc, _+_, _-_, _≤_, _<_}
+use mathlib.Core.Bool.{Bool, true, false, cond, _||_}
+use mathlib.Core.List.{List, [], _∷_, map, List·Memᴰ, Memᴰ·map, Memᴰ·of-map, Memᴰ·cast}
+use mathlib.Core.Path.{_≡_, refl, sym, ap, ap₂, _∙_, subst, fun-ext}
+use native.Mathlib.Numerals.{add-one}
+use native.Mathlib.Omega.{arith}
+use lib.Dec.{T, eqb, ltb, ltb→lt, lt→ltb}
+use lib.ListN.{length, getD, take, drop, length-drop}
+use lib.Seq.{length-take-le, getD-take, getD-drop}
+use Rattle.definitions.specs.Lists.{consIf, all, keep, from, below, member, sort}
+use Rattle.definitions.specs.Placements.{Placement}
+use Rattle.definitions.proofs.ListLaws.{and-left, and-right, and-both, ltb-trans, ltb-irrefl, all-at, keep-at, keep-of, keep-ascending, from-ascending, below-at, below-of, member-at, member-of, ascending-unique, sort-ascending}
+use Rattle.definitions.proofs.EngineLaws.{sort-at}
+use Rattle.definitions.proofs.ShapeLaws.{sort-of}
+use Rattle.definitions.proofs.ImageLaws.{ltb-tied}
+use Rattle.masks.specs.Masks.{has, nothing, only, either}
+use Rattle.masks.specs.declared.Mask.{Mask}
+use Rattle.rows.specs.Rows.{cellsOf, maskAt, rowAt}
+use Rattle.rows.specs.Systems.{kindBy, cellsBy, movedBy, rowWith}
+use Rattle.rows.specs.Lawful.{Permutes}
+
+-- ---- the kind after a map
+pub getD-of : {A : Type 0} (f : ℕ → A) (d : A) (i n z : ℕ) → z < n → getD (map f (from i n)) z d ≡ f (i + z)
+getD-of f d i zero z h = absurd (omega arith)
+getD-of f d i (suc n) zero h = let e : i ≡ i + 0 = omega arith in ap f e
+getD-of f d i (suc n) (suc z) h = let e : suc i + z ≡ i + suc z = omega arith in getD-of f d (suc i) n z (omega arith) ∙ ap f e
+
+pub kind-odd : (f : ℕ → ℕ) (n k : ℕ) (odd : Bool) → k < n → odd ≡ true → f k ≡ kindBy (map f (below n)) odd k
+unfolding kindBy
+kind-odd f n k odd h e =
+    let z : 0 + k ≡ k = omega arith in
+    sym (ap (λ (b : Bool). cond b (getD (map f (below n)) k (length (map f (below n)))) k) e ∙ getD-of f (length (map f (below n))) 0 n k h ∙ ap f z)
+
+pub kind-even : (partners : List ℕ) (k : ℕ) (odd : Bool) → odd ≡ false → k ≡ kindBy partners odd k
+unfolding kindBy
+kind-even partners k odd e = sym (ap (λ (b : Bool). cond b (getD partners k (length partners)) k) e)
+
+-- ---- the images of a mask's cells, from cell i on
+module _ (t : ℕ → Bool) (f : ℕ → ℕ) where
+  abbrev pub imagesFrom : ℕ → ℕ → ℕ → Bool
+  imagesFrom i v k = member k (map f (keep t (from i (v - i))))
+
+  -- what is taken up, and what is left, are all
+  unfoldable pub TakenUp : ℕ → ℕ → (ℕ → Bool) → Type 0
+  TakenUp v i taken = (k : ℕ) → (taken k || imagesFrom i v k) ≡ member k (map f (keep t (below v)))
+
+  pub taken-none : (v : ℕ) (taken : ℕ → Bool) → taken ≡ nothing → TakenUp v 0 taken
+  unfolding TakenUp nothing
+  taken-none v taken e k = let z : v - 0 ≡ v = omega arith in rw (e, z)
+
+  module _ (v i : ℕ) (taken : ℕ → Bool) (h : i < v) (u : TakenUp v i taken) where
+    more : (b : Bool) → t i ≡ b → (k : ℕ) → imagesFrom i v k ≡ member k (map f (consIf b i (keep t (from (i + 1) (v - (i + 1))))))
+    more b e k = let z : v - i ≡ suc (v - (i + 1)) = omega arith in rw (z, add-one i, e)
+
+    pub taken-miss : t i ≡ false → TakenUp v (i + 1) taken
+    unfolding TakenUp
+    taken-miss e k = ap (λ (b : Bool). taken k || b) (sym (more false e k)) ∙ u k
+
+    pub taken-hit : t i ≡ true → (y : ℕ) → y ≡ f i → (now : ℕ → Bool) → now ≡ either taken (only y) → TakenUp v (i + 1) now
+    unfolding TakenUp either only
+    taken-hit e y is now d k =
+        ap (λ (g : ℕ → Bool). g k || imagesFrom (i + 1) v k) d ∙ ap (λ (z : ℕ). (taken k || eqb k z) || imagesFrom (i + 1) v k) is
+        ∙ assoc (taken k) (eqb k (f i)) (imagesFrom (i + 1) v k) ∙ ap (λ (b : Bool). taken k || b) (sym (more true e k)) ∙ u k
+      where
+        assoc : (a b c : Bool) → ((a || b) || c) ≡ (a || (b || c))
+        assoc true b c = refl
+        assoc false b c = refl
+
+  pub taken-all : (v i : ℕ) (taken : ℕ → Bool) → v ≤ i → TakenUp v i taken → taken ≡ (λ n. member n (map f (keep t (below v))))
+  unfolding TakenUp
+  taken-all v i taken h u = fun-ext λ k. let z : v - i ≡ 0 = omega arith in sym (alone (taken k)) ∙ ap (λ (j : ℕ). taken k || member k (map f (keep t (from i j)))) (sym z) ∙ u k
+    where
+      alone : (b : Bool) → (b || false) ≡ b
+      alone true = refl
+      alone false = refl
+
+-- ---- a part of a slice
+pub all-getD : (p : ℕ → Bool) (xs : List ℕ) (i : ℕ) → i < length xs → T (all p xs) → T (p (getD xs i 0))
+all-getD p [] i h t = absurd (omega arith)
+all-getD p (x ∷ xs) zero h t = and-left (p x) (all p xs) t
+all-getD p (x ∷ xs) (suc i) h t = all-getD p xs i (omega arith) (and-right (p x) (all p xs) t)
+
+module _ (xs : List ℕ) (start size : ℕ) where
+  pub part-at : (i : ℕ) → i < size → getD (take size (drop start xs)) i 0 ≡ getD xs (start + i) 0
+  part-at i h = getD-take size (drop start xs) i 0 h ∙ getD-drop start xs i 0
+
+  pub part-small : start + size ≤ length xs → T (all (λ n. ltb n 128) (take size (drop start xs))) → (i : ℕ) → i < size → getD xs (start + i) 0 < 128
+  part-small l t i h =
+      let e : length (take size (drop start xs)) ≡ size = length-take-le size (drop start xs) (simp length-drop (omega arith)) in
+      subst (λ (n : ℕ). n < 128) (part-at i h) (ltb→lt (getD (take size (drop start xs)) i 0) 128 (all-getD (λ n. ltb n 128) (take size (drop start xs)) i (omega arith) t))
+
+all-below : (p : ℕ → Bool) (xs : List ℕ) → ((i : ℕ) → i < length xs → T (p (getD xs i 0))) → T (all p xs)
+all-below p [] f = tt
+all-below p (x ∷ xs) f = and-both (p x) (all p xs) (f 0 (omega arith)) (all-below p xs (λ i h. f (suc i) (omega arith)))
+
+-- a map's images are cells
+pub images-small : (size : ℕ) (to : List ℕ) → size ≤ 128 → Permutes size to → T (all (λ n. ltb n 128) to)
+images-small size to h p = all-below (λ n. ltb n 128) to (λ i l. lt→ltb (getD to i 0) 128 (let e = p .onto i (omega (arith, p .each)) in omega arith))
+
+-- ---- a row's cells after a map
+module _ (to : List ℕ) (m r : Mask) (size : ℕ) (few : size ≤ 128) (on : T (all (λ n. ltb n size) (cellsOf m))) (p : Permutes size to)
+    (is : has r ≡ (λ n. member n (map (λ i. getD to i 0) (keep (has m) (below size))))) where
+  pub cells-moved : cellsOf r ≡ cellsBy to (cellsOf m)
+  unfolding cellsOf cellsBy
+  cells-moved =
+      ascending-unique ltb ltb-trans ltb-irrefl (keep (has r) (below 128)) (sort ltb (map f (keep (has m) (below 128))))
+      (keep-ascending ltb (has r) (below 128) (from-ascending 0 128)) (sort-ascending ltb ltb-trans (map f (keep (has m) (below 128)))) there back
+    where
+      f : ℕ → ℕ
+      f i = getD to i 0
+
+      there : (n : ℕ) → List·Memᴰ n (keep (has r) (below 128)) → List·Memᴰ n (sort ltb (map f (keep (has m) (below 128))))
+      there n k =
+          let a = member-at n (map f (keep (has m) (below size))) (subst (λ (g : ℕ → Bool). T (g n)) is (keep-at (has r) (below 128) k .1)) in
+          let x = Memᴰ·of-map f (keep (has m) (below size)) a in
+          let y = keep-at (has m) (below size) (x .1) in
+          let l = below-at size (y .0) in
+          sort-of ltb ltb-tied (map f (keep (has m) (below 128))) (Memᴰ·cast (sym (x .2)) (Memᴰ·map f (keep-of (has m) (below 128) (below-of 128 (omega arith)) (y .1))))
+
+      back : (n : ℕ) → List·Memᴰ n (sort ltb (map f (keep (has m) (below 128)))) → List·Memᴰ n (keep (has r) (below 128))
+      back n k =
+          let x = Memᴰ·of-map f (keep (has m) (below 128)) (sort-at ltb (map f (keep (has m) (below 128))) k) in
+          let l = ltb→lt (x .0) size (all-at (λ j. ltb j size) (cellsOf m) on (x .1)) in
+          let y = keep-of (has m) (below size) (below-of size l) (keep-at (has m) (below 128) (x .1) .1) in
+          let z : List·Memᴰ n (map f (keep (has m) (below size))) = Memᴰ·cast (sym (x .2)) (Memᴰ·map f y) in
+          let s : n < 128 = let o = p .onto (x .0) l in omega (arith, x .2) in
+          keep-of (has r) (below 128) (below-of 128 s) (subst (λ (g : ℕ → Bool). T (g n)) (sym is) (member-of (map f (keep (has m) (below size))) z))
+
+-- the image of row i, as it is looked up
+pub image-is : (rows : List Placement) (work partners to : List ℕ) (odd : Bool) (i size : ℕ) (m r : Mask) (kind : ℕ)
+    → m ≡ maskAt work i → size ≤ 128 → T (all (λ n. ltb n size) (rowAt work i .cells)) → Permutes size to
+    → has r ≡ (λ n. member n (map (λ j. getD to j 0) (keep (has m) (below size)))) → kind ≡ kindBy partners odd (rowAt work i .kind)
+    → rowWith rows (kind ∷ cellsOf r) ≡ rowWith rows (movedBy partners odd to (rowAt work i))
+unfolding movedBy rowAt
+image-is rows work partners to odd i size m r kind e few on p is k =
+    ap₂ (λ (a : ℕ) (l : List ℕ). rowWith rows (a ∷ l)) k
+    (cells-moved to m r size few (subst (λ (x : Mask). T (all (λ n. ltb n size) (cellsOf x))) (sym e) on) p is ∙ ap (λ (x : Mask). cellsBy to (cellsOf x)) e)

@@ -1,0 +1,189 @@
+-- The system of an accepted tray is lawful: its rows are the tray's placements, its maps the board's, and the limits are those that a call must keep. Assumes nothing.
+use Prim.Native.Nat.{ℕ, suc, _+_, _≤_, _<_}
+use mathlib.Core.Bool.{Bool, true, false, cond, not, _&&_}
+use mathlib.Core.List.{List, [], _∷_, map, List·Memᴰ}
+use mathlib.Core.Path.{_≡_, refl, sym, ap, _∙_, subst}
+use native.Mathlib.Omega.{arith}
+use lib.Dec.{T, ltb, nltb→le}
+use lib.ListN.{length, getD, length-map, length-append}
+use Rattle.definitions.specs.Lists.{consIf, all, keep, each, below, numberedFrom, member, ascending, sum}
+use Rattle.definitions.specs.Grid.{Grid, sameGrid, gridAhead, filledCells}
+use Rattle.definitions.specs.Maps.{identity}
+use Rattle.definitions.specs.Kinds.{Piece, Sorted, Copy, Kind, sorted, shapes, smallest, copiesOf, kindsOf}
+use Rattle.definitions.specs.Placements.{Placement, Compiled, compile}
+use Rattle.definitions.specs.Packing.{limits}
+use Rattle.definitions.specs.Kept.{kindAfter}
+use Rattle.definitions.specs.Refusals.{Call, trayOf, areBits, copyCount, boardCellCount, placementCount, table, refusal}
+use Rattle.definitions.proofs.ListLaws.{and-left, keep-at, keep-of, keep-ascending, below-of, from-ascending, member-at, member-of, ltb-trans, ltb-irrefl, ascending-unique, and-right, not-again, length-below, apart-ascending, apart-length, is-false}
+use Rattle.definitions.proofs.CountLaws.{total, total-add, total-zero, total-same, sum-map}
+use Rattle.definitions.proofs.GroupLaws.{identity-grid, sameGrid→eq}
+use Rattle.definitions.proofs.MapLaws.{map-map-of}
+use Rattle.definitions.proofs.CellLaws.{grid-trans, grid-irrefl}
+use Rattle.definitions.proofs.EngineLaws.{sort-at}
+use Rattle.definitions.proofs.RefusalLaws.{none-applies}
+use Rattle.definitions.proofs.ShapeLaws.{fails, sum-filled, scan-length}
+use Rattle.definitions.proofs.PartnerLaws.{gs, gs-up}
+use Rattle.definitions.proofs.SetDownLaws.{placement-once}
+use Rattle.definitions.proofs.GeometryLaws.{piece-whole, W, whole}
+use Rattle.rows.specs.Rows.{spread}
+use Rattle.rows.specs.Systems.{owned, systemOf, kindBy}
+use Rattle.rows.specs.Answering.{copiesBy}
+use Rattle.rows.specs.Lawful.{Lawful}
+use Rattle.rows.proofs.SystemMapLaws.{map-still, map-permutes, map-identity, map-inverse, map-product, map-image, kind-is, kind-back}
+
+-- ---- counting
+length-numbered : {A B : Type 0} (f : ℕ → A → B) (i : ℕ) (xs : List A) → length (numberedFrom i xs f) ≡ length xs
+length-numbered f i [] = refl
+length-numbered f i (x ∷ xs) = ap suc (length-numbered f (suc i) xs)
+
+-- of grids that ascend at most one is a given one
+one-shape : (s : Grid) (n : ℕ) (hs : List Grid) → T (ascending gridAhead hs) → total (λ g. cond (sameGrid s g) n 0) hs ≤ n
+one-shape s n [] t = omega arith
+one-shape s n (g ∷ hs) t = go (sameGrid s g) (λ b. b) (one-shape s n hs (and-right (all (gridAhead g) hs) (ascending gridAhead hs) t))
+  where
+    none : s ≡ g → total (λ h. cond (sameGrid s h) n 0) hs ≡ 0
+    none e =
+        total-same (λ h. cond (sameGrid s h) n 0) (λ h. 0) hs
+        (λ h m. ap {B = ℕ} (λ (b : Bool). cond b n 0) (is-false (sameGrid s h) (λ b. not-again gridAhead grid-trans grid-irrefl g hs t m (sym (sameGrid→eq s h b) ∙ e))))
+        ∙ total-zero hs
+
+    go : (b : Bool) → (T b → T (sameGrid s g)) → total (λ h. cond (sameGrid s h) n 0) hs ≤ n → cond b n 0 + total (λ h. cond (sameGrid s h) n 0) hs ≤ n
+    go true f r = let e = none (sameGrid→eq s g (f tt)) in omega arith
+    go false f r = omega arith
+
+-- the copies of all kinds together are no more than those of all pieces
+pub copies-more : (q : Sorted) (qs : List Sorted) (g : Grid) → length (copiesOf (q ∷ qs) g) ≡ cond (sameGrid (q .shape) g) (q .count) 0 + length (copiesOf qs g)
+unfolding copiesOf
+copies-more q qs g = go (sameGrid (q .shape) g)
+  where
+    one : Sorted → List Copy
+    one r = map (λ n. record { piece = r .piece; copy = n }) (below (r .count))
+
+    rest : List Sorted
+    rest = keep (λ r. sameGrid (r .shape) g) qs
+
+    go : (b : Bool) → length (each (consIf b q rest) one) ≡ cond b (q .count) 0 + length (each rest one)
+    go true =
+        let a = length-append (one q) (each rest one) in
+        let b = length-map {B = Copy} (below (q .count)) (λ (n : ℕ). record { piece = q .piece; copy = n }) in
+        let c = length-below (q .count) in
+        omega arith
+    go false = omega arith
+
+copies-all : (hs : List Grid) → T (ascending gridAhead hs) → (qs : List Sorted) → total (λ g. length (copiesOf qs g)) hs ≤ total (λ q. q .count) qs
+copies-all hs t [] = unfold copiesOf in (let e = total-zero hs in omega arith)
+copies-all hs t (q ∷ qs) =
+    let a = total-same (λ g. length (copiesOf (q ∷ qs) g)) (λ g. cond (sameGrid (q .shape) g) (q .count) 0 + length (copiesOf qs g)) hs (λ g m. copies-more q qs g) in
+    let b = total-add (λ g. cond (sameGrid (q .shape) g) (q .count) 0) (λ g. length (copiesOf qs g)) hs in
+    let c = one-shape (q .shape) (q .count) hs t in
+    let d = copies-all hs t qs in
+    omega arith
+
+counts-same : (i : ℕ) (ps : List Piece) → total (λ (q : Sorted). q .count) (numberedFrom {B = Sorted} i ps (λ j q. record { piece = j; count = q .count; shape = smallest (q .grid) })) ≡ sum (map (λ q. q .count) ps)
+counts-same i [] = refl
+counts-same i (p ∷ ps) = ap (λ (n : ℕ). p .count + n) (counts-same (suc i) ps)
+
+at-most : (m n : ℕ) → ltb m n ≡ false → n ≤ m
+at-most m n e = nltb→le m n (subst (λ (b : Bool). T (not b)) (sym e) tt)
+
+-- ---- cells that ascend and are below 128 are given back as they were
+pub spread-cells : (xs : List ℕ) → T (ascending ltb xs) → ((n : ℕ) → List·Memᴰ n xs → n < 128) → keep (λ n. member n xs) (below 128) ≡ xs
+spread-cells xs t h =
+    ascending-unique ltb ltb-trans ltb-irrefl (keep (λ n. member n xs) (below 128)) xs (keep-ascending ltb (λ n. member n xs) (below 128) (from-ascending 0 128)) t
+    (λ z m. member-at z xs (keep-at (λ n. member n xs) (below 128) m .1)) (λ z m. keep-of (λ n. member n xs) (below 128) (below-of 128 (h z m)) (member-of xs m))
+
+module _ (l : Call) (ok : refusal l ≡ 0) where
+  abbrev C : Compiled
+  C = compile (trayOf l)
+
+  -- ---- limits
+  board-bits : T (areBits (trayOf l .board))
+  unfolding table
+  board-bits =
+      and-left (areBits (trayOf l .board)) (all (λ q. areBits (q .grid)) (trayOf l .pieces))
+      (fails l ok (areBits (trayOf l .board) && all (λ q. areBits (q .grid)) (trayOf l .pieces)) (none-applies l ok 4))
+
+  pub few-cells : length (compile (trayOf l) .cells) ≤ 128
+  unfolding compile table boardCellCount
+  few-cells =
+      let g = trayOf l .board in
+      let a = at-most 128 (sum (g .cells)) (none-applies l ok 8) in
+      let b : sum (g .cells) ≡ length (filledCells g) =
+      subst (λ (h : Grid). sum (h .cells) ≡ length (filledCells h)) (identity-grid g (whole l ok)) (sum-filled identity g board-bits) in
+      let c = scan-length (g .sides) g in
+      omega arith
+
+  pub few-rows : length (compile (trayOf l) .placements) ≤ 1024
+  unfolding table placementCount
+  few-rows = at-most 1024 (length (C .placements)) (none-applies l ok 13)
+
+  pub few-kinds : length (compile (trayOf l) .kinds) ≤ 16
+  unfolding compile table kindsOf trayOf gs shapes sorted
+  few-kinds =
+      let a = at-most 16 (length (l .pieces)) (none-applies l ok 1) in
+      let qs = sorted (trayOf l) in
+      let b = apart-length (shapes qs) (map (λ q. q .shape) qs) (apart-ascending gridAhead grid-irrefl (shapes qs) (gs-up (trayOf l) (piece-whole l ok)))
+      (λ g m. sort-at gridAhead (map (λ (q : Sorted). q .shape) qs) m) in
+      let c = length-map qs (λ (q : Sorted). q .shape) in
+      let d = length-numbered {B = Sorted} (λ (i : ℕ) (q : Piece). record { piece = i; count = q .count; shape = smallest (q .grid) }) 0 (trayOf l .pieces) in
+      let e : length (trayOf l .pieces) ≡ length (l .pieces) = length-map (l .pieces) _ in
+      let f : length (C .kinds) ≡ length (shapes qs) = length-map (shapes qs) _ in
+      omega arith
+
+  pub few-copies : sum (limits (compile (trayOf l))) ≤ 128
+  unfolding compile limits table kindsOf copyCount gs sorted
+  few-copies =
+      let a = at-most 128 (sum (map (λ q. q .count) (trayOf l .pieces))) (none-applies l ok 7) in
+      let qs = sorted (trayOf l) in
+      let b = copies-all (shapes qs) (gs-up (trayOf l) (piece-whole l ok)) qs in
+      let c = counts-same 0 (trayOf l .pieces) in
+      let d : sum (limits C) ≡ total (λ g. length (copiesOf qs g)) (shapes qs) =
+      ap sum (map-map-of (λ (d : Kind). length (d .copies)) _ (shapes qs)) ∙ sum-map (λ g. length (copiesOf qs g)) (shapes qs) in
+      omega arith
+
+  -- ---- a placement's cells ascend and are below 128, so a row gives it back
+  pub spread-placements : map spread (compile (trayOf l) .placements) ≡ compile (trayOf l) .placements
+  unfolding spread
+  spread-placements = map-still spread (C .placements) back
+    where
+      back : (q : Placement) → List·Memᴰ q (C .placements) → spread q ≡ q
+      back q m =
+          let e = spread-cells (q .cells) (W l ok .cellsAscend q m) (λ n k. let a = W l ok .onBoard q m n k in let b = few-cells in omega arith) in
+          (λ i. record { kind = q .kind; p = q .p; j = q .j; cells = e i })
+
+  -- ---- the system
+  pub lawful : ((k : ℕ) → k < length (compile (trayOf l) .kinds) → length (copiesBy (owned (trayOf l)) k) ≡ getD (limits (compile (trayOf l))) k 0) → Lawful (systemOf (trayOf l))
+  unfolding systemOf limits
+  lawful copies =
+      record {
+        fewCells = few-cells;
+        fewRows = few-rows;
+        fewKinds = (let e = many in let h = few-kinds in omega arith);
+        aPartnerEach = length-map (C .kinds) (λ (d : Kind). d .partner) ∙ sym many;
+        fewCopies = few-copies;
+        inOrder = W l ok .inOrder;
+        row = λ q m. record {
+          ofKind = (let e = many in let h = W l ok .ofKinds q m in omega arith);
+          ascend = W l ok .cellsAscend q m;
+          onBoard = W l ok .onBoard q m;
+          coversP = W l ok .coversP q m;
+          fromP = W l ok .fromP q m;
+        };
+        byCells = placement-once l ok;
+        permutes = map-permutes l ok;
+        identity = map-identity l ok;
+        inverse = map-inverse l ok;
+        product = map-product l ok;
+        partnerBack = λ k h. ap (kindBy partners true) (kind-is l ok true k) ∙ kind-is l ok true (kindAfter C true k) ∙ kind-back l ok k (in-kinds true k h);
+        image = λ odd f m q row h. map-image l ok odd f m q row (in-kinds odd (q .kind) h);
+        copiesEach = λ k h. copies k (let e = many in omega arith);
+      }
+    where
+      partners : List ℕ
+      partners = map (λ d. d .partner) (C .kinds)
+
+      many : length (map (λ d. length (d .copies)) (C .kinds)) ≡ length (C .kinds)
+      many = length-map (C .kinds) (λ (d : Kind). length (d .copies))
+
+      in-kinds : (odd : Bool) (k : ℕ) → kindBy partners odd k < length (map (λ d. length (d .copies)) (C .kinds)) → kindAfter C odd k < length (C .kinds)
+      in-kinds odd k h = let e = many in let i = kind-is l ok odd k in omega arith

@@ -1,0 +1,419 @@
+-- Rows written one behind the other, the cells of a row as a mask, and the rows of a kind as the loops write them. Assumes nothing.
+use Prim.Native.Nat.{ℕ, zero, suc, _+_, _*_, _-_, _≤_, _<_}
+use mathlib.Core.Bool.{Bool, true, false, _&&_, _||_}
+use mathlib.Core.List.{List, [], _∷_, _++_, map, append-assoc, append-nil, List·Memᴰ, Memᴰ·map, Memᴰ·of-map, Memᴰ·cast}
+use mathlib.Core.Path.{_≡_, refl, sym, ap, ap₂, _∙_, subst, fun-ext}
+use native.Mathlib.Numerals.{add-one}
+use native.Mathlib.Omega.{arith}
+use lib.Dec.{T, eqb, ltb, eqb→eq, ltb→lt, lt→ltb}
+use lib.ListN.{length, getD, take, drop, set, length-append, length-map, length-take, drop-of-length-le, List·getD-append, List·getD-map}
+use lib.Seq.{getD-append-add, getD-take, length-take-le, drop-drop, drop-cons, drop-set-lt, getD-set-other, sets-eq}
+use Rattle.definitions.specs.Lists.{consIf, keep, all, any, from, below, member, joined, numberedFrom}
+use Rattle.definitions.specs.Grid.{Sides, Cell, Grid, InBox, box, volume, placeOf, byteAt, sameCell, filledCells}
+use Rattle.definitions.specs.Maps.{mapOf, mapGrid}
+use Rattle.definitions.specs.Scan.{scan, scanNumber}
+use Rattle.definitions.specs.Placements.{Placement, origin, lies, reaches, fits, placementsAt}
+use Rattle.definitions.proofs.ListLaws.{and-left, and-right, and-both, is-false, all-at, all-of, any-at, keep-same, below-at, length-below, member-at, member-of}
+use Rattle.definitions.proofs.MapLaws.{filled-of, filled-at, map-map-of}
+use Rattle.definitions.proofs.GroupLaws.{map-same, from-append}
+use Rattle.definitions.proofs.WellMadeLaws.{sameCell→eq, scan-ascending, number-below}
+use Rattle.masks.specs.Masks.{has, nothing, only, either}
+use Rattle.masks.specs.declared.Mask.{Mask}
+use Rattle.shape.specs.Places.{cellAt}
+use Rattle.shape.specs.Scans.{IsOrder}
+use Rattle.shape.specs.Variants.{turnedBy}
+use Rattle.shape.proofs.PlaceLaws.{place-lt, cell-at-place, cell-in-box, place-of-cell}
+use Rattle.shape.proofs.GridLaws.{box-places}
+use Rattle.shape.proofs.VariantLaws.{scan-has, scan-from}
+use Rattle.placements.specs.Fitting.{fitsGrid}
+use Rattle.placements.specs.Counting.{OnBoard}
+use Rattle.placements.proofs.FittingLaws.{both-ways, fitsBy}
+use Rattle.placements.proofs.CountingLaws.{cells-many}
+use Rattle.rows.specs.Rows.{cellsOf, maskAt, rowAt, rowsIn, spread, Appended}
+use Rattle.rows.specs.Boards.{Numbered, lands}
+
+-- ---- rows in front of a word do not see it
+module _ (old new : List ℕ) where
+  -- a row by its words
+  row-same : (r : ℕ) → ((i : ℕ) → i < 8 * r + 8 → getD new i 0 ≡ getD old i 0) → rowAt new r ≡ rowAt old r
+  unfolding rowAt maskAt
+  row-same r f =
+      let a = f (8 * r) (omega arith) in
+      let b = f (8 * r + 1) (omega arith) in
+      let d = f (8 * r + 2) (omega arith) in
+      let e = f (8 * r + 3) (omega arith) in
+      let g = f (8 * r + 4) (omega arith) in
+      rw (a, b, d, e, g)
+
+  pub rows-same : (n : ℕ) → ((i : ℕ) → i < 8 * n → getD new i 0 ≡ getD old i 0) → rowsIn new n ≡ rowsIn old n
+  unfolding rowsIn
+  rows-same n f = map-same (rowAt new) (rowAt old) (below n) (λ r m. let l = below-at n m in row-same r (λ i h. f i (omega arith)))
+
+-- a word stored behind the rows
+pub rows-store : (work : List ℕ) (n i v : ℕ) → 8 * n ≤ i → rowsIn (set work i v) n ≡ rowsIn work n
+rows-store work n i v h = rows-same work (set work i v) n (λ k l. getD-set-other work i k v 0 (λ e. let d : k ≡ i = e in omega arith))
+
+pub rows-snoc : (work : List ℕ) (n : ℕ) → rowsIn work (n + 1) ≡ rowsIn work n ++ (rowAt work n ∷ [])
+unfolding rowsIn
+rows-snoc work n = ap (map (rowAt work)) (sym (from-append 0 n 1)) ∙ apart (below n)
+  where
+    apart : (xs : List ℕ) → map (rowAt work) (xs ++ from (0 + n) 1) ≡ map (rowAt work) xs ++ (rowAt work n ∷ [])
+    apart [] = ap (λ (k : ℕ). rowAt work k ∷ []) (let e : 0 + n ≡ n = omega arith in e)
+    apart (x ∷ xs) = ap (λ (l : List Placement). rowAt work x ∷ l) (apart xs)
+
+-- ---- a row written behind r rows
+module _ (old : List ℕ) (r low high kind p j : ℕ) (room : 8 * r + 8 ≤ length old) where
+  abbrev stored : List ℕ
+  stored = set (set (set (set (set old (8 * r) low) (8 * r + 1) high) (8 * r + 2) kind) (8 * r + 3) p) (8 * r + 4) j
+
+  abbrev words : List ℕ
+  words = low ∷ high ∷ kind ∷ p ∷ j ∷ []
+
+  stored-is : stored ≡ take (8 * r) old ++ (words ++ drop (8 * r + 5) old)
+  stored-is =
+      let a : 8 * r + 1 ≡ suc (8 * r) = omega arith in
+      let b : 8 * r + 2 ≡ suc (suc (8 * r)) = omega arith in
+      let d : 8 * r + 3 ≡ suc (suc (suc (8 * r))) = omega arith in
+      let e : 8 * r + 4 ≡ suc (suc (suc (suc (8 * r)))) = omega arith in
+      rw (a, b, d, e) (sets-eq words old (8 * r) (omega arith) ∙ append-assoc (take (8 * r) old) words (drop (8 * r + 5) old))
+
+  in-front : (i : ℕ) → i < 8 * r → getD stored i 0 ≡ getD old i 0
+  in-front i h =
+      let e = length-take-le (8 * r) old (omega arith) in
+      ap (λ (l : List ℕ). getD l i 0) stored-is ∙ List·getD-append (take (8 * r) old) (words ++ drop (8 * r + 5) old) 0 i (omega arith) ∙ getD-take (8 * r) old i 0 h
+
+  word-at : (k : ℕ) → getD stored (8 * r + k) 0 ≡ getD (words ++ drop (8 * r + 5) old) k 0
+  word-at k =
+      ap (λ (l : List ℕ). getD l (8 * r + k) 0) stored-is
+      ∙ ap (λ (n : ℕ). getD (take (8 * r) old ++ (words ++ drop (8 * r + 5) old)) (n + k) 0) (sym (length-take-le (8 * r) old (omega arith)))
+      ∙ getD-append-add (take (8 * r) old) (words ++ drop (8 * r + 5) old) k 0
+
+  row-is : rowAt stored r ≡ record { kind = kind; p = p; j = j; cells = cellsOf (record { low = low; high = high }) }
+  unfolding rowAt maskAt
+  row-is =
+      let z : 8 * r ≡ 8 * r + 0 = omega arith in
+      let a : getD stored (8 * r) 0 ≡ low = ap (λ (n : ℕ). getD stored n 0) z ∙ word-at 0 in
+      let b = word-at 1 in
+      let d = word-at 2 in
+      let e = word-at 3 in
+      let f = word-at 4 in
+      rw (a, b, d, e, f)
+
+  behind-it : (n : ℕ) → 8 * r + 8 ≤ n → drop n stored ≡ drop n old
+  behind-it n h =
+      drop-set-lt n _ (8 * r + 4) j (omega arith) ∙ drop-set-lt n _ (8 * r + 3) p (omega arith) ∙ drop-set-lt n _ (8 * r + 2) kind (omega arith)
+      ∙ drop-set-lt n _ (8 * r + 1) high (omega arith) ∙ drop-set-lt n old (8 * r) low (omega arith)
+
+  pub written : Appended old r stored (r + 1) (record { kind = kind; p = p; j = j; cells = cellsOf (record { low = low; high = high }) } ∷ [])
+  written =
+      record {
+        count = refl;
+        rows = rows-snoc stored r ∙ ap₂ (λ (qs : List Placement) (q : Placement). qs ++ (q ∷ [])) (rows-same old stored r in-front) row-is;
+        behind = behind-it (8 * (r + 1)) (omega arith);
+      }
+
+-- ---- rows behind rows
+pub append-none : (work : List ℕ) (n : ℕ) → Appended work n work n []
+append-none work n = record { count = omega arith; rows = sym (append-nil (rowsIn work n)); behind = refl }
+
+pub drop-later : (m n : ℕ) (a b : List ℕ) → m ≤ n → drop m a ≡ drop m b → drop n a ≡ drop n b
+drop-later m n a b h e =
+    let s : n ≡ m + (n - m) = omega arith in
+    ap (λ (k : ℕ). drop k a) s ∙ sym (drop-drop (n - m) m a) ∙ ap (drop (n - m)) e ∙ drop-drop (n - m) m b ∙ ap (λ (k : ℕ). drop k b) (sym s)
+
+pub append-then : {a b d : List ℕ} {n m k : ℕ} {qs rs : List Placement} → Appended a n b m qs → Appended b m d k rs → Appended a n d k (qs ++ rs)
+append-then {a} {b} {d} {n} {m} {k} {qs} {rs} x y =
+    record {
+      count = (let e = length-append qs rs in let f = x .count in let g = y .count in omega arith);
+      rows = y .rows ∙ ap (λ (l : List Placement). l ++ rs) (x .rows) ∙ append-assoc (rowsIn a n) qs rs;
+      behind = y .behind ∙ drop-later (8 * m) (8 * k) b a (let g = y .count in omega arith) (x .behind);
+    }
+
+-- rows where none stood are all rows
+pub append-first : {a b : List ℕ} {m : ℕ} {qs : List Placement} → Appended a 0 b m qs → rowsIn b m ≡ qs
+unfolding rowsIn
+append-first x = x .rows
+
+-- ---- a loop that appends rows: what is done and what is left make all
+pub record Reached (old : List ℕ) (n : ℕ) (new : List ℕ) (m : ℕ) (left all : List Placement) : Type 0 where
+  pub done : List Placement
+  pub appended : Appended old n new m (map spread done)
+  pub makes : done ++ left ≡ all
+
+map-append : {A B : Type 0} (f : A → B) (xs ys : List A) → map f (xs ++ ys) ≡ map f xs ++ map f ys
+map-append f [] ys = refl
+map-append f (x ∷ xs) ys = ap (λ (l : List _). f x ∷ l) (map-append f xs ys)
+
+pub reached-none : (work : List ℕ) (n : ℕ) (left all : List Placement) → left ≡ all → Reached work n work n left all
+reached-none work n left all e = record { done = []; appended = append-none work n; makes = e }
+
+pub reached-start : (work : List ℕ) (n : ℕ) (left all : List Placement) → left ≡ all → Reached work n work (n + 0) left all
+reached-start work n left all e = let d : n ≡ n + 0 = omega arith in subst (λ (m : ℕ). Reached work n work m left all) d (reached-none work n left all e)
+
+module _ {old new : List ℕ} {n m : ℕ} {left all : List Placement} (c : Reached old n new m left all) where
+  pub reached-more : {later : List ℕ} {k : ℕ} (qs rest : List Placement) → left ≡ qs ++ rest → Appended new m later k (map spread qs) → Reached old n later k rest all
+  reached-more {later} {k} qs rest e a =
+      record {
+        done = c .done ++ qs;
+        appended = subst (λ (l : List Placement). Appended old n later k l) (sym (map-append spread (c .done) qs)) (append-then (c .appended) a);
+        makes = append-assoc (c .done) qs rest ∙ ap (λ (l : List Placement). c .done ++ l) (sym e) ∙ c .makes;
+      }
+
+  pub reached-all : left ≡ [] → Appended old n new m (map spread all)
+  reached-all e = subst (λ (l : List Placement). Appended old n new m (map spread l)) (sym (append-nil (c .done)) ∙ ap (λ (l : List Placement). c .done ++ l) (sym e) ∙ c .makes) (c .appended)
+
+  -- there is room for what is left
+  pub reached-room : (size : ℕ) → 8 * (n + length all) ≤ size → (qs rest : List Placement) → left ≡ qs ++ rest → 8 * (m + length qs) ≤ size
+  reached-room size h qs rest e =
+      let a = ap length (c .makes) in
+      let b = length-append (c .done) left in
+      let d = ap length e in
+      let f = length-append qs rest in
+      let g = c .appended .count in
+      let i = length-map (c .done) spread in
+      omega arith
+
+-- a turn that writes one row, and one that writes none
+module _ {old new : List ℕ} {r : ℕ} {left all : List Placement} (j : ℕ) (c : Reached old r new (r + j) left all) (f : ℕ → List Placement) (now : List ℕ) (k : ℕ) where
+  pub reached-one : (q row : Placement) (later : List ℕ) → left ≡ (q ∷ []) ++ f (j + 1) → row ≡ spread q → Appended new (r + j) later (r + j + 1) (row ∷ []) → now ≡ later → k ≡ j + 1
+      → Reached old r now (r + k) (f k) all
+  reached-one q row later e s a d i =
+      let t : r + j + 1 ≡ r + (j + 1) = omega arith in
+      let more = reached-more c (q ∷ []) (f (j + 1)) e (subst (λ (x : Placement). Appended new (r + j) later (r + j + 1) (x ∷ [])) s a) in
+      let there = subst (λ (m : ℕ). Reached old r later m (f (j + 1)) all) t more in
+      subst (λ (l : List ℕ). Reached old r l (r + k) (f k) all) (sym d) (subst (λ (m : ℕ). Reached old r later (r + m) (f m) all) (sym i) there)
+
+  pub reached-same : left ≡ f j → now ≡ new → k ≡ j → Reached old r now (r + k) (f k) all
+  reached-same e d i =
+      let there = subst (λ (qs : List Placement). Reached old r new (r + j) qs all) e c in
+      subst (λ (l : List ℕ). Reached old r l (r + k) (f k) all) (sym d) (subst (λ (m : ℕ). Reached old r new (r + m) (f m) all) (sym i) there)
+
+-- ---- the cells of a turned grid as a mask
+-- the filled cells from place j on, of n places
+abbrev pub filledFrom : Grid → ℕ → ℕ → List Cell
+filledFrom h j n = keep (λ u. eqb (byteAt h u) 1) (map (cellAt (h .sides)) (from j n))
+
+-- the numbers that these cells have, as a set
+abbrev pub numbersFrom : (Cell → ℕ) → Grid → ℕ → ℕ → ℕ → Bool
+numbersFrom f h j n k = member k (map f (filledFrom h j n))
+
+or-assoc : (a b d : Bool) → (a || b) || d ≡ a || (b || d)
+or-assoc true b d = refl
+or-assoc false b d = refl
+
+or-false : (a : Bool) → a || false ≡ a
+or-false true = refl
+or-false false = refl
+
+module _ (f : Cell → ℕ) (h : Grid) where
+  pub mask-start : (m : ℕ → Bool) (n : ℕ) → m ≡ nothing → n ≡ volume (h .sides) → either m (numbersFrom f h 0 n) ≡ (λ k. member k (map f (filledCells h)))
+  unfolding either nothing filledCells
+  mask-start m n e d =
+      fun-ext λ k. ap₂ (λ (p : ℕ → Bool) (i : ℕ). p k || numbersFrom f h 0 i k) e d ∙ ap (λ (us : List Cell). member k (map f (keep (λ u. eqb (byteAt h u) 1) us))) (sym (box-places (h .sides)))
+
+  module _ (m : ℕ → Bool) (j v : ℕ) where
+    filled-more : j < v → filledFrom h j (v - j) ≡ consIf (eqb (getD (h .cells) j 0) 1) (cellAt (h .sides) j) (filledFrom h (j + 1) (v - (j + 1)))
+    unfolding byteAt
+    filled-more l =
+        let e : v - j ≡ suc (v - (j + 1)) = omega arith in
+        rw (e, add-one j, place-of-cell (h .sides) j)
+
+    pub mask-hit : (w : ℕ → Bool) → j < v → getD (h .cells) j 0 ≡ 1 → w ≡ either m (only (f (cellAt (h .sides) j)))
+        → either w (numbersFrom f h (j + 1) (v - (j + 1))) ≡ either m (numbersFrom f h j (v - j))
+    unfolding either only
+    mask-hit w l e d =
+        fun-ext λ k.
+        ap (λ (p : ℕ → Bool). p k || numbersFrom f h (j + 1) (v - (j + 1)) k) d
+        ∙ or-assoc (m k) (eqb k (f (cellAt (h .sides) j))) (numbersFrom f h (j + 1) (v - (j + 1)) k)
+        ∙ ap (λ (us : List Cell). m k || member k (map f us)) (sym (filled-more l ∙ ap (λ (i : ℕ). consIf (eqb i 1) (cellAt (h .sides) j) (filledFrom h (j + 1) (v - (j + 1)))) e))
+
+    pub mask-miss : j < v → (getD (h .cells) j 0 ≡ 1 → ⊥) → either m (numbersFrom f h (j + 1) (v - (j + 1))) ≡ either m (numbersFrom f h j (v - j))
+    mask-miss l e =
+        ap (λ (us : List Cell). either m (λ k. member k (map f us)))
+        (sym (filled-more l ∙ ap (λ (b : Bool). consIf b (cellAt (h .sides) j) (filledFrom h (j + 1) (v - (j + 1)))) (is-false (eqb (getD (h .cells) j 0) 1) (λ t. e (eqb→eq (getD (h .cells) j 0) 1 t)))))
+
+    pub mask-end : v ≤ j → either m (numbersFrom f h j (v - j)) ≡ m
+    unfolding either
+    mask-end l = let e : v - j ≡ 0 = omega arith in fun-ext λ k. rw e (or-false (m k))
+
+-- where a filled cell lies that lands
+module _ (s : Sides) (scans : List ℕ) (v o : Cell) where
+  lands-parts : (u : Cell) → T (lands s scans v o u) → InBox s (lies v o u) × (getD scans (placeOf s (lies v o u)) 0 < 128)
+  unfolding lands
+  lands-parts u t =
+      let w = lies v o u in
+      let n = getD scans (placeOf s w) 0 in
+      let a = and-right (ltb (w .x) (s .a)) (ltb (w .y) (s .b) && (ltb (w .z) (s .c) && ltb n 128)) t in
+      let b = and-right (ltb (w .y) (s .b)) (ltb (w .z) (s .c) && ltb n 128) a in (
+        (
+          ltb→lt (w .x) (s .a) (and-left (ltb (w .x) (s .a)) (ltb (w .y) (s .b) && (ltb (w .z) (s .c) && ltb n 128)) t),
+          ltb→lt (w .y) (s .b) (and-left (ltb (w .y) (s .b)) (ltb (w .z) (s .c) && ltb n 128) a),
+          ltb→lt (w .z) (s .c) (and-left (ltb (w .z) (s .c)) (ltb n 128) b),
+        ),
+        ltb→lt n 128 (and-right (ltb (w .z) (s .c)) (ltb n 128) b),
+      )
+
+  pub landing : (h : Grid) → T (all (lands s scans v o) (filledCells h)) → (j : ℕ) → j < volume (h .sides) → getD (h .cells) j 0 ≡ 1
+      → (w u : Cell) (t : Sides) → w ≡ lies v o u → u ≡ cellAt t j → t ≡ h .sides → InBox s w × (getD scans (placeOf s w) 0 < 128) × (w ≡ lies v o (cellAt (h .sides) j))
+  unfolding byteAt
+  landing h ok j l e w u t d i k =
+      let is : w ≡ lies v o (cellAt (h .sides) j) = d ∙ ap (lies v o) (i ∙ ap (λ (x : Sides). cellAt x j) k) in
+      let m = filled-of h (cellAt (h .sides) j) (cell-in-box (h .sides) j l) (ap (λ (n : ℕ). getD (h .cells) n 0) (place-of-cell (h .sides) j) ∙ e) in
+      let r = lands-parts (cellAt (h .sides) j) (all-at (lands s scans v o) (filledCells h) ok m) in
+      (subst (InBox s) (sym is) (r .0), subst (λ (x : Cell). getD scans (placeOf s x) 0 < 128) (sym is) (r .1), is)
+
+-- ---- the scan numbers of a board
+at-from : (f : ℕ → ℕ) (i n k : ℕ) → k < n → getD (map f (from i n)) k 0 ≡ f (i + k)
+at-from f i zero k h = absurd (omega arith)
+at-from f i (suc n) zero h = ap f (let e : i ≡ i + 0 = omega arith in e)
+at-from f i (suc n) (suc k) h = at-from f (suc i) n k (omega arith) ∙ ap f (let e : suc i + k ≡ i + suc k = omega arith in e)
+
+module _ (order : List ℕ) (g : Grid) (scans : List ℕ) (n : Numbered order g scans) where
+  pub numbered-order : IsOrder order
+  numbered-order = record { box = g .sides; isIts = n .isOrder }
+
+  pub numbered-long : volume (g .sides) ≤ length scans
+  numbered-long =
+      let a = ap length (n .each) in
+      let b = length-take (volume (g .sides)) scans in
+      let d = length-map (box (g .sides)) (scanNumber (scan order g)) in
+      let e = ap length (box-places (g .sides)) in
+      let f = length-map (below (volume (g .sides))) (cellAt (g .sides)) in
+      let i = length-below (volume (g .sides)) in
+      omega arith
+
+  number-at : (w : Cell) → InBox (g .sides) w → getD scans (placeOf (g .sides) w) 0 ≡ scanNumber (scan order g) w
+  number-at w b =
+      let v = volume (g .sides) in
+      let i = placeOf (g .sides) w in
+      let z : 0 + i ≡ i = omega arith in
+      let f : Cell → ℕ = scanNumber (scan order g) in
+      sym (getD-take v scans i 0 (place-lt (g .sides) w b))
+      ∙ ap (λ (l : List ℕ). getD l i 0) (n .each ∙ ap (map f) (box-places (g .sides)) ∙ map-map-of f (cellAt (g .sides)) (below v))
+      ∙ at-from (λ k. f (cellAt (g .sides) k)) 0 v i (place-lt (g .sides) w b)
+      ∙ ap (λ (k : ℕ). f (cellAt (g .sides) k)) z ∙ ap f (cell-at-place (g .sides) w b)
+
+  -- a grid that fits at v with its cell o there
+  module _ (v o : Cell) (h : Grid) (t : T (fitsGrid g v o h)) where
+    pub fit-reaches : T (reaches v o)
+    unfolding fitsGrid
+    fit-reaches = and-left (reaches v o) (all (λ u. any (sameCell (lies v o u)) (filledCells g)) (filledCells h)) t
+
+    fit-on : (u : Cell) → List·Memᴰ u (filledCells h) → List·Memᴰ (lies v o u) (filledCells g)
+    unfolding fitsGrid
+    fit-on u m =
+        let p : Cell → Bool = λ w. any (sameCell (lies v o w)) (filledCells g) in
+        let r = any-at (sameCell (lies v o u)) (filledCells g) (all-at p (filledCells h) (and-right (reaches v o) (all p (filledCells h)) t) m) in
+        Memᴰ·cast (sameCell→eq (lies v o u) (r .0) (r .2)) (r .1)
+
+    fit-number : (u : Cell) → List·Memᴰ u (filledCells h) → getD scans (placeOf (g .sides) (lies v o u)) 0 ≡ scanNumber (scan order g) (lies v o u)
+    fit-number u m = number-at (lies v o u) (filled-at g (lies v o u) (fit-on u m) .0)
+
+    pub fit-lands : T (all (lands (g .sides) scans v o) (filledCells h))
+    unfolding lands
+    fit-lands =
+        all-of (lands (g .sides) scans v o) (filledCells h)
+        (λ u m.
+        let w = lies v o u in
+        let s = g .sides in
+        let k = getD scans (placeOf s w) 0 in
+        let b = filled-at g w (fit-on u m) .0 in
+        let l = number-below order (scan order g) (scan-ascending order g) (scan-has order numbered-order g w (fit-on u m)) in
+        let e = fit-number u m in
+        let few = n .few in
+        and-both (ltb (w .x) (s .a)) (ltb (w .y) (s .b) && (ltb (w .z) (s .c) && ltb k 128)) (lt→ltb (w .x) (s .a) (b .0))
+        (and-both (ltb (w .y) (s .b)) (ltb (w .z) (s .c) && ltb k 128) (lt→ltb (w .y) (s .b) (b .1))
+        (and-both (ltb (w .z) (s .c)) (ltb k 128) (lt→ltb (w .z) (s .c) (b .2)) (lt→ltb k 128 (omega arith)))))
+
+    -- the row that stands for a placement
+    pub spread-is : (mask : Mask) (kind p j : ℕ) → o ≡ origin (scan order h)
+        → has mask ≡ (λ k. member k (map (λ u. getD scans (placeOf (g .sides) (lies v o u)) 0) (filledCells h)))
+        → _≡_ {A = Placement} (record { kind = kind; p = p; j = j; cells = cellsOf mask })
+        (spread (record { kind = kind; p = p; j = j; cells = map (λ u. scanNumber (scan order g) (lies v (origin (scan order h)) u)) (scan order h) }))
+    unfolding spread cellsOf
+    spread-is mask kind p j e d = ap (λ (ks : List ℕ). record { kind = kind; p = p; j = j; cells = ks }) (keep-same (has mask) (λ k. member k (map to (scan order h))) (below 128) (λ k _. same k))
+      where
+        to : Cell → ℕ
+        to u = scanNumber (scan order g) (lies v (origin (scan order h)) u)
+
+        by : Cell → ℕ
+        by u = getD scans (placeOf (g .sides) (lies v o u)) 0
+
+        agree : (u : Cell) → List·Memᴰ u (filledCells h) → by u ≡ to u
+        agree u m = fit-number u m ∙ ap (λ (x : Cell). scanNumber (scan order g) (lies v x u)) e
+
+        same : (k : ℕ) → has mask k ≡ member k (map to (scan order h))
+        same k =
+            ap (λ (f : ℕ → Bool). f k) d
+            ∙ both-ways (member k (map by (filledCells h))) (member k (map to (scan order h)))
+            (λ t.
+            let r = Memᴰ·of-map by (filledCells h) (member-at k (map by (filledCells h)) t) in
+            member-of (map to (scan order h)) (Memᴰ·cast (sym (r .2) ∙ agree (r .0) (r .1)) (Memᴰ·map to (scan-has order numbered-order h (r .0) (r .1)))))
+            (λ t.
+            let r = Memᴰ·of-map to (scan order h) (member-at k (map to (scan order h)) t) in
+            let m = scan-from order numbered-order h (r .0) (r .1) in
+            member-of (map by (filledCells h)) (Memᴰ·cast (sym (r .2) ∙ sym (agree (r .0) m)) (Memᴰ·map by m)))
+
+-- ---- the rows at a cell
+module _ (order : List ℕ) (g h : Grid) (kind p : ℕ) (v : Cell) where
+  -- the j-th placement there, and what is left from the i-th of n numbers on
+  abbrev pub placed : ℕ → List Cell → Placement
+  placed j us = record { kind = kind; p = p; j = j; cells = map (λ u. scanNumber (scan order g) (lies v (origin us) u)) us }
+
+  abbrev pub leftAt : List ℕ → ℕ → ℕ → ℕ → List Placement
+  leftAt numbers n j i = numberedFrom j (keep (fits (scan order g) v) (map (scan order) (turnedBy h (drop i (take n numbers))))) placed
+
+  pub left-start : (numbers : List ℕ) (n : ℕ) → leftAt numbers n 0 0 ≡ placementsAt (scan order g) kind (map (scan order) (turnedBy h (take n numbers))) p v
+  unfolding placementsAt
+  left-start numbers n = refl
+
+  module _ (numbers : List ℕ) (n j i : ℕ) (within : n ≤ length numbers) where
+    abbrev grid : Grid
+    grid = mapGrid (mapOf (getD numbers i 0)) h
+
+    left-more : i < n → (b : Bool) → fitsBy order g v h (getD numbers i 0) ≡ b
+        → leftAt numbers n j i ≡ numberedFrom j (consIf b (scan order grid) (keep (fits (scan order g) v) (map (scan order) (turnedBy h (drop (i + 1) (take n numbers)))))) placed
+    unfolding turnedBy
+    left-more l b e =
+        let a = length-take-le n numbers within in
+        rw (add-one i, drop-cons (take n numbers) i 0 (omega arith), getD-take n numbers i 0 l, e)
+
+    pub left-hit : i < n → fitsBy order g v h (getD numbers i 0) ≡ true
+        → leftAt numbers n j i ≡ (placed j (scan order (mapGrid (mapOf (getD numbers i 0)) h)) ∷ []) ++ leftAt numbers n (j + 1) (i + 1)
+    left-hit l e = left-more l true e ∙ rw (add-one j)
+
+    pub left-miss : i < n → fitsBy order g v h (getD numbers i 0) ≡ false → leftAt numbers n j i ≡ leftAt numbers n j (i + 1)
+    left-miss l e = left-more l false e
+
+    pub left-end : n ≤ i → leftAt numbers n j i ≡ []
+    unfolding turnedBy
+    left-end l =
+        let a : length (take n numbers) ≤ i = let b = length-take-le n numbers within in omega arith in
+        rw (drop-of-length-le (take n numbers) a)
+
+-- ---- the rows of a kind
+module _ (order : List ℕ) (g : Grid) (places : List ℕ) (n : ℕ) (on : OnBoard order g places n) where
+  on-at : (p : ℕ) → p < n → drop p (scan order g) ≡ cellAt (g .sides) (getD places p 0) ∷ drop (p + 1) (scan order g)
+  on-at p l =
+      let m = cells-many order g places n on in
+      let a = length-take-le n places (on .within) in
+      let zero-cell : Cell = cellAt (g .sides) 0 in
+      drop-cons (scan order g) p zero-cell (omega arith)
+      ∙ ap₂ (λ (u : Cell) (i : ℕ). u ∷ drop i (scan order g))
+      (ap (λ (us : List Cell). getD us p zero-cell) (sym (on .cells)) ∙ List·getD-map (cellAt (g .sides)) (take n places) p 0 ∙ ap (cellAt (g .sides)) (getD-take n places p 0 l))
+      (sym (add-one p))
+
+  -- what is left from the p-th cell on
+  module _ (kind : ℕ) (vs : List (List Cell)) where
+    abbrev pub leftBy : ℕ → List Placement
+    leftBy p = joined (numberedFrom p (drop p (scan order g)) (placementsAt (scan order g) kind vs))
+
+    pub left-cell : (p : ℕ) (v : Cell) → p < n → v ≡ cellAt (g .sides) (getD places p 0) → leftBy p ≡ placementsAt (scan order g) kind vs p v ++ leftBy (p + 1)
+    left-cell p v l e =
+        ap (λ (us : List Cell). joined (numberedFrom p us (placementsAt (scan order g) kind vs))) (on-at p l)
+        ∙ ap₂ (λ (u : Cell) (i : ℕ). placementsAt (scan order g) kind vs p u ++ joined (numberedFrom i (drop (p + 1) (scan order g)) (placementsAt (scan order g) kind vs))) (sym e) (sym (add-one p))
+
+    pub left-cells-end : (p : ℕ) → n ≤ p → leftBy p ≡ []
+    left-cells-end p l =
+        let m = cells-many order g places n on in
+        ap (λ (us : List Cell). joined (numberedFrom p us (placementsAt (scan order g) kind vs))) (drop-of-length-le (scan order g) {i = p} (omega arith))

@@ -1,0 +1,6 @@
+pub mod Rows
+pub mod Systems
+pub mod Boards
+pub mod Chains
+pub mod Answering
+pub mod Lawful

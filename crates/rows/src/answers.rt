@@ -1,0 +1,128 @@
+// Answers from the rows of a packing (`reconstruct_answer`).
+ghost use mathlib.Core.Path.{_≡_};
+ghost use Prim.Native.Nat.{_+_, _*_, _≤_, _<_};
+ghost use lib.Dec.{T, eqb, ltb};
+ghost use lib.ListN.{getD, length, take};
+ghost use lib.Seq.{paste};
+ghost use Rattle.definitions.specs.Lists.{all, each, howMany};
+ghost use Rattle.definitions.specs.Answers.{copyOn};
+ghost use Rattle.rows.specs.Systems.{ownedIn};
+ghost use Rattle.rows.specs.Answering.{Held, answersOver, asCopy, copiesBy, noCopy, pathIn, takenBy};
+use super::Dims;
+use super::table;
+
+// A copy of a piece: the piece's number as lent, and the copy's.
+pub struct Copied {
+    pub piece: u8,
+    pub copy: u8,
+}
+
+// Copy i of a kind, through its pieces in lent order; 255, 255 where it has no such copy.
+fn copy_of(pieces: &[u8], n: usize, kind: usize, i: usize) -> Copied
+    requires { ⌜ (n ≤ 16) × (2 * n ≤ length (now pieces)) ⌝ }
+    ensures { λ r. ⌜ asCopy r ≡ getD (copiesBy (ownedIn (now (pieces .entry)) n) kind) i noCopy ⌝ }
+{
+    let mut left = i;
+    let mut p = 0;
+    while p < n {
+        if pieces[2 * p] as usize == kind {
+            let count = pieces[2 * p + 1] as usize;
+            if left < count {
+                return Copied {
+                    piece: p as u8,
+                    copy: left as u8,
+                };
+            }
+            left -= count;
+        }
+        p += 1;
+    }
+    Copied {
+        piece: 255,
+        copy: 255,
+    }
+}
+
+// How many of the first n rows of a path are of a kind.
+pub fn used_before(work: &[u64], path: &[u16], n: usize, kind: usize) -> usize
+    requires { ⌜ (n ≤ length (now path)) × T (all (λ r. ltb (8 * r + 7) (length (now work))) (take n (now path))) ⌝ }
+    ensures { λ r. ⌜ (r ≡ howMany (λ q. eqb (q .kind) kind) (pathIn (now (work .entry)) (now (path .entry)) n)) × (r ≤ n) ⌝ }
+{
+    let mut used = 0;
+    let mut i = 0;
+    while i < n {
+        if table::kind_at(work, path[i] as usize) == kind {
+            used += 1;
+        }
+        i += 1;
+    }
+    used
+}
+
+// The copy on a cell: that of the row that covers it; 255, 255 where none does.
+fn copy_on(d: Dims, work: &[u64], pieces: &[u8], path: &[u16], n: usize, cell: usize) -> Copied
+    requires { ⌜ Held d (now work) (now pieces) (now path) n × (cell < 128) ⌝ }
+    ensures { λ r. ⌜ asCopy r ≡ copyOn (takenBy (ownedIn (now (pieces .entry)) (d .pieces)) (d .kinds) (pathIn (now (work .entry)) (now (path .entry)) n)) cell ⌝ }
+{
+    let mut i = 0;
+    while i < n {
+        let r = path[i] as usize;
+        if table::mask_at(work, r).has_cell(cell) {
+            let kind = table::kind_at(work, r);
+            return copy_of(pieces, d.pieces, kind, used_before(work, path, i, kind));
+        }
+        i += 1;
+    }
+    Copied {
+        piece: 255,
+        copy: 255,
+    }
+}
+
+// The copy at a place of the board's box.
+fn copy_at(
+    d: Dims,
+    work: &[u64],
+    scans: &[u8],
+    pieces: &[u8],
+    path: &[u16],
+    n: usize,
+    place: usize,
+) -> Copied
+    requires { ⌜ Held d (now work) (now pieces) (now path) n × (place < length (now scans)) ⌝ }
+    ensures { λ r. ⌜ asCopy r ≡ copyOn (takenBy (ownedIn (now (pieces .entry)) (d .pieces)) (d .kinds) (pathIn (now (work .entry)) (now (path .entry)) n)) (getD (now (scans .entry)) place 0) ⌝ }
+{
+    let cell = scans[place] as usize;
+    if cell < d.cells {
+        copy_on(d, work, pieces, path, n, cell)
+    } else {
+        Copied {
+            piece: 255,
+            copy: 255,
+        }
+    }
+}
+
+// The answer of a packing whose rows are the first n of an ascending path: two bytes for each place of the board's box, from a place of the slice on.
+pub fn reconstruct_answer(
+    d: Dims,
+    work: &[u64],
+    scans: &[u8],
+    pieces: &[u8],
+    path: &[u16],
+    n: usize,
+    answers: &mut [u8],
+    at: usize,
+)
+    requires { ⌜ Held d (now work) (now pieces) (now path) n × (d .places ≤ length (now scans)) × (at + 2 * d .places ≤ length (now answers)) ⌝ }
+    ensures { λ _. ⌜ now (answers .exit) ≡ paste (now (answers .entry)) at (answersOver (takenBy (ownedIn (now (pieces .entry)) (d .pieces)) (d .kinds) (pathIn (now (work .entry)) (now (path .entry)) n)) (take (d .places) (now (scans .entry)))) (2 * d .places) ⌝ }
+{
+    let v = d.places;
+    let mut i = 0;
+    while i < v {
+        let c = copy_at(d, work, scans, pieces, path, n, i);
+        answers[at + 2 * i] = c.piece;
+        answers[at + 2 * i + 1] = c.copy;
+        i += 1;
+    }
+}

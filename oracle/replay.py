@@ -1,0 +1,345 @@
+#!/usr/bin/env python3
+"""The stored calls of the program crate `replay`, and what the model makes of them.
+
+    replay.py calls > ../crates/replay/stdin     the calls, as numbers
+    replay.py < ../crates/replay/stdin           what the program is to print
+
+A call is: how many pieces, the engine (0 to 3), turned, mirrored, words of the work
+slice, numbers of the links slice; for the board, then for each of the first 16
+pieces, three sides, a count and the place where its cells begin; the lent bytes,
+a digit each.
+"""
+
+import sys
+from itertools import product
+from pathlib import Path
+
+import model
+
+FAST, KNUTH = 2, 3
+
+
+# ------------------------------------------------------------- the model
+
+def transforms():
+    """The 48 maps in the original's order: 24 turns, then 24 mirrorings."""
+    permutations = [((0, 1, 2), 0), ((0, 2, 1), 1), ((1, 0, 2), 1),
+                    ((1, 2, 0), 0), ((2, 0, 1), 0), ((2, 1, 0), 1)]
+    by_parity = ([], [])
+    for axes, odd in permutations:
+        for flips in product((0, 1), repeat=3):
+            by_parity[(odd + sum(flips)) % 2].append((axes, flips))
+    return by_parity
+
+
+def mapped(sides, cell, transform):
+    axes, flips = transform
+    return tuple(
+        sides[axis] - 1 - cell[axis] if flip else cell[axis]
+        for axis, flip in zip(axes, flips)
+    )
+
+
+def symmetries(board, maps):
+    sides, _ = board
+    filled = set(model.filled_cells(board))
+    return [
+        transform for transform in maps
+        if tuple(sides[axis] for axis in transform[0]) == sides
+        and {mapped(sides, cell, transform) for cell in filled} == filled
+    ]
+
+
+def refusal(call):
+    n, engine, turned, mirrored, work, links, records, data = call
+    board, pieces = records[0], records[1:]
+    if n == 0:
+        return 1
+    if n > 16:
+        return 2
+    if any(not 1 <= side <= 8 for record in records for side in record[:3]):
+        return 3
+    if any(start + a * b * c > len(data) for a, b, c, _, start in records):
+        return 4
+    grids = [grid_of(record, data) for record in records]
+    if any(cell > 1 for _, cells in grids for cell in cells):
+        return 5
+    if any(sum(cells) == 0 for _, cells in grids[1:]):
+        return 6
+    if any(model.has_empty_outer_layer(grid) for grid in grids[1:]):
+        return 7
+    if sum(count for _, _, _, count, _ in pieces) > 128:
+        return 8
+    if sum(grids[0][1]) > 128:
+        return 9
+    if mirrored and not turned:
+        return 10
+    if engine < FAST:
+        return 11
+    if work < 8192:
+        return 12
+    if engine == KNUTH and links < 32768:
+        return 13
+    problem = problem_of(records, data)
+    if len(problem.placements) > 1024:
+        return 14
+    if engine == KNUTH and problem.links() > 4096:
+        return 15
+    return 0
+
+
+def grid_of(record, data):
+    a, b, c, _, start = record
+    return (a, b, c), tuple(data[start:start + a * b * c])
+
+
+def problem_of(records, data):
+    return model.Problem(
+        grid_of(records[0], data),
+        [(record[3], grid_of(record, data)) for record in records[1:]],
+    )
+
+
+def show(call):
+    number = refusal(call)
+    if number:
+        return [f"refused {number}"]
+    records, data = call[6], call[7]
+    problem = problem_of(records, data)
+    size, kinds = len(problem.scanned), len(problem.kinds)
+    sides = problem.board[0]
+    turns, mirrorings = (symmetries(problem.board, maps) for maps in transforms())
+    smallest = [model.variants(grid)[0] for _, grid in problem.pieces]
+    lines = [
+        f"cells {size} kinds {kinds} rows {len(problem.placements)} "
+        f"turns {len(turns)} mirrorings {len(mirrorings)}",
+        words("kinds", [
+            n for kind in range(kinds)
+            for n in (len(problem.copies[kind]),
+                      kinds if problem.partners[kind] is None else problem.partners[kind])
+        ]),
+        words("pieces", [
+            n for shape, (count, _) in zip(smallest, problem.pieces)
+            for n in (problem.kinds.index(shape), count)
+        ]),
+    ]
+    if size <= 30:
+        lines.append(words("scan", [
+            problem.scan_number.get(cell, size) for cell in model.cells_of(sides)
+        ]))
+        lines += [
+            words("map", [
+                problem.scan_number[mapped(sides, cell, transform)] for cell in problem.scanned
+            ])
+            for transform in turns + mirrorings
+        ]
+    rows = list(enumerate(problem.placements))
+    for number, row in rows[:12] + (rows[-1:] if len(rows) > 12 else []):
+        cells = [cell for cell in range(128) if row.covers >> cell & 1]
+        lines.append(words("row", [number, row.kind, *row.place, *cells]))
+    return lines
+
+
+def words(name, numbers):
+    return " ".join([name, *map(str, numbers)])
+
+
+# ------------------------------------------------------- the stored calls
+
+def tray(path, engine=None, turned=0, mirrored=0):
+    """A tray of trays/ as a call."""
+    _, _, board, pieces = model.parse((Path(__file__).parent / "trays" / path).read_bytes())
+    return lent([(1, board)] + pieces, engine or FAST, turned, mirrored)
+
+
+def lent(grids, engine=FAST, turned=0, mirrored=0, work=8192, links=32768):
+    """A call whose grids' cells stand one behind the other; the first is the board."""
+    records, data = [], []
+    for count, (sides, cells) in grids:
+        records.append((*sides, count, len(data)))
+        data += cells
+    return [len(records) - 1, engine, turned, mirrored, work, links, records, data]
+
+
+def full(*sides):
+    a, b, c = sides
+    return sides, (1,) * (a * b * c)
+
+
+def part(sides, filled):
+    """A box whose first cells are filled."""
+    a, b, c = sides
+    return sides, (1,) * filled + (0,) * (a * b * c - filled)
+
+
+M, D = full(1, 1, 1), full(1, 1, 2)
+HANDED = ((2, 2, 2), (1, 1, 1, 0, 0, 1, 0, 0))
+PARTNER = ((2, 2, 2), (1, 1, 1, 0, 0, 0, 1, 0))
+CORNER = ((1, 2, 2), (1, 1, 1, 0))
+HOLLOW = ((1, 1, 3), (1, 0, 1))
+
+
+def changed(call, **fields):
+    names = ("n", "engine", "turned", "mirrored", "work", "links", "records", "data")
+    call = list(call)
+    for name, value in fields.items():
+        call[names.index(name)] = value
+    return call
+
+
+def record(call, number, **fields):
+    names = ("a", "b", "c", "count", "start")
+    records = [list(entry) for entry in call[6]]
+    for name, value in fields.items():
+        records[number][names.index(name)] = value
+    return changed(call, records=records)
+
+
+def systems():
+    listing = lent([(1, full(1, 1, 3)), (1, M), (1, D)])
+    yield listing
+    yield lent([(1, part((1, 1, 4), 3)), (1, M), (1, D)], turned=1)
+    yield lent([(1, full(2, 2, 1)), (1, D), (1, M), (1, full(2, 1, 1))])
+    yield lent([(0, full(2, 2, 2)), (1, PARTNER), (2, HANDED), (0, M)], turned=1, mirrored=1)
+    yield lent([(1, full(2, 3, 2)), (3, CORNER), (1, HANDED), (1, full(3, 1, 1))])
+    yield lent([(1, ((3, 3, 3), (1,) * 13 + (0,) + (1,) * 13)), (2, HOLLOW), (1, CORNER)])
+    yield lent([(1, ((1, 1, 1), (0,))), (1, M)])
+    yield lent([(1, full(8, 8, 2)), (128, M)], engine=KNUTH)
+    yield lent([(1, part((2, 3, 4), 17)), (4, full(2, 2, 1)), (5, CORNER), (1, HANDED)])
+    yield tray("soma.tray")
+    yield tray("dominoes.tray", KNUTH)
+    yield tray("conway.tray", FAST, 1)
+
+
+def limits():
+    small = lent([(1, full(1, 1, 3)), (1, M), (1, D)])
+    knuth = changed(small, engine=KNUTH)
+    # each refusal, and each limit from both sides
+    yield lent([(1, full(1, 1, 1))])
+    yield lent([(1, full(1, 1, 4))] + [(1, M)] * 16)
+    yield lent([(1, full(1, 1, 4))] + [(1, M)] * 17)
+    for side in ("a", "b", "c"):
+        for number in (0, 1):
+            for length in (0, 9, 257, 18446744073709551615 // 10):
+                yield record(small, number, **{side: length})
+    yield lent([(1, full(1, 1, 8)), (1, full(8, 1, 1))])
+    yield lent([(1, full(1, 1, 8)), (1, ((9, 1, 1), (1,) * 9))])
+    for start in (3, 4, 5, 6, 4294967296, 999999999999999999):
+        yield record(small, 1, start=start)
+        yield record(small, 0, start=start)
+        yield record(small, 2, start=start)
+    for place in (0, 3, 5):
+        yield changed(small, data=[2 if i == place else 1 for i in range(6)])
+        yield changed(small, data=[0 if i == place else 1 for i in range(6)])
+    yield lent([(1, full(1, 1, 3)), (1, ((1, 1, 2), (1, 0)))])
+    yield lent([(1, full(1, 1, 3)), (1, ((3, 1, 1), (0, 1, 1)))])
+    yield lent([(1, full(1, 1, 3)), (1, ((1, 3, 1), (1, 1, 0)))])
+    for count in (127, 128, 4294967295):
+        yield record(record(small, 2, count=1), 1, count=count)
+    yield lent([(1, full(2, 8, 8)), (1, M)])
+    yield lent([(1, part((3, 8, 8), 128)), (1, M)])
+    yield lent([(1, part((3, 8, 8), 129)), (1, M)])
+    for turned in (0, 1):
+        for mirrored in (0, 1):
+            for engine in range(4):
+                yield changed(small, turned=turned, mirrored=mirrored, engine=engine)
+    for work in (0, 8191, 8192, 8193):
+        yield changed(small, work=work)
+    for links in (0, 32767, 32768, 32769):
+        yield changed(small, links=links)
+        yield changed(knuth, links=links)
+    # 1,024 placements and 1,025; 4,096 links and 4,097; kinds without copies count as placements and have no links
+    for call in at_limits():
+        yield call
+        yield changed(call, engine=KNUTH)
+
+
+def at_limits():
+    def placements(grids):
+        return len(problem_of(*lent(grids)[6:]).placements)
+
+    def links(grids):
+        return problem_of(*lent(grids)[6:]).links()
+
+    # 128 cells: 128 placements of M; full boxes of other sides add the rest
+    board = full(2, 8, 8)
+    boxes = [full(a, b, c) for a in range(1, 3) for b in range(a, 9) for c in range(b, 9)]
+    for aim, measure, copies in ((1024, placements, 1), (1025, placements, 1), (1024, placements, 0), (1025, placements, 0), (4096, links, 1), (4097, links, 1)):
+        found = search(board, boxes, aim, measure, copies)
+        assert found, (aim, copies)
+        yield lent(found)
+
+
+def search(board, boxes, aim, measure, copies):
+    """A tray with exactly so many placements or links: boxes tried one by one, over boards of one size or a smaller one."""
+    for filled in range(128, 90, -1):
+        bounded = part(board[0], filled)
+        worth = [measure([(1, bounded), (copies, box)]) for box in boxes]
+        base = measure([(1, bounded)])
+        sums = {base: []}
+        for number, value in enumerate(worth):
+            for total, chosen in list(sums.items()):
+                if len(chosen) < 15 and total + value - base <= aim:
+                    sums.setdefault(total + value - base, chosen + [number])
+        if aim in sums:
+            return [(1, bounded)] + [(copies, boxes[number]) for number in sums[aim]]
+    return None
+
+
+def pairs():
+    """Two refusals at once: the first in the table is returned."""
+    small = lent([(1, full(1, 1, 3)), (1, M), (1, D)], engine=KNUTH)
+    ways = {
+        3: lambda call: record(call, 1, b=9),
+        4: lambda call: record(call, 2, start=6),
+        5: lambda call: changed(call, data=[3] + call[7][1:]),
+        6: lambda call: changed(call, data=call[7][:3] + [0] + call[7][4:]),
+        7: lambda call: changed(call, data=call[7][:4] + [0] + call[7][5:]),
+        8: lambda call: record(call, 1, count=128),
+        10: lambda call: changed(call, turned=0, mirrored=1),
+        11: lambda call: changed(call, engine=1),
+        12: lambda call: changed(call, work=8191),
+        13: lambda call: changed(call, links=32767),
+    }
+    for first in ways:
+        for second in ways:
+            if first < second:
+                yield ways[second](ways[first](small))
+    large = lent([(1, part((3, 8, 8), 129)), (1, M)], engine=KNUTH)
+    for number in (8, 10, 11, 12, 13):
+        yield ways[number](large)
+
+
+def text(call):
+    n, *rest, records, data = call
+    lines = [" ".join(map(str, [n, *rest]))]
+    lines += [" ".join(map(str, entry)) for entry in records[:17]]
+    return "\n".join(lines + ["".join(map(str, data))])
+
+
+def read(source):
+    fields = source.split()
+    at = 0
+    while at < len(fields):
+        head = [int(field) for field in fields[at:at + 6]]
+        at += 6
+        records = []
+        for _ in range(min(head[0], 16) + 1):
+            records.append(tuple(int(field) for field in fields[at:at + 5]))
+            at += 5
+        yield [*head, records, [int(digit) for digit in fields[at]]]
+        at += 1
+
+
+def main():
+    if sys.argv[1:] == ["calls"]:
+        for part_of in (systems, limits, pairs):
+            for call in part_of():
+                print(text(call))
+        return
+    for call in read(sys.stdin.read()):
+        print("\n".join(show(call)))
+
+
+if __name__ == "__main__":
+    main()
