@@ -1,0 +1,6 @@
+pub mod SortingLaws
+pub mod NormalRowLaws
+pub mod NormalImageLaws
+pub mod NormalLaws
+pub mod EmitLaws
+pub mod NormalFormLaws

@@ -1,0 +1,22 @@
+-- A packing that a search has found, on the page.
+use Prim.Native.Nat.{ℕ}
+use mathlib.Core.Bool.{Bool, true, false, cond}
+use mathlib.Core.List.{List, map}
+use Rattle.definitions.specs.Emission.{Emitted, emit}
+use Rattle.definitions.specs.Kept.{Identify}
+use Rattle.rows.specs.Systems.{System}
+use Rattle.rows.specs.Answering.{answerBy}
+use Rattle.kept.specs.Normal.{rowOf, sortRows, normal}
+use Rattle.kept.specs.declared.emission.Emission as code
+
+-- the code's state with the answer buffer
+abbrev pub emittedOf : code.Emission → List ℕ → Emitted
+emittedOf e answers = record { skip = e .skip; written = e .written; further = e .further; answers = answers }
+
+-- the answer of a packing by its rows in any order
+unfoldable pub answerOf : System → List ℕ → List ℕ
+answerOf s rs = answerBy s (map (rowOf s) (sortRows rs))
+
+-- one packing more: left out where it is not kept
+unfoldable pub emitKept : System → Identify → ℕ → List ℕ → Emitted → Emitted
+emitKept s i capacity rs e = let next = emit capacity (answerOf s rs) e in cond (normal s i (sortRows rs)) next e

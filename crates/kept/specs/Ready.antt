@@ -1,0 +1,36 @@
+-- Slices in which a lawful row system stands: what the functions of the engines ask of what they are lent.
+use Prim.Native.Nat.{ℕ, _+_, _*_, _≤_, _<_}
+use mathlib.Core.Bool.{Bool}
+use mathlib.Core.List.{List}
+use mathlib.Core.Path.{_≡_}
+use lib.Dec.{T, ltb}
+use lib.ListN.{length, take, getD}
+use Rattle.definitions.specs.Lists.{all, Apart}
+use Rattle.rows.specs.Systems.{System, systemIn}
+use Rattle.rows.specs.Chains.{Chained}
+use Rattle.rows.specs.Lawful.{Lawful}
+use Rattle.kept.specs.Normal.{ofKind}
+use Rattle.rows.specs.declared.Dims.{Dims}
+
+pub record Ready (d : Dims) (work heads images scans kinds pieces : List ℕ) : Type 0 where
+  pub lawful : Lawful (systemIn d work images scans kinds pieces)
+  pub chained : Chained work heads (d .rows)
+  pub rowsFit : 8 * d .rows ≤ length work
+  pub headsFit : length heads ≡ 128
+  pub imagesFit : 128 * (d .turns + d .mirrorings) ≤ length images
+  pub scansFit : d .places ≤ length scans
+  pub kindsFit : 2 * d .kinds ≤ length kinds
+  pub piecesFit : 2 * d .pieces ≤ length pieces
+  pub fewPlaces : d .places ≤ 512
+  pub fewPieces : d .pieces ≤ 16
+
+-- the first n numbers of a path are rows
+pub record OfRows (d : Dims) (path : List ℕ) (n : ℕ) : Type 0 where
+  pub within : n ≤ length path
+  pub few : n ≤ 128
+  pub areRows : T (all (λ r. ltb r (d .rows)) (take n path))
+
+-- different rows, of no kind more than it has copies
+pub record Fillable (s : System) (rs : List ℕ) : Type 0 where
+  pub apart : Apart rs
+  pub enough : (k : ℕ) → k < length (s .copies) → length (ofKind s k rs) ≤ getD (s .copies) k 0
