@@ -4,3 +4,6 @@ pub mod NormalImageLaws
 pub mod NormalLaws
 pub mod EmitLaws
 pub mod NormalFormLaws
+pub mod LeafLaws
+pub mod EntryLaws
+pub mod ClearingLaws

@@ -1,3 +1,4 @@
 pub mod Normal
 pub mod Ready
 pub mod Emission
+pub mod Entries

@@ -3,3 +3,4 @@ pub mod RefusalLaws
 pub mod MergingLaws
 pub mod FittingLaws
 pub mod CountingLaws
+pub mod AcceptedLaws

@@ -131,7 +131,7 @@ used-more [] q k = omega arith
 used-more (r ∷ P) q k = let e = used-more P q k in omega arith
 
 -- of two rows, the one that stands ahead has no later kind
-ahead-kind : (q r : Placement) → T (ahead q r) → q .kind ≤ r .kind
+pub ahead-kind : (q r : Placement) → T (ahead q r) → q .kind ≤ r .kind
 unfolding ahead rank
 ahead-kind q r t =
     ⊎-elim
@@ -140,7 +140,7 @@ ahead-kind q r t =
     let e = eqb→eq (q .kind) (r .kind) (and-left (eqb (q .kind) (r .kind)) (less (q .p ∷ q .j ∷ []) (r .p ∷ r .j ∷ [])) s) in omega arith)
     (or-cases (ltb (q .kind) (r .kind)) (eqb (q .kind) (r .kind) && less (q .p ∷ q .j ∷ []) (r .p ∷ r .j ∷ [])) t)
 
-keep-none : {A : Type 0} (p : A → Bool) (xs : List A) → ((x : A) → List·Memᴰ x xs → p x ≡ false) → keep p xs ≡ []
+pub keep-none : {A : Type 0} (p : A → Bool) (xs : List A) → ((x : A) → List·Memᴰ x xs → p x ≡ false) → keep p xs ≡ []
 keep-none p [] h = refl
 keep-none p (x ∷ xs) h = rw (h x (List·Memᴰ·head refl)) (keep-none p xs (λ z m. h z (List·Memᴰ·tail m)))
 

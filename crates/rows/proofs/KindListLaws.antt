@@ -34,7 +34,7 @@ use Rattle.rows.specs.Systems.{Owned, KindsIn, owned, ownedIn}
 use Rattle.rows.proofs.PairLaws.{number-at, map-below, pairs, first-stored, second-stored, front-next}
 
 -- ---- a tray has at most 128 copies
-none-applies : (xs : List Row) → T (all (λ r. ltb 0 (r .number)) xs) → firstThatApplies xs ≡ 0 → (k : ℕ) → getD (map (λ r. r .applies) xs) k false ≡ false
+pub none-applies : (xs : List Row) → T (all (λ r. ltb 0 (r .number)) xs) → firstThatApplies xs ≡ 0 → (k : ℕ) → getD (map (λ r. r .applies) xs) k false ≡ false
 none-applies [] p e k = refl
 none-applies (r ∷ xs) p e k = go (r .applies) k e (λ (i : firstThatApplies xs ≡ 0) (j : ℕ). none-applies xs (and-right (ltb 0 (r .number)) (all (λ q. ltb 0 (q .number)) xs) p) i j)
   where
@@ -44,7 +44,7 @@ none-applies (r ∷ xs) p e k = go (r .applies) k e (λ (i : firstThatApplies xs
     go false zero i f = refl
     go false (suc j) i f = f i j
 
-few-copies : (t : Table) (board : Record) (bytes : List ℕ) → Accepted9 t board bytes → copyCount (trayIn (recordsOf t) board bytes) ≤ 128
+pub few-copies : (t : Table) (board : Record) (bytes : List ℕ) → Accepted9 t board bytes → copyCount (trayIn (recordsOf t) board bytes) ≤ 128
 unfolding Accepted9 lentRows gridRows
 few-copies t board bytes ok = ltb-false 128 (copyCount (trayIn (recordsOf t) board bytes)) (none-applies (lentRows (recordsOf t) board bytes) tt ok 7)
 
@@ -60,7 +60,7 @@ counted-few bytes g (r ∷ rs) = go (sameGrid (smallest (gridOf bytes r)) g) (co
     go true h = omega arith
     go false h = omega arith
 
-one-few : (bytes : List ℕ) (rs : List Record) (i : ℕ) → getD rs i noRecord .count ≤ counts bytes rs
+pub one-few : (bytes : List ℕ) (rs : List Record) (i : ℕ) → getD rs i noRecord .count ≤ counts bytes rs
 one-few bytes [] i = omega arith
 one-few bytes (r ∷ rs) zero = omega arith
 one-few bytes (r ∷ rs) (suc i) = let h = one-few bytes rs i in omega arith

@@ -1,0 +1,22 @@
+-- The answers that a search's list of packings comes to.
+use Prim.Native.Nat.{ℕ}
+use mathlib.Core.List.{List, [], _∷_, map}
+use Rattle.definitions.specs.Lists.{keep, before, put}
+use Rattle.definitions.specs.Placements.{Placement}
+use Rattle.definitions.specs.Packing.{ahead, samePlacement}
+use Rattle.definitions.specs.Kept.{Identify}
+use Rattle.rows.specs.Systems.{System}
+use Rattle.rows.specs.Answering.{answerBy}
+use Rattle.kept.specs.Normal.{normal}
+
+-- the numbers of a packing's rows, and the answers of those packings of a list that are kept
+unfoldable pub numbersOf : System → List Placement → List ℕ
+numbersOf s P = map (λ q. before (samePlacement q) (s .rows)) P
+
+unfoldable pub entries : System → Identify → List (List Placement) → List (List ℕ)
+entries s i L = map (answerBy s) (keep (λ P. normal s i (numbersOf s P)) L)
+
+-- placements put one after the other into an ascending list
+abbrev pub putAll : List Placement → List Placement → List Placement
+putAll P [] = P
+putAll P (q ∷ qs) = putAll (put ahead q P) qs

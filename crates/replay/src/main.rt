@@ -1,0 +1,412 @@
+// Reads calls from standard input, each as numbers, and prints the refusal of each, or its row system: sizes, kinds, pieces, what the allowed maps do to
+// cells on smaller boards, and rows. The stored output is the oracle's (oracle/replay.py).
+ghost use Prim.Native.Nat.{_+_, _*_, _≤_};
+ghost use lib.ListN.{length};
+ghost use Rattle.placements.specs.Counting.{Accepted9};
+ghost use Rattle.placements.specs.Tables.{recordsOf, trayIn};
+ghost use Rattle.definitions.specs.Placements.{compile};
+ghost use Rattle.definitions.specs.Refusals.{placementCount};
+use definitions::Config;
+use definitions::Record;
+use definitions::SolverKind;
+use libc::STDIN_FILENO;
+use libc::STDOUT_FILENO;
+use placements::Table;
+use placements::Verdict;
+use placements::counting;
+use rows::Dims;
+use rows::system;
+use rows::table;
+
+// A number that was read, and where the next begins.
+struct Token {
+    value: usize,
+    next: usize,
+}
+
+// The first place from i on that is no blank.
+fn skip(text: &[u8], i: usize) -> usize
+    ensures { λ r. ⌜ i ≤ r ⌝ }
+{
+    let mut j = i;
+    while j < text.len() {
+        if 32 < text[j] {
+            return j;
+        }
+        j += 1;
+    }
+    j
+}
+
+// The digit that a byte stands for, 255 where it stands for none.
+fn digit(c: u8) -> u8 {
+    if c < 48 {
+        return 255;
+    }
+    if 57 < c {
+        return 255;
+    }
+    c - 48
+}
+
+// The number that stands from i on, behind blanks; digits past the nineteenth are passed over.
+fn number(text: &[u8], i: usize) -> Token {
+    let mut j = skip(text, i);
+    let mut value: u64 = 0;
+    while j < text.len() {
+        let d = digit(text[j]);
+        if d == 255 {
+            return Token {
+                value: value as usize,
+                next: j,
+            };
+        }
+        if value < 1000000000000000000 {
+            value = value * 10 + d as u64;
+        }
+        j += 1;
+    }
+    Token {
+        value: value as usize,
+        next: j,
+    }
+}
+
+// A record that was read, and where what follows begins.
+struct Lent {
+    record: Record,
+    next: usize,
+}
+
+fn entry(text: &[u8], i: usize) -> Lent {
+    let a = number(text, i);
+    let b = number(text, a.next);
+    let c = number(text, b.next);
+    let count = number(text, c.next);
+    let start = number(text, count.next);
+    let n = count.value;
+    let copies = if n < 4294967296 { n as u32 } else { 4294967295 };
+    Lent {
+        record: Record {
+            a: a.value,
+            b: b.value,
+            c: c.value,
+            count: copies,
+            start: start.value,
+        },
+        next: start.next,
+    }
+}
+
+fn nothing() -> Record {
+    Record {
+        a: 0,
+        b: 0,
+        c: 0,
+        count: 0,
+        start: 0,
+    }
+}
+
+// Where what follows n records begins.
+fn behind(text: &[u8], i: usize, n: usize) -> usize {
+    let mut next = i;
+    let mut left = n;
+    while 0 < left {
+        let e = entry(text, next);
+        next = e.next;
+        left -= 1;
+    }
+    next
+}
+
+// Record k of those from i on, of which there are n.
+fn piece(text: &[u8], i: usize, n: usize, k: usize) -> Record {
+    if n <= k {
+        return nothing();
+    }
+    let e = entry(text, behind(text, i, k));
+    e.record
+}
+
+// The first 16 of n pieces.
+fn pieces(text: &[u8], i: usize, n: usize) -> Table {
+    Table {
+        rows: [
+            piece(text, i, n, 0),
+            piece(text, i, n, 1),
+            piece(text, i, n, 2),
+            piece(text, i, n, 3),
+            piece(text, i, n, 4),
+            piece(text, i, n, 5),
+            piece(text, i, n, 6),
+            piece(text, i, n, 7),
+            piece(text, i, n, 8),
+            piece(text, i, n, 9),
+            piece(text, i, n, 10),
+            piece(text, i, n, 11),
+            piece(text, i, n, 12),
+            piece(text, i, n, 13),
+            piece(text, i, n, 14),
+            piece(text, i, n, 15),
+        ],
+        n,
+    }
+}
+
+// The digits from i on, each a byte, up to a blank; and where what follows begins.
+fn digits(text: &[u8], i: usize, bytes: &mut [u8]) -> Token {
+    let start = skip(text, i);
+    if text.len() <= start {
+        return Token {
+            value: 0,
+            next: start,
+        };
+    }
+    let mut k = 0;
+    while k < bytes.len() {
+        let j = start + k;
+        if text.len() <= j {
+            return Token { value: k, next: j };
+        }
+        let d = digit(text[j]);
+        if d == 255 {
+            return Token { value: k, next: j };
+        }
+        bytes[k] = d;
+        k += 1;
+    }
+    Token {
+        value: k,
+        next: start + k,
+    }
+}
+
+fn engine(n: usize) -> SolverKind {
+    if n == 0 {
+        SolverKind::Auto
+    } else if n == 1 {
+        SolverKind::Naive
+    } else if n == 2 {
+        SolverKind::Fast
+    } else {
+        SolverKind::KnuthAlgorithm
+    }
+}
+
+fn word(text: &[u8]) {
+    io::write_all(STDOUT_FILENO, text);
+}
+
+fn print(n: usize) {
+    word(b" ");
+    io::print_decimal(STDOUT_FILENO, n as u64);
+}
+
+// The first n numbers of a slice from i on, as far as there are any.
+fn numbers(slice: &[u8], i: usize, n: usize) {
+    let mut k = i;
+    let mut left = n;
+    while 0 < left {
+        if slice.len() <= k {
+            return;
+        }
+        print(slice[k] as usize);
+        k += 1;
+        left -= 1;
+    }
+}
+
+// Twice a number of kinds, pieces or the like.
+fn twice(n: usize) -> usize {
+    if n < 512 { 2 * n } else { 0 }
+}
+
+// Where each of n turns and k mirrorings takes the cells.
+fn show_images(images: &[u8], size: usize, n: usize, k: usize) {
+    let mut m = 0;
+    while m < 48 {
+        if n <= m {
+            if k <= m - n {
+                return;
+            }
+        }
+        word(b"map");
+        numbers(images, 128 * m, size);
+        word(b"\n");
+        m += 1;
+    }
+}
+
+fn show_cells(work: &[u64], r: usize)
+    requires { ⌜ 8 * r + 8 ≤ length (now work) ⌝ }
+{
+    let mask = table::mask_at(work, r);
+    let mut c = 0;
+    while c < 128 {
+        if mask.has_cell(c) {
+            print(c);
+        }
+        c += 1;
+    }
+}
+
+// A row: its number, kind, p, j, cells.
+fn show_row(work: &[u64], r: usize)
+    requires { ⌜ 8192 ≤ length (now work) ⌝ }
+{
+    if 1024 <= r {
+        return;
+    }
+    word(b"row");
+    print(r);
+    print(table::kind_at(work, r));
+    print(table::first_at(work, r));
+    print(work[8 * r + 4] as usize);
+    show_cells(work, r);
+    word(b"\n");
+}
+
+// Rows from r on, up to the n-th, and no more than 12.
+fn show_rows(work: &[u64], r: usize, n: usize)
+    requires { ⌜ 8192 ≤ length (now work) ⌝ }
+{
+    let mut i = r;
+    let mut left: usize = 12;
+    while 0 < left {
+        if n <= i {
+            return;
+        }
+        show_row(work, i);
+        i += 1;
+        left -= 1;
+    }
+}
+
+// The sizes of a row system.
+fn show_sizes(d: Dims) {
+    word(b"cells");
+    print(d.cells);
+    word(b" kinds");
+    print(d.kinds);
+    word(b" rows");
+    print(d.rows);
+    word(b" turns");
+    print(d.turns);
+    word(b" mirrorings");
+    print(d.mirrorings);
+}
+
+// What stands in the slices of a row system of these sizes.
+fn show_parts(d: Dims, work: &[u64], images: &[u8], scans: &[u8], kinds: &[u8], pieces: &[u8])
+    requires { ⌜ 8192 ≤ length (now work) ⌝ }
+{
+    word(b"\nkinds");
+    numbers(kinds, 0, twice(d.kinds));
+    word(b"\npieces");
+    numbers(pieces, 0, twice(d.pieces));
+    word(b"\n");
+    if d.cells <= 30 {
+        word(b"scan");
+        numbers(scans, 0, d.places);
+        word(b"\n");
+        show_images(images, d.cells, d.turns, d.mirrorings);
+    }
+    show_rows(work, 0, d.rows);
+    if 12 < d.rows {
+        show_rows(work, d.rows - 1, d.rows);
+    }
+}
+
+fn show_system(t: Table, board: Record, bytes: &[u8])
+    requires { ⌜ Accepted9 t board (now bytes) × (placementCount (compile (trayIn (recordsOf t) board (now bytes))) ≤ 1024) ⌝ }
+{
+    let mut work = [0u64; 8192];
+    let mut heads = [0u16; 128];
+    let mut images = [0u8; 6144];
+    let mut scans = [0u8; 512];
+    let mut kinds = [0u8; 32];
+    let mut pieces = [0u8; 32];
+    let d = system::build_system(
+        t,
+        board,
+        bytes,
+        &mut work,
+        &mut heads,
+        &mut images,
+        &mut scans,
+        &mut kinds,
+        &mut pieces,
+    );
+    show_sizes(d);
+    show_parts(d, &work, &images, &scans, &kinds, &pieces);
+}
+
+fn show(t: Table, board: Record, bytes: &[u8], config: Config, work: usize, links: usize) {
+    let verdict = counting::refusal_of(t, board, bytes, config, work, links);
+    match verdict {
+        Verdict::Refused(why) => {
+            word(b"refused");
+            print(definitions::refusal_number(why) as usize);
+            word(b"\n");
+        }
+        Verdict::Accepted => {
+            show_system(t, board, bytes);
+        }
+    }
+}
+
+// The call that stands from i on; and where the next begins.
+fn call(text: &[u8], i: usize, bytes: &mut [u8]) -> usize {
+    let n = number(text, i);
+    let solver = number(text, n.next);
+    let turned = number(text, solver.next);
+    let mirrored = number(text, turned.next);
+    let work = number(text, mirrored.next);
+    let links = number(text, work.next);
+    let board = entry(text, links.next);
+    let m = n.value;
+    let table = pieces(text, board.next, m);
+    let cells = digits(
+        text,
+        behind(text, board.next, if m < 16 { m } else { 16 }),
+        bytes,
+    );
+    let config = Config {
+        identify_transformed_answers: turned.value == 1,
+        identify_mirrored_answers: mirrored.value == 1,
+        solver: engine(solver.value),
+    };
+    let k = cells.value;
+    if k <= bytes.len() {
+        show(
+            table,
+            board.record,
+            &bytes[..k],
+            config,
+            work.value,
+            links.value,
+        );
+    }
+    cells.next
+}
+
+fn calls(text: &[u8]) {
+    let mut bytes = [0u8; 2048];
+    let mut i = skip(text, 0);
+    while i < text.len() {
+        let next = call(text, i, &mut bytes);
+        if next <= i {
+            return;
+        }
+        i = skip(text, next);
+    }
+}
+
+fn main() {
+    let mut text = io::large_buffer();
+    let n = io::read_full(STDIN_FILENO, &mut text);
+    if n <= text.len() {
+        calls(&text[..n]);
+    }
+}
