@@ -5,6 +5,7 @@ ghost use Rattle.definitions.specs.Outcomes.{numberOf};
 // A piece as it is lent, or the board ("record" of document 01): three sides, a count, and the place where its cells begin
 // in the lent bytes. A board's count is not read. Sides have the width of an index, so that one of 257 is refused and not
 // taken for 1.
+#[repr(C)]
 pub struct Record {
     pub a: usize,
     pub b: usize,

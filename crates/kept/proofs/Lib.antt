@@ -7,3 +7,6 @@ pub mod NormalFormLaws
 pub mod LeafLaws
 pub mod EntryLaws
 pub mod ClearingLaws
+pub mod ReadyLaws
+pub mod PreparedLaws
+pub mod CallLaws

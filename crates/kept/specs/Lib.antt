@@ -2,3 +2,4 @@ pub mod Normal
 pub mod Ready
 pub mod Emission
 pub mod Entries
+pub mod Calls

@@ -10,6 +10,7 @@ pub mod records;
 pub mod refusals;
 
 // The records of the pieces by value, and how many there are.
+#[repr(C)]
 pub struct Table {
     pub rows: [Record; 16],
     pub n: usize,

@@ -7,7 +7,8 @@ ghost use Rattle.definitions.specs.Lists.{below};
 ghost use Rattle.definitions.specs.Kinds.{kindsOf};
 ghost use Rattle.definitions.specs.Placements.{compile};
 ghost use Rattle.definitions.specs.Packing.{limits};
-ghost use Rattle.definitions.specs.Refusals.{placementCount};
+ghost use Rattle.definitions.specs.Grid.{volume};
+ghost use Rattle.definitions.specs.Refusals.{placementCount, sidesOf};
 ghost use Rattle.placements.specs.Counting.{Accepted9};
 ghost use Rattle.placements.specs.Merging.{AreKinds};
 ghost use Rattle.placements.specs.Tables.{recordsOf, trayIn};
@@ -68,7 +69,7 @@ pub fn build_system(
 ) -> Dims
     requires { ⌜ Accepted9 t board (now bytes) × (placementCount (compile (trayIn (recordsOf t) board (now bytes))) ≤ 1024) × (8192 ≤ length (now work)) ⌝ }
     requires { ⌜ (length (now heads) ≡ 128) × (length (now images) ≡ 6144) × (length (now scans) ≡ 512) × (length (now kinds) ≡ 32) × (length (now pieces) ≡ 32) ⌝ }
-    ensures { λ d. ⌜ (systemIn d (now (work .exit)) (now (images .exit)) (now (scans .exit)) (now (kinds .exit)) (now (pieces .exit)) ≡ systemOf (trayIn (recordsOf t) board (now (bytes .entry)))) × Chained (now (work .exit)) (now (heads .exit)) (d .rows) × (drop 8192 (now (work .exit)) ≡ drop 8192 (now (work .entry))) ⌝ }
+    ensures { λ d. ⌜ (systemIn d (now (work .exit)) (now (images .exit)) (now (scans .exit)) (now (kinds .exit)) (now (pieces .exit)) ≡ systemOf (trayIn (recordsOf t) board (now (bytes .entry)))) × Chained (now (work .exit)) (now (heads .exit)) (d .rows) × (drop 8192 (now (work .exit)) ≡ drop 8192 (now (work .entry))) × (d .places ≡ volume (sidesOf board)) ⌝ }
 {
     let b = records::sides_of(board);
     let grid = records::cells_of(bytes, board);

@@ -69,6 +69,10 @@ board-is c =
     let s = c .before .sides-of in
     grid-is (now (z .args .bytes)) (z .args .board) (s .result) (now (c .cells-of .result)) (s .ensures) (c .cells-of .ensures .0)
 
+places-are : (c : tie.After-cells-of) (n : ℕ) → n ≡ volume (boardGrid c .sides) → n ≡ volume (sidesOf (c .before .before .before .before .before .before .before .before .before .args .board))
+unfolding gridOf
+places-are c n e = e ∙ ap (λ (g : Grid). volume (g .sides)) (board-is c)
+
 abbrev order : tie.After-plan-coords → List ℕ
 order c = asOrder (c .before .before .plan-axis-order .result)
 
@@ -289,6 +293,7 @@ returns c =
       chains .chain-rows .ensures .0,
       rows-behind (z .args .t) (z .args .board) (now (z .args .bytes)) (z .pre .0 .0) (z .pre .0 .1) (now (z .args .work)) (z .pre .0 .2) new (rows .build-rows .result) (rows .build-rows .ensures) last
           (chains .chain-rows .ensures .2),
+      places-are w (c .volume-of .result) (c .volume-of .ensures .0),
     )
 
 pub build-system-spec : {M : Type 1} → statement M

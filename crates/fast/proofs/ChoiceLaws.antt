@@ -1,0 +1,195 @@
+-- What Fast lists below a state is what it lists below its choices, one after the other: each choice covers a cell, so that fuel runs out at no state, and
+-- the choices are met row by row along the chain of the first uncovered cell. Assumes nothing.
+use Prim.Native.Nat.{ℕ, zero, suc, _+_, _≤_, _<_}
+use mathlib.Core.Bool.{Bool, true, false, cond, not, _&&_, _||_}
+use mathlib.Core.List.{List, [], _∷_, _++_, map, List·Memᴰ, List·Memᴰ·eq-of-singleton, Memᴰ·cast}
+use mathlib.Core.Path.{_≡_, refl, sym, ap, _∙_, subst}
+use native.Mathlib.Omega.{arith}
+use lib.Dec.{T, eqb, eqb→eq}
+use lib.ListN.{length, getD, take, drop, length-drop, drop-of-length-le}
+use lib.Seq.{drop-drop, getD-drop, drop-cons}
+use Rattle.definitions.specs.Lists.{consIf, keep, any, before, each, member, isEmpty}
+use Rattle.definitions.specs.Placements.{Placement}
+use Rattle.definitions.specs.Kept.{Identify}
+use Rattle.definitions.specs.Orders.{State, possible, choose, search, fastChoices}
+use Rattle.definitions.proofs.ListLaws.{and-left, any-at, is-true, is-false, eqb-of, keep-at, keep-shorter, member-of}
+use Rattle.definitions.proofs.OrderLaws.{each-same-in}
+use Rattle.definitions.proofs.DemandLaws.{take-in}
+use Rattle.rows.specs.Systems.{System}
+use Rattle.rows.specs.Answering.{answerBy}
+use Rattle.rows.specs.Chains.{nextAt}
+use Rattle.rows.specs.Lawful.{Lawful}
+use Rattle.kept.specs.Normal.{rowOf, noRow, normal}
+use Rattle.kept.specs.Entries.{numbersOf, entries}
+use Rattle.fast.specs.Searching.{fastBelow}
+
+-- ---- lists
+pub keep-append : {A : Type 0} (p : A → Bool) (xs ys : List A) → keep p (xs ++ ys) ≡ keep p xs ++ keep p ys
+keep-append p [] ys = refl
+keep-append {A} p (x ∷ xs) ys = go (p x) (keep-append p xs ys)
+  where
+    go : (b : Bool) → keep p (xs ++ ys) ≡ keep p xs ++ keep p ys → consIf b x (keep p (xs ++ ys)) ≡ consIf b x (keep p xs) ++ keep p ys
+    go true e = ap (λ (l : List A). x ∷ l) e
+    go false e = e
+
+pub map-append : {A B : Type 0} (f : A → B) (xs ys : List A) → map f (xs ++ ys) ≡ map f xs ++ map f ys
+map-append f [] ys = refl
+map-append {B = B} f (x ∷ xs) ys = ap (λ (l : List B). f x ∷ l) (map-append f xs ys)
+
+pub not-not : (b : Bool) → T b → T (not (not b))
+not-not true t = tt
+not-not false t = t
+
+some-length : (xs : List ℕ) → isEmpty xs ≡ false → 0 < length xs
+some-length [] e = absurd (subst T e tt)
+some-length (x ∷ xs) e = omega arith
+
+empty-same : {B : Type 0} (xs : List ℕ) (a b c : B) → length xs ≤ 0 → cond (isEmpty xs) a b ≡ cond (isEmpty xs) a c
+empty-same [] a b c h = refl
+empty-same (x ∷ xs) a b c h = absurd (omega arith)
+
+-- the entry at `before` passes
+before-at : {A : Type 0} (p : A → Bool) (d : A) (xs : List A) → before p xs < length xs → T (p (getD xs (before p xs) d))
+before-at p d [] h = absurd (omega arith)
+before-at {A} p d (x ∷ xs) h = go (p x) refl h (λ (k : before p xs < length xs). before-at p d xs k)
+  where
+    go : (b : Bool) → p x ≡ b → cond b 0 (suc (before p xs)) < suc (length xs) → (before p xs < length xs → T (p (getD xs (before p xs) d)))
+        → T (p (getD (x ∷ xs) (cond b 0 (suc (before p xs))) d))
+    go true e k f = subst T (sym e) tt
+    go false e k f = f (omega arith)
+
+-- ---- the entries of joined lists
+entries-append : (s : System) (i : Identify) (L M : List (List Placement)) → entries s i (L ++ M) ≡ entries s i L ++ entries s i M
+unfolding entries
+entries-append s i L M =
+    ap (λ (K : List (List Placement)). map (answerBy s) K) (keep-append (λ P. normal s i (numbersOf s P)) L M)
+    ∙ map-append (answerBy s) (keep (λ P. normal s i (numbersOf s P)) L) (keep (λ P. normal s i (numbersOf s P)) M)
+
+pub entries-each : {A : Type 0} (s : System) (i : Identify) (f : A → List (List Placement)) (xs : List A) → entries s i (each xs f) ≡ each xs (λ x. entries s i (f x))
+unfolding entries
+entries-each s i f [] = refl
+entries-each s i f (x ∷ xs) = entries-append s i (f x) (each xs f) ∙ ap (λ (l : List (List ℕ)). entries s i (f x) ++ l) (entries-each s i f xs)
+
+-- ---- fuel
+module _ (rows : List Placement) (covers-p : (q : Placement) → List·Memᴰ q rows → List·Memᴰ (q .p) (q .cells)) where
+  choice-less : (t : State) (q : Placement) → List·Memᴰ q (fastChoices rows t) → length (choose t q .free) < length (t .free)
+  unfolding choose fastChoices
+  choice-less t q m =
+      let r = keep-at (λ (z : Placement). any (eqb (z .p)) (take 1 (t .free)) && possible t z) rows m in
+      let x = any-at (eqb (q .p)) (take 1 (t .free)) (and-left (any (eqb (q .p)) (take 1 (t .free))) (possible t q) (r .1)) in
+      keep-shorter (λ n. not (member n (q .cells))) (t .free) (Memᴰ·cast (eqb→eq (q .p) (x .0) (x .2)) (take-in 1 (t .free) (x .1)))
+      (not-not (member (q .p) (q .cells)) (member-of (q .cells) (covers-p q (r .0))))
+
+  fuel-same : (f g : ℕ) (t : State) → length (t .free) ≤ f → length (t .free) ≤ g → search (fastChoices rows) f t ≡ search (fastChoices rows) g t
+  unfolding search
+  fuel-same zero zero t h k = refl
+  fuel-same zero (suc g) t h k = empty-same (t .free) (t .chosen ∷ []) [] (each (fastChoices rows t) (λ q. search (fastChoices rows) g (choose t q))) h
+  fuel-same (suc f) zero t h k = empty-same (t .free) (t .chosen ∷ []) (each (fastChoices rows t) (λ q. search (fastChoices rows) f (choose t q))) [] k
+  fuel-same (suc f) (suc g) t h k =
+      ap (λ (l : List (List Placement)). cond (isEmpty (t .free)) (t .chosen ∷ []) l)
+      (each-same-in (λ q. search (fastChoices rows) f (choose t q)) (λ q. search (fastChoices rows) g (choose t q)) (fastChoices rows t)
+      (λ q m. let l = choice-less t q m in fuel-same f g (choose t q) (omega arith) (omega arith)))
+
+  below-step : (n : ℕ) (t : State) → length (t .free) ≤ n → isEmpty (t .free) ≡ false
+      → search (fastChoices rows) n t ≡ each (fastChoices rows t) (λ q. search (fastChoices rows) n (choose t q))
+  unfolding search
+  below-step zero t h e = let k = some-length (t .free) e in absurd (omega arith)
+  below-step (suc n) t h e =
+      ap (λ (b : Bool). cond b (t .chosen ∷ []) (each (fastChoices rows t) (λ q. search (fastChoices rows) n (choose t q)))) e
+      ∙ each-same-in (λ q. search (fastChoices rows) n (choose t q)) (λ q. search (fastChoices rows) (suc n) (choose t q)) (fastChoices rows t)
+      (λ q m. let l = choice-less t q m in fuel-same n (suc n) (choose t q) (omega arith) (omega arith))
+
+below-leaf : (rows : List Placement) (n : ℕ) (t : State) → isEmpty (t .free) ≡ true → search (fastChoices rows) n t ≡ t .chosen ∷ []
+unfolding search
+below-leaf rows zero t e = ap (λ (b : Bool). cond b (t .chosen ∷ []) []) e
+below-leaf rows (suc n) t e = ap (λ (b : Bool). cond b (t .chosen ∷ []) (each (fastChoices rows t) (λ q. search (fastChoices rows) n (choose t q)))) e
+
+-- ---- chains
+chain-skip : (test : Placement → Bool) (c : ℕ) → ((q : Placement) → T (test q) → q .p ≡ c) → (qs : List Placement)
+    → keep test qs ≡ keep test (drop (before (λ q. eqb (q .p) c) qs) qs)
+chain-skip test c only [] = refl
+chain-skip test c only (q ∷ qs) = go (eqb (q .p) c) refl (chain-skip test c only qs)
+  where
+    at : Placement → Bool
+    at z = eqb (z .p) c
+
+    go : (b : Bool) → eqb (q .p) c ≡ b → keep test qs ≡ keep test (drop (before at qs) qs) → keep test (q ∷ qs) ≡ keep test (drop (cond b 0 (suc (before at qs))) (q ∷ qs))
+    go true e r = refl
+    go false e r = ap (λ (b : Bool). consIf b q (keep test qs)) (is-false (test q) (λ t. subst T e (eqb-of (only q t)))) ∙ r
+
+chain-from : (test : Placement → Bool) (c : ℕ) → ((q : Placement) → T (test q) → q .p ≡ c) → (qs : List Placement) (r : ℕ)
+    → keep test (drop r qs) ≡ keep test (drop (nextAt qs c r) qs)
+unfolding nextAt
+chain-from test c only qs r =
+    chain-skip test c only (drop r qs) ∙ ap (λ (l : List Placement). keep test l) (drop-drop (before (λ q. eqb (q .p) c) (drop r qs)) r qs)
+
+-- a row that a chain names has the chain's p, and comes no earlier than where it was looked for
+pub chain-at : (qs : List Placement) (c r : ℕ) (d : Placement) → nextAt qs c r < length qs → getD qs (nextAt qs c r) d .p ≡ c
+unfolding nextAt
+chain-at qs c r d h =
+    let l = length-drop r qs in
+    eqb→eq (getD qs (r + before (λ q. eqb (q .p) c) (drop r qs)) d .p) c
+    (subst (λ (q : Placement). T (eqb (q .p) c)) (getD-drop r qs (before (λ q. eqb (q .p) c) (drop r qs)) d)
+    (before-at (λ (q : Placement). eqb (q .p) c) d (drop r qs) (omega arith)))
+
+pub chain-after : (qs : List Placement) (c r : ℕ) → r ≤ nextAt qs c r
+unfolding nextAt
+chain-after qs c r = omega arith
+
+-- ---- what Fast lists below the choices from row r on
+abbrev chosenAt : State → Placement → Bool
+chosenAt t q = any (eqb (q .p)) (take 1 (t .free)) && possible t q
+
+unfoldable pub choicesFrom : System → Identify → State → ℕ → List (List ℕ)
+choicesFrom s i t r = each (keep (chosenAt t) (drop r (s .rows))) (λ q. fastBelow s i (choose t q))
+
+pub leaf-lists : (s : System) (i : Identify) (t : State) → isEmpty (t .free) ≡ true → fastBelow s i t ≡ entries s i (t .chosen ∷ [])
+unfolding fastBelow
+leaf-lists s i t e = ap (λ (L : List (List Placement)). entries s i L) (below-leaf (s .rows) (s .size) t e)
+
+pub all-choices : (s : System) → Lawful s → (i : Identify) (t : State) → isEmpty (t .free) ≡ false → length (t .free) ≤ s .size → choicesFrom s i t 0 ≡ fastBelow s i t
+unfolding choicesFrom fastBelow fastChoices
+all-choices s law i t e h =
+    sym (ap (λ (L : List (List Placement)). entries s i L) (below-step (s .rows) (λ q m. law .row q m .coversP) (s .size) t h e)
+    ∙ entries-each s i (λ q. search (fastChoices (s .rows)) (s .size) (choose t q)) (fastChoices (s .rows) t))
+
+module _ (s : System) (i : Identify) (t : State) where
+  pub choices-end : (r : ℕ) → length (s .rows) ≤ r → choicesFrom s i t r ≡ []
+  unfolding choicesFrom
+  choices-end r h = ap (λ (l : List Placement). each (keep (chosenAt t) l) (λ q. fastBelow s i (choose t q))) (drop-of-length-le (s .rows) h)
+
+  module _ (c : ℕ) (first : take 1 (t .free) ≡ c ∷ []) where
+    only : (q : Placement) → T (chosenAt t q) → q .p ≡ c
+    only q u =
+        let x = any-at (eqb (q .p)) (c ∷ []) (subst (λ (l : List ℕ). T (any (eqb (q .p)) l)) first (and-left (any (eqb (q .p)) (take 1 (t .free))) (possible t q) u)) in
+        eqb→eq (q .p) (x .0) (x .2) ∙ List·Memᴰ·eq-of-singleton (x .1)
+
+    pub choices-skip : (r : ℕ) → choicesFrom s i t r ≡ choicesFrom s i t (nextAt (s .rows) c r)
+    unfolding choicesFrom
+    choices-skip r = ap (λ (l : List Placement). each l (λ q. fastBelow s i (choose t q))) (chain-from (chosenAt t) c only (s .rows) r)
+
+    module _ (r : ℕ) (row : r < length (s .rows)) (at : rowOf s r .p ≡ c) where
+      passes : chosenAt t (rowOf s r) ≡ possible t (rowOf s r)
+      passes =
+          ap (λ (l : List ℕ). any (eqb (rowOf s r .p)) l && possible t (rowOf s r)) first
+          ∙ ap (λ (b : Bool). (b || false) && possible t (rowOf s r)) (is-true (eqb (rowOf s r .p) c) (eqb-of at))
+
+      one-more : choicesFrom s i t r ≡ each (consIf (possible t (rowOf s r)) (rowOf s r) (keep (chosenAt t) (drop (suc r) (s .rows)))) (λ q. fastBelow s i (choose t q))
+      unfolding choicesFrom rowOf
+      one-more =
+          ap (λ (l : List Placement). each (keep (chosenAt t) l) (λ q. fastBelow s i (choose t q))) (drop-cons (s .rows) r noRow row)
+          ∙ ap (λ (b : Bool). each (consIf b (rowOf s r) (keep (chosenAt t) (drop (suc r) (s .rows)))) (λ q. fastBelow s i (choose t q))) passes
+
+      pub choices-take : possible t (rowOf s r) ≡ true → choicesFrom s i t r ≡ fastBelow s i (choose t (rowOf s r)) ++ choicesFrom s i t (nextAt (s .rows) c (suc r))
+      unfolding choicesFrom
+      choices-take e =
+          one-more
+          ∙ ap (λ (b : Bool). each (consIf b (rowOf s r) (keep (chosenAt t) (drop (suc r) (s .rows)))) (λ q. fastBelow s i (choose t q))) e
+          ∙ ap (λ (l : List (List ℕ)). fastBelow s i (choose t (rowOf s r)) ++ l) (choices-skip (suc r))
+
+      pub choices-pass : possible t (rowOf s r) ≡ false → choicesFrom s i t r ≡ choicesFrom s i t (nextAt (s .rows) c (suc r))
+      unfolding choicesFrom
+      choices-pass e =
+          one-more
+          ∙ ap (λ (b : Bool). each (consIf b (rowOf s r) (keep (chosenAt t) (drop (suc r) (s .rows)))) (λ q. fastBelow s i (choose t q))) e
+          ∙ choices-skip (suc r)

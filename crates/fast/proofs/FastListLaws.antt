@@ -1,0 +1,350 @@
+-- The list that Fast walks through is document 01's: rows in the table's order are the placements in order, so a row's number tells which is ahead. Assumes nothing.
+use Prim.Native.Nat.{ℕ, suc, _+_, _*_, _<_}
+use mathlib.Core.Bool.{Bool, true, false, cond, not, _&&_, _||_}
+use mathlib.Core.List.{List, [], _∷_, map, List·Memᴰ, List·Memᴰ·head, List·Memᴰ·tail, List·Memᴰ·not-nil, List·Memᴰ·cases-cons, Memᴰ·map}
+use mathlib.Core.Path.{_≡_, refl, sym, ap, ap₂, _∙_, subst}
+use mathlib.Core.Logic.{_⊎_, inl, inr}
+use native.Mathlib.Nat.{add-mul, zero-mul}
+use native.Mathlib.Omega.{arith}
+use lib.Dec.{T, ltb, eqb, eqb→eq, ltb→lt, lt→ltb}
+use lib.ListN.{length, getD, take, length-map}
+use Rattle.definitions.specs.Lists.{consIf, all, any, keep, each, below, from, before, numberedFrom, same, less, sort, ascending, sum}
+use Rattle.definitions.specs.Grid.{Grid, sameGrid, gridAhead}
+use Rattle.definitions.specs.Maps.{Map, mapCell, identity, turns, mirrorings}
+use Rattle.definitions.specs.Kinds.{Tray, Piece, Sorted, Kind, smallest, sorted, shapes, copiesOf, partnerOf, kindsOf}
+use Rattle.definitions.specs.Placements.{Placement, Compiled, compile}
+use Rattle.definitions.specs.Packing.{rank, ahead, limits, Packing}
+use Rattle.definitions.specs.Kept.{Identify, cellAfter, moved, image, symmetries, kept}
+use Rattle.definitions.specs.Kept.Identify.{None, Turned, Mirrored}
+use Rattle.definitions.specs.Orders.{State, start, choose, search, fastChoices, identifiesTurned, sizes, allCells, kind0First, fastList, packings, listed}
+use Rattle.definitions.specs.Pruning.{movedAhead, alwaysMirrorable, isPruned, fastPruned}
+use Rattle.definitions.specs.Answers.{answer}
+use Rattle.definitions.specs.Refusals.{Call, trayOf, refusal}
+use Rattle.definitions.specs.declared.SolverKind.the-variants.{Fast}
+use Rattle.definitions.proofs.ListLaws.{not-again, sort-ascending, and-left, and-right, and-both, any-at, any-of, keep-at, keep-of, keep-same, each-at, below-at, is-true, is-false, eqb-of, holds, or-cases}
+use Rattle.definitions.proofs.PackingLaws.{ahead-trans, ahead-irrefl}
+use Rattle.definitions.proofs.GroupLaws.{map-same, identity-turn, identity-grid, sameGrid→eq, sameGrid-of}
+use Rattle.definitions.proofs.MapLaws.{map-map-of, turn-fits, filled-length}
+use Rattle.definitions.proofs.CellLaws.{grid-trans, grid-irrefl}
+use Rattle.definitions.proofs.CountLaws.{total, total-same, total-add, total-zero, sum-map}
+use Rattle.definitions.proofs.ShapeLaws.{bits, sum-filled, smallest-at, sort-of}
+use Rattle.definitions.proofs.PartnerLaws.{grids-tied}
+use Rattle.definitions.proofs.WellMadeLaws.{Nth, nth-getD, getD-nth}
+use Rattle.definitions.proofs.SearchLaws.{from-start-sound}
+use Rattle.definitions.proofs.EngineLaws.{fast-fair, fastSearch, firsts, has-first}
+use Rattle.definitions.proofs.PruningLaws.{fast-unchanged}
+use Rattle.definitions.proofs.GeometryLaws.{W, piece-whole}
+use Rattle.placements.proofs.FittingLaws.{both-ways}
+use Rattle.masks.specs.Masks.{has, nothing}
+use Rattle.masks.specs.declared.Mask.{Mask}
+use Rattle.rows.specs.Systems.{System, cellImages, systemOf, kindBy, cellsBy, movedBy, rowWith}
+use Rattle.kept.specs.Normal.{noRow, rowOf, imageOf}
+use Rattle.kept.specs.Entries.{entries}
+use Rattle.fast.specs.Searching.{uncovered, stateBy, fastBelow}
+use Rattle.fast.specs.Pruned.{movedBefore, alwaysMirrorableBy, prunedBy, firstRows, fastFirst, cellsOfAll}
+use Rattle.rows.proofs.PairLaws.{map-below}
+use Rattle.rows.proofs.AnswerLaws.{each-of-map}
+use Rattle.rows.proofs.SystemMapLaws.{takes-to, kind-is}
+use Rattle.rows.proofs.SystemLaws.{copies-more}
+use Rattle.kept.proofs.EntryLaws.{getD-mem, number-of, before-most, before-passes, number-ahead, ahead-number, entries-same}
+
+-- ---- lists
+keep-all : {A : Type 0} (xs : List A) → keep (λ x. true) xs ≡ xs
+keep-all [] = refl
+keep-all {A} (x ∷ xs) = ap (λ (l : List A). x ∷ l) (keep-all xs)
+
+map-keep : {A B : Type 0} (f : A → B) (p : B → Bool) (xs : List A) → map f (keep (λ x. p (f x)) xs) ≡ keep p (map f xs)
+map-keep f p [] = refl
+map-keep {B = B} f p (x ∷ xs) = go (p (f x)) (map-keep f p xs)
+  where
+    go : (b : Bool) → map f (keep (λ y. p (f y)) xs) ≡ keep p (map f xs) → map f (consIf b x (keep (λ y. p (f y)) xs)) ≡ consIf b (f x) (keep p (map f xs))
+    go true e = ap (λ (l : List B). f x ∷ l) e
+    go false e = e
+
+any-of-map : {A B : Type 0} (f : A → B) (p : B → Bool) (xs : List A) → any p (map f xs) ≡ any (λ x. p (f x)) xs
+any-of-map f p [] = refl
+any-of-map f p (x ∷ xs) = ap (λ (b : Bool). p (f x) || b) (any-of-map f p xs)
+
+any-same : {A : Type 0} (p q : A → Bool) (xs : List A) → ((x : A) → List·Memᴰ x xs → p x ≡ q x) → any p xs ≡ any q xs
+any-same p q [] h = refl
+any-same p q (x ∷ xs) h = ap₂ (λ (a b : Bool). a || b) (h x (List·Memᴰ·head refl)) (any-same p q xs (λ z m. h z (List·Memᴰ·tail m)))
+
+all-numbers : {A : Type 0} (p : ℕ → Bool) (q : A → Bool) (i : ℕ) (xs : List A) → ((n : ℕ) (x : A) → Nth xs n x → p (n + i) ≡ q x) → all p (from i (length xs)) ≡ all q xs
+all-numbers p q i [] h = refl
+all-numbers p q i (x ∷ xs) h =
+    ap₂ (λ (a b : Bool). a && b) (ap p {x = i} {y = 0 + i} (omega arith) ∙ h 0 x refl)
+    (all-numbers p q (suc i) xs (λ n z m. ap p {x = n + suc i} {y = suc n + i} (omega arith) ∙ h (suc n) z m))
+
+or-false : (b : Bool) → (b || false) ≡ b
+or-false true = refl
+or-false false = refl
+
+-- ---- what is ahead of a placement of kind 0 is of kind 0
+ahead-zero : (x q : Placement) → q .kind ≡ 0 → T (ahead x q) → x .kind ≡ 0
+unfolding ahead rank
+ahead-zero x q z t = go (or-cases (ltb (x .kind) (q .kind)) (eqb (x .kind) (q .kind) && less (x .p ∷ x .j ∷ []) (q .p ∷ q .j ∷ [])) t)
+  where
+    go : T (ltb (x .kind) (q .kind)) ⊎ T (eqb (x .kind) (q .kind) && less (x .p ∷ x .j ∷ []) (q .p ∷ q .j ∷ [])) → x .kind ≡ 0
+    go (inl u) = let h = ltb→lt (x .kind) (q .kind) u in absurd (omega arith)
+    go (inr u) = eqb→eq (x .kind) (q .kind) (and-left (eqb (x .kind) (q .kind)) (less (x .p ∷ x .j ∷ []) (q .p ∷ q .j ∷ [])) u) ∙ z
+
+-- so the first row that passes has a smaller number where one that passes is ahead
+module _ (xs : List Placement) (up : T (ascending ahead xs)) (r : ℕ) (h : r < length xs) (z : getD xs r noRow .kind ≡ 0) (test : Placement → Bool) where
+  first-smaller : ltb (before test xs) r ≡ any (λ x. eqb (x .kind) (getD xs r noRow .kind) && ahead x (getD xs r noRow)) (keep test xs)
+  first-smaller = both-ways (ltb (before test xs) r) (any is-ahead (keep test xs)) there back
+    where
+      q : Placement
+      q = getD xs r noRow
+
+      is-ahead : Placement → Bool
+      is-ahead x = eqb (x .kind) (q .kind) && ahead x q
+
+      there : T (ltb (before test xs) r) → T (any is-ahead (keep test xs))
+      there t =
+          let k = ltb→lt (before test xs) r t in
+          let n = before test xs in
+          let x = getD xs n noRow in
+          let a = number-ahead ahead ahead-trans ahead-irrefl xs noRow up n r k h in
+          any-of is-ahead (keep test xs) (keep-of test xs (getD-mem xs n noRow (omega arith)) (before-passes test xs noRow (omega arith)))
+          (and-both (eqb (x .kind) (q .kind)) (ahead x q) (eqb-of (ahead-zero x q z a ∙ sym z)) a)
+
+      back : T (any is-ahead (keep test xs)) → T (ltb (before test xs) r)
+      back t =
+          let x = any-at is-ahead (keep test xs) t in
+          let k = keep-at test xs (x .1) in
+          let n = number-of xs noRow (k .0) in
+          let a = and-right (eqb (x .0 .kind) (q .kind)) (ahead (x .0) q) (x .2) in
+          let b = before-most test xs (n .0) noRow (n .1) (subst (λ (y : Placement). T (test y)) (sym (n .2)) (k .1)) in
+          let c = ahead-number ahead ahead-trans ahead-irrefl xs noRow up (n .0) r (n .1) h (subst (λ (y : Placement). T (ahead y q)) (sym (n .2)) a) in
+          lt→ltb (before test xs) r (omega arith)
+
+-- ---- cells of all copies
+abbrev size : Grid → ℕ
+size g = sum (g .cells)
+
+-- of grids that ascend one is a given one of them
+one-shape : (s : Grid) (n : ℕ) (hs : List Grid) → T (ascending gridAhead hs) → List·Memᴰ s hs → total (λ g. cond (sameGrid s g) n 0 * size g) hs ≡ n * size s
+one-shape s n [] t m = absurd (List·Memᴰ·not-nil m)
+one-shape s n (g ∷ hs) t m = go (List·Memᴰ·cases-cons m) (λ (k : List·Memᴰ s hs). one-shape s n hs (and-right (all (gridAhead g) hs) (ascending gridAhead hs) t) k)
+  where
+    other : (h : Grid) → (s ≡ h → ⊥) → cond (sameGrid s h) n 0 * size h ≡ 0
+    other h d = ap {B = ℕ} (λ (b : Bool). cond b n 0 * size h) (is-false (sameGrid s h) (λ b. d (sameGrid→eq s h b))) ∙ zero-mul (size h)
+
+    go : (s ≡ g) ⊎ List·Memᴰ s hs → (List·Memᴰ s hs → total (λ h. cond (sameGrid s h) n 0 * size h) hs ≡ n * size s)
+        → cond (sameGrid s g) n 0 * size g + total (λ h. cond (sameGrid s h) n 0 * size h) hs ≡ n * size s
+    go (inl e) f =
+        let a : cond (sameGrid s g) n 0 * size g ≡ n * size g = ap {B = ℕ} (λ (b : Bool). cond b n 0 * size g) (is-true (sameGrid s g) (sameGrid-of e)) in
+        let b : n * size g ≡ n * size s = ap (λ (h : Grid). n * size h) (sym e) in
+        let c : total (λ h. cond (sameGrid s h) n 0 * size h) hs ≡ 0 =
+        total-same (λ h. cond (sameGrid s h) n 0 * size h) (λ h. 0) hs (λ h k. other h (λ i. not-again gridAhead grid-trans grid-irrefl g hs t k (sym i ∙ e))) ∙ total-zero hs in
+        omega arith
+    go (inr k) f =
+        let a = other g (λ e. not-again gridAhead grid-trans grid-irrefl g hs t k e) in
+        let b = f k in
+        omega arith
+
+by-shapes : (hs : List Grid) → T (ascending gridAhead hs) → (qs : List Sorted) → ((q : Sorted) → List·Memᴰ q qs → List·Memᴰ (q .shape) hs)
+    → total (λ g. length (copiesOf qs g) * size g) hs ≡ total (λ q. q .count * size (q .shape)) qs
+by-shapes hs t [] h = unfold copiesOf in total-same (λ g. 0 * size g) (λ g. 0) hs (λ g m. zero-mul (size g)) ∙ total-zero hs
+by-shapes hs t (q ∷ qs) h =
+    total-same (λ g. length (copiesOf (q ∷ qs) g) * size g) (λ g. cond (sameGrid (q .shape) g) (q .count) 0 * size g + length (copiesOf qs g) * size g) hs
+    (λ g m. ap (λ (n : ℕ). n * size g) (copies-more q qs g) ∙ add-mul (cond (sameGrid (q .shape) g) (q .count) 0) (length (copiesOf qs g)) (size g))
+    ∙ total-add (λ g. cond (sameGrid (q .shape) g) (q .count) 0 * size g) (λ g. length (copiesOf qs g) * size g) hs
+    ∙ ap₂ (λ (a b : ℕ). a + b) (one-shape (q .shape) (q .count) hs t (h q (List·Memᴰ·head refl))) (by-shapes hs t qs (λ z m. h z (List·Memᴰ·tail m)))
+
+by-pieces : (i : ℕ) (ps : List Piece) → ((q : Piece) → List·Memᴰ q ps → size (smallest (q .grid)) ≡ size (q .grid))
+    → total (λ (q : Sorted). q .count * size (q .shape)) (numberedFrom {B = Sorted} i ps (λ j q. record { piece = j; count = q .count; shape = smallest (q .grid) }))
+    ≡ sum (map (λ q. q .count * size (q .grid)) ps)
+by-pieces i [] h = refl
+by-pieces i (p ∷ ps) h = ap₂ (λ (a b : ℕ). p .count * a + b) (h p (List·Memᴰ·head refl)) (by-pieces (suc i) ps (λ z m. h z (List·Memᴰ·tail m)))
+
+-- by kinds and by shapes
+by-kinds : (t : Tray) → allCells (compile t) ≡ total (λ g. length (copiesOf (sorted t) g) * size g) (shapes (sorted t))
+unfolding allCells compile limits sizes kindsOf
+by-kinds t =
+    ap sum (map-below (λ k. getD (limits c) k 0 * getD (sizes c) k 0) (length ks) 0 (map cells ks) (length-map ks cells) each-kind)
+    ∙ ap sum (map-map-of cells made (shapes (sorted t))) ∙ sum-map (λ g. length (copiesOf (sorted t) g) * size g) (shapes (sorted t))
+  where
+    c : Compiled
+    c = compile t
+
+    ks : List Kind
+    ks = kindsOf t
+
+    made : Grid → Kind
+    made g = record { shape = g; partner = partnerOf (shapes (sorted t)) g; copies = copiesOf (sorted t) g }
+
+    cells : Kind → ℕ
+    cells d = length (d .copies) * size (d .shape)
+
+    each-kind : (k : ℕ) → k < length ks → getD (limits c) k 0 * getD (sizes c) k 0 ≡ getD (map cells ks) k 0
+    each-kind k h =
+        let r = getD-nth ks k h in
+        ap₂ (λ (a b : ℕ). a * b) (nth-getD (λ (d : Kind). length (d .copies)) 0 ks k (r .1)) (nth-getD (λ (d : Kind). size (d .shape)) 0 ks k (r .1))
+        ∙ sym (nth-getD cells 0 ks k (r .1))
+
+pub all-cells-same : (l : Call) → refusal l ≡ 0 → allCells (compile (trayOf l)) ≡ cellsOfAll (trayOf l)
+unfolding cellsOfAll shapes sorted
+all-cells-same l ok =
+    by-kinds (trayOf l)
+    ∙ by-shapes (shapes qs) (sort-ascending gridAhead grid-trans (map (λ q. q .shape) qs)) qs
+    (λ q m. sort-of gridAhead grids-tied (map (λ (x : Sorted). x .shape) qs) (Memᴰ·map (λ (x : Sorted). x .shape) m))
+    ∙ by-pieces 0 (trayOf l .pieces) turned
+  where
+    qs : List Sorted
+    qs = sorted (trayOf l)
+
+    turned : (q : Piece) → List·Memᴰ q (trayOf l .pieces) → size (smallest (q .grid)) ≡ size (q .grid)
+    turned q m =
+        let g = q .grid in
+        let r = smallest-at g in
+        ap size (sym (r .2)) ∙ sum-filled (r .0) g (bits l ok q m) ∙ filled-length (r .0) (turn-fits (r .0) (r .1)) g
+        ∙ sym (filled-length identity (turn-fits identity identity-turn) g) ∙ sym (sum-filled identity g (bits l ok q m)) ∙ ap size (identity-grid g (piece-whole l ok q m))
+
+module _ (l : Call) (ok : refusal l ≡ 0) where
+  abbrev C : Compiled
+  C = compile (trayOf l)
+
+  abbrev S : System
+  S = systemOf (trayOf l)
+
+  abbrev rows : List Placement
+  rows = compile (trayOf l) .placements
+
+  -- ---- the start
+  pub start-same : (left : List ℕ) → take (length (S .copies)) left ≡ S .copies → (covered : Mask) → has covered ≡ nothing → stateBy S left covered [] ≡ start C
+  unfolding stateBy uncovered start systemOf nothing
+  start-same left e covered h = (λ i. record { left = e i; free = free i; chosen = [] })
+    where
+      free : keep (λ n. not (has covered n)) (below (length (C .cells))) ≡ below (length (C .cells))
+      free = ap (λ (f : ℕ → Bool). keep (λ n. not (f n)) (below (length (C .cells)))) h ∙ keep-all (below (length (C .cells)))
+
+  -- ---- Fast's list
+  pub fast-plain : (i : Identify) → kind0First C i ≡ false → fastBelow S i (start C) ≡ map (answer C) (listed C i Fast)
+  unfolding fastBelow systemOf listed packings fastList
+  fast-plain i e =
+      entries-same l ok i plain (from-start-sound C (W l ok) (fastChoices rows) (fast-fair C (W l ok)))
+      ∙ ap (λ (b : Bool). map (answer C) (keep (kept C i) (cond b after plain))) (sym e)
+    where
+      go : State → List (List Placement)
+      go t = search (fastChoices rows) (length (C .cells)) t
+
+      plain : List (List Placement)
+      plain = go (start C)
+
+      after : List (List Placement)
+      after = each (keep (λ q. eqb (q .kind) 0) rows) (λ q. go (choose (start C) q))
+
+  -- ---- kind 0 first
+  abbrev row : ℕ → Placement
+  row r = getD (compile (trayOf l) .placements) r noRow
+
+  module _ (r : ℕ) (h : r < length (compile (trayOf l) .placements)) where
+    moved-is : (odd : Bool) (m : Map) → movedBy (S .partners) odd (cellImages C m) (row r) ≡ moved C odd (mapCell m (C .board .sides)) (row r)
+    unfolding movedBy moved cellsBy
+    moved-is odd m =
+        ap₂ (λ (k : ℕ) (ns : List ℕ). k ∷ ns) (kind-is l ok odd (row r .kind))
+        (ap (sort ltb) (map-same (λ n. getD (cellImages C m) n 0) (cellAfter C (mapCell m (C .board .sides))) (row r .cells)
+        (λ n a. takes-to l ok m n (W l ok .onBoard (row r) (getD-mem rows r noRow h) n a))))
+
+    module _ (z : row r .kind ≡ 0) where
+      moved-first : (odd : Bool) (m : Map) → ltb (imageOf S odd (cellImages C m) r) r ≡ any (λ x. eqb (x .kind) (row r .kind) && ahead x (row r)) (image C odd (mapCell m (C .board .sides)) (row r ∷ []))
+      unfolding imageOf rowOf rowWith image systemOf
+      moved-first odd m =
+          ap (λ (ns : List ℕ). ltb (before (λ x. same (x .kind ∷ x .cells) ns) rows) r) (moved-is odd m)
+          ∙ first-smaller rows (W l ok .inOrder) r h z (λ x. same (x .kind ∷ x .cells) to)
+          ∙ ap (any (λ (x : Placement). eqb (x .kind) (row r .kind) && ahead x (row r)))
+          (keep-same (λ (x : Placement). same (x .kind ∷ x .cells) to) (λ x. any (same (x .kind ∷ x .cells)) (to ∷ [])) rows (λ x k. sym (or-false (same (x .kind ∷ x .cells) to))))
+        where
+          to : List ℕ
+          to = moved C odd (mapCell m (C .board .sides)) (row r)
+
+      moved-same : (odd : Bool) (ms : List Map) → movedBefore S odd (map (cellImages C) (symmetries (C .board) ms)) r ≡ movedAhead C odd ms (row r)
+      unfolding movedBefore movedAhead
+      moved-same odd ms =
+          any-of-map (cellImages C) (λ to. ltb (imageOf S odd to r) r) (symmetries (C .board) ms)
+          ∙ any-same (λ m. ltb (imageOf S odd (cellImages C m) r) r) (λ m. any (λ x. eqb (x .kind) (row r .kind) && ahead x (row r)) (image C odd (mapCell m (C .board .sides)) (row r ∷ [])))
+          (symmetries (C .board) ms) (λ m k. moved-first odd m)
+
+  always-same : alwaysMirrorableBy S ≡ alwaysMirrorable C
+  unfolding alwaysMirrorableBy alwaysMirrorable systemOf kindBy
+  always-same = ap (λ (n : ℕ). all test (below n)) many ∙ all-numbers test each-kind 0 (C .kinds) at
+    where
+      ps : List ℕ
+      ps = map (λ d. d .partner) (C .kinds)
+
+      many : length (limits C) ≡ length (C .kinds)
+      many = unfold limits in length-map (C .kinds) (λ (d : Kind). length (d .copies))
+
+      test : ℕ → Bool
+      test k = ltb (getD ps k (length ps)) (length (limits C)) && eqb (getD (limits C) k 0) (getD (limits C) (getD ps k (length ps)) 0)
+
+      each-kind : Kind → Bool
+      each-kind d = ltb (d .partner) (length (C .kinds)) && eqb (length (d .copies)) (getD (limits C) (d .partner) 0)
+
+      copies-at : (n : ℕ) (d : Kind) → Nth (C .kinds) n d → getD (limits C) n 0 ≡ length (d .copies)
+      copies-at n d m = unfold limits in nth-getD (λ (d : Kind). length (d .copies)) 0 (C .kinds) n m
+
+      at : (n : ℕ) (d : Kind) → Nth (C .kinds) n d → test (n + 0) ≡ each-kind d
+      at n d m =
+          let e = nth-getD (λ (d : Kind). d .partner) (length ps) (C .kinds) n m in
+          let f = copies-at n d m in
+          ap test {x = n + 0} {y = n} (omega arith) ∙ (λ i. ltb (e i) (many i) && eqb (f i) (getD (limits C) (e i) 0))
+
+  pruned-same : (i : Identify) (r : ℕ) → r < length rows → row r .kind ≡ 0 → prunedBy S i r ≡ isPruned C i (row r)
+  unfolding prunedBy isPruned systemOf
+  pruned-same None r h z = refl
+  pruned-same Turned r h z = moved-same r h z false turns
+  pruned-same Mirrored r h z =
+      ap₂ (λ (a b : Bool). a || b) (moved-same r h z false turns)
+      (ap₂ (λ (a b : Bool). a && b) always-same (ap₂ (λ (k : ℕ) (b : Bool). eqb k 0 && b) (kind-is l ok true 0) (moved-same r h z true mirrorings)))
+
+  pub first-rows : (i : Identify) → map (rowOf S) (firstRows S i) ≡ keep (λ q. eqb (q .kind) 0 && not (isPruned C i q)) rows
+  unfolding firstRows rowOf systemOf
+  first-rows i =
+      ap (map row) (keep-same (λ r. eqb (row r .kind) 0 && not (prunedBy S i r)) (λ r. stays (row r)) (below (length rows)) (λ r m.
+      go (eqb (row r .kind) 0) (prunedBy S i r) (isPruned C i (row r)) (λ t. pruned-same i r (below-at (length rows) m) (eqb→eq (row r .kind) 0 t))))
+      ∙ map-keep row stays (below (length rows)) ∙ ap (keep stays) (map-below row (length rows) noRow rows refl (λ k h. refl))
+    where
+      stays : Placement → Bool
+      stays q = eqb (q .kind) 0 && not (isPruned C i q)
+
+      go : (b p q : Bool) → (T b → p ≡ q) → (b && not p) ≡ (b && not q)
+      go true p q f = ap not (f tt)
+      go false p q f = refl
+
+  pub fast-first : (i : Identify) → kind0First C i ≡ true → fastFirst S i (start C) ≡ map (answer C) (listed C i Fast)
+  unfolding fastFirst systemOf fastPruned fastSearch firsts kind0First
+  fast-first i e =
+      ap (entries S i) (sym (each-of-map (rowOf S) F (firstRows S i)) ∙ ap (λ (qs : List Placement). each qs F) (first-rows i))
+      ∙ entries-same l ok i after packed
+      ∙ ap (λ (b : Bool). map (answer C) (keep (kept C i) (cond b after plain))) (sym e)
+      ∙ ap (map (answer C)) (fast-unchanged l ok i)
+    where
+      F : Placement → List (List Placement)
+      F q = search (fastChoices rows) (length (C .cells)) (choose (start C) q)
+
+      plain : List (List Placement)
+      plain = search (fastChoices rows) (length (C .cells)) (start C)
+
+      stays : Placement → Bool
+      stays q = eqb (q .kind) 0 && not (isPruned C i q)
+
+      after : List (List Placement)
+      after = each (keep stays rows) F
+
+      both : T (eqb (getD (limits C) 0 0) 1 && eqb (allCells C) (length (C .cells)))
+      both = and-right (identifiesTurned i) (eqb (getD (limits C) 0 0) 1 && eqb (allCells C) (length (C .cells))) (holds (kind0First C i) e)
+
+      one : getD (limits C) 0 0 ≡ 1
+      one = eqb→eq (getD (limits C) 0 0) 1 (and-left (eqb (getD (limits C) 0 0) 1) (eqb (allCells C) (length (C .cells))) both)
+
+      enough : allCells C ≡ length (C .cells)
+      enough = eqb→eq (allCells C) (length (C .cells)) (and-right (eqb (getD (limits C) 0 0) 1) (eqb (allCells C) (length (C .cells))) both)
+
+      packed : (P : List Placement) → List·Memᴰ P after → Packing C P
+      packed P m =
+          let x = each-at F (keep stays rows) m in
+          let k = keep-at stays rows (x .1) in
+          let first = keep-of (λ (q : Placement). eqb (q .kind) 0) rows (k .0) (and-left (eqb (x .0 .kind) 0) (not (isPruned C i (x .0))) (k .1)) in
+          has-first C (W l ok) one enough (x .0) first P (x .2) .0

@@ -1,0 +1,7 @@
+pub mod ChoiceLaws
+pub mod SearchingLaws
+pub mod TurnLaws
+pub mod FastListLaws
+pub mod PageLaws
+pub mod PrunedLaws
+pub mod FastPageLaws

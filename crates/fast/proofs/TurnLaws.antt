@@ -1,0 +1,336 @@
+-- The laws of Fast's search over the slices of a row system: the leaf, the loop over the rows of a cell, a call, and what it puts back. Assumes nothing.
+use Prim.Native.Nat.{ℕ, zero, suc, _+_, _-_, _*_, _≤_, _<_}
+use mathlib.Core.Bool.{Bool, true, false, not, _&&_}
+use mathlib.Core.List.{List, [], _∷_, _++_, map}
+use mathlib.Core.Path.{_≡_, refl, sym, ap, ap₂, _∙_, subst}
+use native.Mathlib.Numerals.{add-one}
+use native.Mathlib.Omega.{arith}
+use borrow.Author.Tests.{not-true, not-false}
+use lib.Dec.{T, ltb, ltb→lt, lt→ltb}
+use lib.ListN.{length, getD, take, set, length-map, length-set}
+use lib.Seq.{length-take-le, take-suc-set, take-take, take-set-le, set-set, set-getD, getD-set-same}
+use Rattle.definitions.specs.Lists.{all, from, below, isEmpty}
+use Rattle.definitions.specs.Placements.{Placement}
+use Rattle.definitions.specs.Kept.{Identify}
+use Rattle.definitions.specs.Orders.{State, possible, choose}
+use Rattle.definitions.specs.Emission.{Emitted, emits}
+use Rattle.definitions.proofs.ListLaws.{and-left, and-right, and-both, holds, length-below}
+use Rattle.definitions.proofs.EmissionLaws.{emits-append}
+use Rattle.masks.specs.Masks.{has, either, apart, FirstOpen}
+use Rattle.masks.specs.declared.Mask.{Mask}
+use Rattle.rows.specs.Systems.{System, systemIn}
+use Rattle.rows.specs.Rows.{maskAt, rowAt, rowsIn, cellsOf}
+use Rattle.rows.specs.Chains.{nextAt}
+use Rattle.kept.specs.Normal.{rowOf, noRow}
+use Rattle.kept.specs.Ready.{Ready, OfRows, Fillable}
+use Rattle.kept.specs.Emission.{emitKept}
+use Rattle.fast.specs.Searching.{fastBelow, uncovered, stateBy, Searching, fits}
+use Rattle.rows.specs.declared.Dims.{Dims}
+use Rattle.fast.proofs.ChoiceLaws.{choicesFrom, leaf-lists, all-choices, choices-end, choices-skip, choices-take, choices-pass, chain-at, chain-after}
+use Rattle.kept.proofs.LeafLaws.{row-in, packing-emits}
+use Rattle.fast.proofs.SearchingLaws.{first-uncovered, none-uncovered, some-uncovered, fits-possible, child-state, child-less, child-searching, fillable}
+
+getD-from : {A : Type 0} (f : ℕ → A) (d : A) (i n k : ℕ) → k < n → getD (map f (from i n)) k d ≡ f (i + k)
+getD-from f d i zero k h = absurd (omega arith)
+getD-from f d i (suc n) zero h = ap f (omega arith)
+getD-from f d i (suc n) (suc k) h = getD-from f d (suc i) n k (omega arith) ∙ ap f (omega arith)
+
+-- ---- one copy fewer, and put back
+one-more : (left left₁ : List ℕ) (k : ℕ) → left₁ ≡ set left k (getD left k 0 - 1) → k < length left → 0 < getD left k 0 → getD left₁ k 0 + 1 ≡ getD left k 0
+one-more left left₁ k e h l = let a : getD left₁ k 0 ≡ getD left k 0 - 1 = ap (λ (x : List ℕ). getD x k 0) e ∙ getD-set-same left k (getD left k 0 - 1) 0 h in omega arith
+
+put-back : (left left₁ : List ℕ) (k : ℕ) → left₁ ≡ set left k (getD left k 0 - 1) → k < length left → 0 < getD left k 0 → set left₁ k (getD left₁ k 0 + 1) ≡ left
+put-back left left₁ k e h l =
+    ap (λ (n : ℕ). set left₁ k n) (one-more left left₁ k e h l) ∙ ap (λ (x : List ℕ). set x k (getD left k 0)) e ∙ set-set left k (getD left k 0 - 1) (getD left k 0) ∙ set-getD left k 0
+
+path-more : (path : List ℕ) (n r : ℕ) → n < length path → take (n + 1) (set path n r) ≡ take n path ++ (r ∷ [])
+path-more path n r h = ap (λ (m : ℕ). take m (set path n r)) (add-one n) ∙ take-suc-set path n r h
+
+pub path-back : (path path₁ : List ℕ) (n r : ℕ) → take (n + 1) path₁ ≡ take (n + 1) (set path n r) → take n path₁ ≡ take n path
+path-back path path₁ n r e =
+    sym (take-take n (n + 1) path₁ (omega arith)) ∙ ap (λ (l : List ℕ). take n l) e ∙ take-take n (n + 1) (set path n r) (omega arith) ∙ take-set-le n path n r (omega arith)
+
+chain-row : (s : System) (c r : ℕ) → nextAt (s .rows) c r < length (s .rows) → rowOf s (nextAt (s .rows) c r) .p ≡ c
+unfolding rowOf
+chain-row s c r h = chain-at (s .rows) c r noRow h
+
+module _ {d : Dims} {work heads images scans kinds pieces : List ℕ} (ready : Ready d work heads images scans kinds pieces) where
+  abbrev S : System
+  S = systemIn d work images scans kinds pieces
+
+  pub rows-many : length (S .rows) ≡ d .rows
+  unfolding systemIn rowsIn
+  rows-many = length-map (below (d .rows)) (rowAt work) ∙ length-below (d .rows)
+
+  pub size-is : S .size ≡ d .cells
+  unfolding systemIn
+  size-is = refl
+
+  pub row-is : (r : ℕ) → r < d .rows → rowOf S r ≡ rowAt work r
+  unfolding systemIn rowsIn rowOf
+  row-is r h = getD-from (rowAt work) noRow 0 (d .rows) r h ∙ ap (rowAt work) (omega arith)
+
+  head-is : (c : ℕ) → c < 128 → getD heads c 0 ≡ nextAt (S .rows) c 0
+  unfolding systemIn
+  head-is c h = ready .chained .firsts c h
+
+  next-is : (r : ℕ) → r < d .rows → getD work (8 * r + 5) 0 ≡ nextAt (S .rows) (rowAt work r .p) (suc r)
+  unfolding systemIn
+  next-is r h = ready .chained .nexts r h
+
+  row-cells : (r : ℕ) → r < d .rows → rowOf S r .cells ≡ cellsOf (maskAt work r)
+  unfolding rowAt
+  row-cells r h = ap (λ (q : Placement). q .cells) (row-is r h)
+
+  module _ {left path : List ℕ} {n : ℕ} {covered : Mask} (of-rows : OfRows d path n) (h : Searching S left covered (take n path)) where
+    abbrev t : State
+    t = stateBy S left covered (take n path)
+
+    all-rows : T (all (λ r. ltb r (length (S .rows))) (take n path))
+    all-rows = subst (λ (m : ℕ). T (all (λ r. ltb r m) (take n path))) (sym rows-many) (of-rows .areRows)
+
+    free-is : t .free ≡ uncovered (S .size) covered
+    unfolding stateBy
+    free-is = refl
+
+    -- ---- no cell is left
+    pub leaf-fillable : Fillable S (take n path)
+    leaf-fillable = fillable S left covered (take n path) h
+
+    pub leaf-emits : (i : Identify) (capacity c : ℕ) (e : Emitted) → FirstOpen (has covered) 0 c → d .cells ≤ c
+        → emitKept S i capacity (take n path) e ≡ emits capacity (fastBelow S i t) e
+    unfolding stateBy
+    leaf-emits i capacity c e o l =
+        let z = size-is in
+        packing-emits S (ready .lawful) (take n path) all-rows (h .apart) i capacity e
+        ∙ sym (ap (λ (L : List (List ℕ)). emits capacity L e) (leaf-lists S i t (ap (λ (l : List ℕ). isEmpty l) (none-uncovered (S .size) covered c o (omega arith)))))
+
+    -- ---- the loop's end
+    pub loop-ends : (i : Identify) (capacity r : ℕ) (e whole : Emitted) → d .rows ≤ r → emits capacity (choicesFrom S i t r) e ≡ whole → e ≡ whole
+    unfolding emits
+    loop-ends i capacity r e whole l g =
+        let m = rows-many in
+        sym (ap (λ (L : List (List ℕ)). emits capacity L e) (choices-end S i t r (omega arith))) ∙ g
+
+-- ---- cell c is the first that is left
+pub record Opened (d : Dims) (work heads images scans kinds pieces left path : List ℕ) (n : ℕ) (covered : Mask) (c : ℕ) : Type 0 where
+  pub ready : Ready d work heads images scans kinds pieces
+  pub ofRows : OfRows d path n
+  pub searching : Searching (systemIn d work images scans kinds pieces) left covered (take n path)
+  pub first : FirstOpen (has covered) 0 c
+  pub inside : c < d .cells
+
+module _ {d : Dims} {work heads images scans kinds pieces left path : List ℕ} {n : ℕ} {covered : Mask} {c : ℕ} (x : Opened d work heads images scans kinds pieces left path n covered c) where
+  abbrev the-system : System
+  the-system = systemIn d work images scans kinds pieces
+
+  abbrev the-state : State
+  the-state = stateBy the-system left covered (take n path)
+
+  few : d .cells ≤ 128
+  few = let z = size-is (x .ready) in let w = x .ready .lawful .fewCells in omega arith
+
+  pub cell-below : c < 128
+  cell-below = let f = few in let i = x .inside in omega arith
+
+  pub words-in : (r : ℕ) → r < d .rows → 8 * r + 8 ≤ length work
+  words-in r l = let f = x .ready .rowsFit in omega arith
+
+  pub row-small : (r : ℕ) → r < d .rows → r < 1024
+  row-small r l = let m = rows-many (x .ready) in let f = x .ready .lawful .fewRows in omega arith
+
+  first : take 1 (the-state .free) ≡ c ∷ []
+  first = let z = size-is (x .ready) in let f = few in ap (λ (l : List ℕ). take 1 l) (free-is (x .ready) (x .ofRows) (x .searching)) ∙ first-uncovered (the-system .size) covered c (x .first) (omega arith) (omega arith)
+
+  room-left : n < 128
+  room-left =
+      let a = some-uncovered (the-state .free) c first .1 in
+      let f = ap (λ (l : List ℕ). length l) (free-is (x .ready) (x .ofRows) (x .searching)) in
+      let b = x .searching .room in
+      let z = length-take-le n path (x .ofRows .within) in
+      let w = x .ready .lawful .fewCells in
+      omega arith
+
+  pub loop-starts : (i : Identify) (capacity r : ℕ) (e : Emitted) → r ≡ getD heads c 0 → emits capacity (choicesFrom the-system i the-state r) e ≡ emits capacity (fastBelow the-system i the-state) e
+  loop-starts i capacity r e g =
+      let f = few in
+      let b : length (the-state .free) ≤ the-system .size = let w = x .searching .room in let z = ap (λ (l : List ℕ). length l) (free-is (x .ready) (x .ofRows) (x .searching)) in omega arith in
+      ap (λ (L : List (List ℕ)). emits capacity L e)
+      (ap (choicesFrom the-system i the-state) (g ∙ head-is (x .ready) c (omega arith)) ∙ sym (choices-skip the-system i the-state c first 0)
+      ∙ all-choices the-system (x .ready .lawful) i the-state (some-uncovered (the-state .free) c first .0) b)
+
+  pub starts-at : (r : ℕ) → r ≡ getD heads c 0 → r < d .rows → rowAt work r .p ≡ c
+  starts-at r g l =
+      let f = few in
+      let m = rows-many (x .ready) in
+      let k : r ≡ nextAt (the-system .rows) c 0 = g ∙ head-is (x .ready) c (omega arith) in
+      ap (λ (q : Placement). q .p) (sym (row-is (x .ready) r l)) ∙ ap (λ (j : ℕ). rowOf the-system j .p) k ∙ chain-row the-system c 0 (omega arith)
+
+  -- ---- a row of the cell
+  module _ (r : ℕ) (row : r < d .rows) (at : rowAt work r .p ≡ c) where
+    row-in-rows : r < length (the-system .rows)
+    row-in-rows = let m = rows-many (x .ready) in omega arith
+
+    at-row : rowOf the-system r .p ≡ c
+    at-row = ap (λ (q : Placement). q .p) (row-is (x .ready) r row) ∙ at
+
+    kind-is : rowOf the-system r .kind ≡ rowAt work r .kind
+    kind-is = ap (λ (q : Placement). q .kind) (row-is (x .ready) r row)
+
+    next : getD work (8 * r + 5) 0 ≡ nextAt (the-system .rows) c (suc r)
+    next = next-is (x .ready) r row ∙ ap (λ (k : ℕ). nextAt (the-system .rows) k (suc r)) at
+
+    pub kind-in : rowAt work r .kind < length left
+    kind-in = let a = x .ready .lawful .row (rowOf the-system r) (row-in the-system r row-in-rows) .ofKind in let b = kind-is in let w = x .searching .enough in omega arith
+
+    pub next-after : r < getD work (8 * r + 5) 0
+    next-after = let a = chain-after (the-system .rows) c (suc r) in let b = next in omega arith
+
+    pub next-at : getD work (8 * r + 5) 0 < d .rows → rowAt work (getD work (8 * r + 5) 0) .p ≡ c
+    next-at l =
+        let m = rows-many (x .ready) in
+        let e = next in
+        ap (λ (q : Placement). q .p) (sym (row-is (x .ready) (getD work (8 * r + 5) 0) l))
+        ∙ ap (λ (j : ℕ). rowOf the-system j .p) next
+        ∙ chain-row the-system c (suc r) (omega arith)
+
+    test-is : fits left covered (maskAt work r) (rowAt work r .kind) ≡ possible the-state (rowOf the-system r)
+    test-is =
+        ap (fits left covered (maskAt work r)) (sym kind-is)
+        ∙ fits-possible the-system (x .ready .lawful) left covered (maskAt work r) (take n path) r row-in-rows (row-cells (x .ready) r row)
+
+    pub turn-misses : fits left covered (maskAt work r) (rowAt work r .kind) ≡ false → (i : Identify) (capacity : ℕ) (e whole : Emitted)
+        → emits capacity (choicesFrom the-system i the-state r) e ≡ whole → emits capacity (choicesFrom the-system i the-state (getD work (8 * r + 5) 0)) e ≡ whole
+    turn-misses f i capacity e whole g =
+        sym (ap (λ (L : List (List ℕ)). emits capacity L e) (choices-pass the-system i the-state c first r row-in-rows at-row (sym test-is ∙ f) ∙ ap (choicesFrom the-system i the-state) (sym next))) ∙ g
+
+    -- ---- it fits, and the search goes on below it
+    module _ (fit : fits left covered (maskAt work r) (rowAt work r .kind) ≡ true) where
+      fit-row : fits left covered (maskAt work r) (rowOf the-system r .kind) ≡ true
+      fit-row = ap (fits left covered (maskAt work r)) kind-is ∙ fit
+
+      is-open : has covered c ≡ false
+      is-open = let f = few in x .first .stops (omega arith)
+
+      in-size : c < the-system .size
+      in-size = let z = size-is (x .ready) in omega arith
+
+      module _ (more : Mask) (union : has more ≡ either (has covered) (has (maskAt work r))) where
+        call-less : length (uncovered (d .cells) more) < length (uncovered (d .cells) covered)
+        call-less =
+            subst (λ (m : ℕ). length (uncovered m more) < length (uncovered m covered)) (size-is (x .ready))
+            (child-less the-system (x .ready .lawful) left covered (maskAt work r) (take n path) r row-in-rows (row-cells (x .ready) r row) more union c at-row is-open in-size)
+
+        module _ (left′ path′ : List ℕ) (l : left′ ≡ set left (rowAt work r .kind) (getD left (rowAt work r .kind) 0 - 1)) (p : take (n + 1) path′ ≡ take n path ++ (r ∷ [])) where
+          left-row : left′ ≡ set left (rowOf the-system r .kind) (getD left (rowOf the-system r .kind) 0 - 1)
+          left-row = l ∙ ap (λ (k : ℕ). set left k (getD left k 0 - 1)) (sym kind-is)
+
+          call-searching : Searching the-system left′ more (take (n + 1) path′)
+          call-searching =
+              subst (λ (y : List ℕ). Searching the-system y more (take (n + 1) path′)) (sym left-row)
+              (subst (λ (y : List ℕ). Searching the-system (set left (rowOf the-system r .kind) (getD left (rowOf the-system r .kind) 0 - 1)) more y) (sym p)
+              (child-searching the-system (x .ready .lawful) left covered (maskAt work r) (take n path) r row-in-rows (row-cells (x .ready) r row) more union c at-row is-open in-size (x .searching) fit-row))
+
+          call-rows : length path′ ≡ 128 → OfRows d path′ (n + 1)
+          call-rows e =
+              let a = room-left in
+              record {
+                within = omega arith;
+                few = omega arith;
+                areRows = subst (λ (y : List ℕ). T (all (λ j. ltb j (d .rows)) y)) (sym p) (all-last (take n path) (x .ofRows .areRows));
+              }
+            where
+              all-last : (xs : List ℕ) → T (all (λ j. ltb j (d .rows)) xs) → T (all (λ j. ltb j (d .rows)) (xs ++ (r ∷ [])))
+              all-last [] u = and-both (ltb r (d .rows)) true (lt→ltb r (d .rows) row) tt
+              all-last (z ∷ xs) u =
+                  and-both (ltb z (d .rows)) (all (λ j. ltb j (d .rows)) (xs ++ (r ∷ []))) (and-left (ltb z (d .rows)) (all (λ j. ltb j (d .rows)) xs) u)
+                  (all-last xs (and-right (ltb z (d .rows)) (all (λ j. ltb j (d .rows)) xs) u))
+
+          turn : (i : Identify) (capacity : ℕ) (e e′ whole : Emitted) → e′ ≡ emits capacity (fastBelow the-system i (stateBy the-system left′ more (take (n + 1) path′))) e
+              → emits capacity (choicesFrom the-system i the-state r) e ≡ whole → emits capacity (choicesFrom the-system i the-state (getD work (8 * r + 5) 0)) e′ ≡ whole
+          turn i capacity e e′ whole g w =
+              let s : stateBy the-system left′ more (take (n + 1) path′) ≡ choose the-state (rowOf the-system r) =
+              ap (λ (y : List ℕ). stateBy the-system y more (take (n + 1) path′)) left-row
+              ∙ ap (λ (y : List ℕ). stateBy the-system (set left (rowOf the-system r .kind) (getD left (rowOf the-system r .kind) 0 - 1)) more y) p
+              ∙ child-state the-system (x .ready .lawful) left covered (maskAt work r) (take n path) r row-in-rows (row-cells (x .ready) r row) more union in
+              ap (emits capacity (choicesFrom the-system i the-state (getD work (8 * r + 5) 0))) (g ∙ ap (λ (y : State). emits capacity (fastBelow the-system i y) e) s)
+              ∙ sym (emits-append capacity (fastBelow the-system i (choose the-state (rowOf the-system r))) (choicesFrom the-system i the-state (getD work (8 * r + 5) 0)) e)
+              ∙ sym (ap (λ (L : List (List ℕ)). emits capacity L e)
+              (choices-take the-system i the-state c first r row-in-rows at-row (sym test-is ∙ fit)
+              ∙ ap (λ (k : ℕ). fastBelow the-system i (choose the-state (rowOf the-system r)) ++ choicesFrom the-system i the-state k) (sym next)))
+              ∙ w
+
+-- ---- the test of a row
+pub fits-not : (left : List ℕ) (covered mask m : Mask) (k : ℕ) (b : Bool) → m ≡ mask → b ≡ not (apart 128 (has m) (has covered)) → b ≡ true → false ≡ fits left covered mask k
+unfolding fits
+fits-not left covered mask m k b e g h =
+    sym (ap (λ (x : Bool). x && ltb 0 (getD left k 0)) (ap (λ (x : Mask). apart 128 (has x) (has covered)) (sym e) ∙ not-true (apart 128 (has m) (has covered)) (sym g ∙ h)))
+
+pub fits-by-left : (left : List ℕ) (covered mask m : Mask) (k j : ℕ) (b : Bool) → m ≡ mask → b ≡ not (apart 128 (has m) (has covered)) → b ≡ false → j ≡ k → ltb 0 (getD left j 0) ≡ fits left covered mask k
+unfolding fits
+fits-by-left left covered mask m k j b e g h i =
+    ap (λ (x : ℕ). ltb 0 (getD left x 0)) i
+    ∙ sym (ap (λ (x : Bool). x && ltb 0 (getD left k 0)) (ap (λ (x : Mask). apart 128 (has x) (has covered)) (sym e) ∙ not-false (apart 128 (has m) (has covered)) (sym g ∙ h)))
+
+-- a row that fits has a copy left
+fits-left : (left : List ℕ) (covered mask : Mask) (k : ℕ) → fits left covered mask k ≡ true → 0 < getD left k 0
+unfolding fits
+fits-left left covered mask k e = ltb→lt 0 (getD left k 0) (and-right (apart 128 (has mask) (has covered)) (ltb 0 (getD left k 0)) (holds (fits left covered mask k) e))
+
+-- ---- a row of the cell that fits, with the copies and the path as the loop has them
+pub record Placing (d : Dims) (work left₀ path₀ left path : List ℕ) (n : ℕ) (covered : Mask) (c r k : ℕ) : Type 0 where
+  pub sameLeft : left ≡ left₀
+  pub samePath : take n path ≡ take n path₀
+  pub long : length path ≡ 128
+  pub row : r < d .rows
+  pub at : rowAt work r .p ≡ c
+  pub fit : fits left covered (maskAt work r) (rowAt work r .kind) ≡ true
+  pub kind : k ≡ rowAt work r .kind
+
+module _ {d : Dims} {work heads images scans kinds pieces left₀ path₀ left path : List ℕ} {n : ℕ} {covered : Mask} {c r k : ℕ}
+    (x : Opened d work heads images scans kinds pieces left₀ path₀ n covered c) (y : Placing d work left₀ path₀ left path n covered c r k) where
+  pub place-in : k < length left
+  place-in = let a = kind-in x r (y .row) (y .at) in let e = ap (λ (l : List ℕ). length l) (y .sameLeft) in let f = y .kind in omega arith
+
+  pub place-left : 0 < getD left k 0
+  place-left = subst (λ (j : ℕ). 0 < getD left j 0) (sym (y .kind)) (fits-left left covered (maskAt work r) (rowAt work r .kind) (y .fit))
+
+  pub place-path : n < length path
+  place-path = let a = room-left x in let l = y .long in omega arith
+
+  pub back-in : (left₁ : List ℕ) → left₁ ≡ set left k (getD left k 0 - 1) → k < length left₁
+  back-in left₁ e = let a = place-in in let b = ap (λ (l : List ℕ). length l) e ∙ length-set left k (getD left k 0 - 1) in omega arith
+
+  pub back-count : (left₁ : List ℕ) → left₁ ≡ set left k (getD left k 0 - 1) → getD left₁ k 0 + 1 ≡ getD left k 0
+  back-count left₁ e = one-more left left₁ k e place-in place-left
+
+  pub back-left : (left₁ : List ℕ) → left₁ ≡ set left k (getD left k 0 - 1) → set left₁ k (getD left₁ k 0 + 1) ≡ left₀
+  back-left left₁ e = put-back left left₁ k e place-in place-left ∙ y .sameLeft
+
+  fit₀ : fits left₀ covered (maskAt work r) (rowAt work r .kind) ≡ true
+  fit₀ = ap (λ (l : List ℕ). fits l covered (maskAt work r) (rowAt work r .kind)) (sym (y .sameLeft)) ∙ y .fit
+
+  left-is : set left k (getD left k 0 - 1) ≡ set left₀ (rowAt work r .kind) (getD left₀ (rowAt work r .kind) 0 - 1)
+  left-is = ap₂ (λ (l : List ℕ) (j : ℕ). set l j (getD l j 0 - 1)) (y .sameLeft) (y .kind)
+
+  path-is : take (n + 1) (set path n r) ≡ take n path₀ ++ (r ∷ [])
+  path-is = path-more path n r place-path ∙ ap (λ (l : List ℕ). l ++ (r ∷ [])) (y .samePath)
+
+  module _ (more m : Mask) (is-mask : m ≡ maskAt work r) (union : has more ≡ either (has covered) (has m)) where
+    union-is : has more ≡ either (has covered) (has (maskAt work r))
+    union-is = union ∙ ap (λ (z : Mask). either (has covered) (has z)) is-mask
+
+    pub place-falls : length (uncovered (d .cells) more) < length (uncovered (d .cells) covered)
+    place-falls = call-less x r (y .row) (y .at) fit₀ more union-is
+
+    pub place-searching : Searching (systemIn d work images scans kinds pieces) (set left k (getD left k 0 - 1)) more (take (n + 1) (set path n r))
+    place-searching = call-searching x r (y .row) (y .at) fit₀ more union-is (set left k (getD left k 0 - 1)) (set path n r) left-is path-is
+
+    pub place-rows : OfRows d (set path n r) (n + 1)
+    place-rows = call-rows x r (y .row) (y .at) fit₀ more union-is (set left k (getD left k 0 - 1)) (set path n r) left-is path-is (length-set path n r ∙ y .long)
+
+    pub place-turns : (i : Identify) (capacity : ℕ) (e e′ whole : Emitted)
+        → e′ ≡ emits capacity (fastBelow (systemIn d work images scans kinds pieces) i (stateBy (systemIn d work images scans kinds pieces) (set left k (getD left k 0 - 1)) more (take (n + 1) (set path n r)))) e
+        → emits capacity (choicesFrom (systemIn d work images scans kinds pieces) i (stateBy (systemIn d work images scans kinds pieces) left₀ covered (take n path₀)) r) e ≡ whole
+        → emits capacity (choicesFrom (systemIn d work images scans kinds pieces) i (stateBy (systemIn d work images scans kinds pieces) left₀ covered (take n path₀)) (getD work (8 * r + 5) 0)) e′ ≡ whole
+    place-turns = turn x r (y .row) (y .at) fit₀ more union-is (set left k (getD left k 0 - 1)) (set path n r) left-is path-is

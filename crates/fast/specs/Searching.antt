@@ -1,0 +1,39 @@
+-- Fast's search over the slices of a row system.
+use Prim.Native.Nat.{ℕ, _+_, _≤_, _<_}
+use mathlib.Core.Bool.{Bool, true, false, not, _&&_}
+use mathlib.Core.List.{List, [], _∷_, map, List·Memᴰ}
+use mathlib.Core.Path.{_≡_}
+use lib.Dec.{ltb}
+use lib.ListN.{length, getD, take}
+use Rattle.definitions.specs.Lists.{keep, below, Apart}
+use Rattle.definitions.specs.Kept.{Identify}
+use Rattle.definitions.specs.Orders.{State, search, fastChoices}
+use Rattle.masks.specs.Masks.{has, apart}
+use Rattle.masks.specs.declared.Mask.{Mask}
+use Rattle.rows.specs.Systems.{System}
+use Rattle.kept.specs.Normal.{rowOf, ofKind}
+use Rattle.kept.specs.Entries.{putAll, entries}
+
+-- the uncovered cells, and the state of a search: copies left, covered cells, rows chosen
+unfoldable pub uncovered : ℕ → Mask → List ℕ
+uncovered size covered = keep (λ c. not (has covered c)) (below size)
+
+unfoldable pub stateBy : System → List ℕ → Mask → List ℕ → State
+stateBy s left covered rs =
+    record { left = take (length (s .copies)) left; free = uncovered (s .size) covered; chosen = putAll [] (map (rowOf s) rs) }
+
+-- what Fast lists below a state
+unfoldable pub fastBelow : System → Identify → State → List (List ℕ)
+fastBelow s i t = entries s i (search (fastChoices (s .rows)) (s .size) t)
+
+-- what a search keeps true: the rows chosen differ and are covered, their copies are taken, and there is a place in the path for each uncovered cell
+pub record Searching (s : System) (left : List ℕ) (covered : Mask) (rs : List ℕ) : Type 0 where
+  pub enough : length (s .copies) ≤ length left
+  pub apart : Apart rs
+  pub taken : (k : ℕ) → k < length (s .copies) → getD left k 0 + length (ofKind s k rs) ≡ getD (s .copies) k 0
+  pub covers : (r : ℕ) → List·Memᴰ r rs → (c : ℕ) → List·Memᴰ c (rowOf s r .cells) → has covered c ≡ true
+  pub room : length rs + length (uncovered (s .size) covered) ≤ s .size
+
+-- a copy of the kind is left, and no cell is covered
+unfoldable pub fits : List ℕ → Mask → Mask → ℕ → Bool
+fits left covered mask kind = apart 128 (has mask) (has covered) && ltb 0 (getD left kind 0)

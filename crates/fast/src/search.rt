@@ -1,0 +1,111 @@
+// The search: the first uncovered cell is covered in each way that is still possible.
+ghost use mathlib.Core.Bool.{false, true};
+ghost use mathlib.Core.List.{_∷_};
+ghost use mathlib.Core.Path.{_≡_};
+ghost use Prim.Native.Nat.{_+_, _*_, _≤_, _<_};
+ghost use lib.ListN.{getD, length, take};
+ghost use Rattle.definitions.specs.Emission.{emits};
+ghost use Rattle.definitions.specs.Orders.{possible};
+ghost use Rattle.definitions.specs.Refusals.{identifies};
+ghost use Rattle.masks.specs.Masks.{apart, has};
+ghost use Rattle.rows.specs.Rows.{maskAt, rowAt};
+ghost use Rattle.rows.specs.Systems.{systemIn};
+ghost use Rattle.kept.specs.Emission.{emittedOf};
+ghost use Rattle.kept.specs.Ready.{OfRows, Ready};
+ghost use Rattle.fast.specs.Searching.{Searching, fastBelow, fits, stateBy, uncovered};
+use kept::emission;
+use kept::emission::Emission;
+use masks::Mask;
+use rows::Dims;
+use rows::table;
+
+// Whether a copy of row r's kind is left and none of its cells is covered.
+fn can_place(work: &[u64], left: &[u8], covered: Mask, r: usize) -> bool
+    requires { ⌜ (8 * r + 8 ≤ length (now work)) × (rowAt (now work) r .kind < length (now left)) ⌝ }
+    ensures { λ b. ⌜ b ≡ fits (now (left .entry)) covered (maskAt (now (work .entry)) r) (rowAt (now (work .entry)) r .kind) ⌝ }
+{
+    if table::mask_at(work, r).meets(covered) {
+        return false;
+    }
+    let kind = table::kind_at(work, r);
+    0 < left[kind]
+}
+
+// The packings that extend the rows chosen, one after the other, until the page is full and a further one is known.
+pub fn search(
+    d: Dims,
+    work: &[u64],
+    heads: &[u16],
+    images: &[u8],
+    scans: &[u8],
+    kinds: &[u8],
+    pieces: &[u8],
+    turned: bool,
+    mirrored: bool,
+    left: &mut [u8],
+    path: &mut [u16],
+    n: usize,
+    covered: Mask,
+    capacity: usize,
+    answers: &mut [u8],
+    e: Emission,
+) -> Emission
+    requires { ⌜ Ready d (now work) (now heads) (now images) (now scans) (now kinds) (now pieces) × OfRows d (now path) n × (length (now path) ≡ 128) × (capacity * (2 * d .places) ≤ length (now answers)) ⌝ }
+    requires { ⌜ Searching (systemIn d (now work) (now images) (now scans) (now kinds) (now pieces)) (now left) covered (take n (now path)) ⌝ }
+    ensures page { λ r. ⌜ emittedOf r (now (answers .exit)) ≡ emits capacity (fastBelow (systemIn d (now (work .entry)) (now (images .entry)) (now (scans .entry)) (now (kinds .entry)) (now (pieces .entry))) (identifies turned mirrored) (stateBy (systemIn d (now (work .entry)) (now (images .entry)) (now (scans .entry)) (now (kinds .entry)) (now (pieces .entry))) (now (left .entry)) covered (take n (now (path .entry))))) (emittedOf e (now (answers .entry))) ⌝ }
+    ensures restored { λ _. ⌜ (now (left .exit) ≡ now (left .entry)) × (take n (now (path .exit)) ≡ take n (now (path .entry))) ⌝ }
+{
+    let c = covered.next_open(0);
+    if d.cells <= c {
+        return emission::emit_kept(
+            d,
+            work,
+            heads,
+            images,
+            scans,
+            kinds,
+            pieces,
+            turned,
+            mirrored,
+            path,
+            n,
+            capacity,
+            answers,
+            e,
+        );
+    }
+    let mut s = e;
+    let mut r = heads[c] as usize;
+    while r < d.rows {
+        if can_place(work, left, covered, r) {
+            let kind = table::kind_at(work, r);
+            left[kind] -= 1;
+            path[n] = r as u16;
+            let more = covered.union(table::mask_at(work, r));
+            s = search(
+                d,
+                work,
+                heads,
+                images,
+                scans,
+                kinds,
+                pieces,
+                turned,
+                mirrored,
+                left,
+                path,
+                n + 1,
+                more,
+                capacity,
+                answers,
+                s,
+            );
+            left[kind] += 1;
+            if s.further {
+                return s;
+            }
+        }
+        r = table::next_at(work, r);
+    }
+    s
+}

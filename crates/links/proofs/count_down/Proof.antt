@@ -1,0 +1,47 @@
+-- `links::count_down` meets its contract: it stores one less where the count stands. Assumes nothing.
+use borrow.Author.Needs.{needs}
+use Rattle.links.specs.Cover.{dec}
+use Rattle.links.proofs.count_down.Statement.{statement}
+use Rattle.links.proofs.count_down.Tie as tie
+
+add-n : tie.Need-add-n
+add-n c = search needs
+
+mul-n : tie.Need-mul-n
+mul-n c = search needs
+
+slice-read-n : tie.Need-slice-read-n
+slice-read-n c = search needs
+
+sub-links : tie.Need-sub-links
+sub-links c = search needs
+
+add-links : tie.Need-add-links
+add-links c = search needs
+
+mul-links : tie.Need-mul-links
+mul-links c = search needs
+
+slice-write-links : tie.Need-slice-write-links
+slice-write-links c = search needs
+
+same-length : tie.Need-same-length
+same-length c = search needs
+
+returns : tie.Need-returns
+unfolding dec
+returns c = search needs
+
+pub count-down-spec : {M : Type 1} → statement M
+count-down-spec =
+    tie.close
+    (tie.spec
+    add-n
+    mul-n
+    slice-read-n
+    sub-links
+    add-links
+    mul-links
+    slice-write-links
+    same-length
+    returns)

@@ -1,0 +1,61 @@
+-- `links::link_head` meets its contract: its three stores are those of `headed`. Assumes nothing.
+use native.Mathlib.Omega.{arith}
+use lib.ListN.{length-set}
+use Rattle.links.specs.Build.{headed}
+use borrow.Author.Needs.{needs}
+use Rattle.links.proofs.link_head.Statement.{statement}
+use Rattle.links.proofs.link_head.Tie as tie
+
+cast-links : tie.Need-cast-links
+cast-links c = search needs
+
+mul-links : tie.Need-mul-links
+mul-links c = search needs
+
+slice-write-links : tie.Need-slice-write-links
+slice-write-links c = search needs
+
+cast-links-2 : tie.Need-cast-links-2
+cast-links-2 c = search needs
+
+add-links : tie.Need-add-links
+add-links c = search needs
+
+mul-links-2 : tie.Need-mul-links-2
+mul-links-2 c = search needs
+
+slice-write-links-2 : tie.Need-slice-write-links-2
+slice-write-links-2 c = simp length-set (omega arith)
+
+add-links-2 : tie.Need-add-links-2
+add-links-2 c = search needs
+
+mul-links-3 : tie.Need-mul-links-3
+mul-links-3 c = search needs
+
+slice-write-links-3 : tie.Need-slice-write-links-3
+slice-write-links-3 c = simp length-set (omega arith)
+
+same-length : tie.Need-same-length
+same-length c = search needs
+
+returns : tie.Need-returns
+unfolding headed
+returns c = search needs
+
+pub link-head-spec : {M : Type 1} → statement M
+link-head-spec =
+    tie.close
+    (tie.spec
+    cast-links
+    mul-links
+    slice-write-links
+    cast-links-2
+    add-links
+    mul-links-2
+    slice-write-links-2
+    add-links-2
+    mul-links-3
+    slice-write-links-3
+    same-length
+    returns)

@@ -1,0 +1,81 @@
+-- `links::unpurge_column` meets its contract: after each turn the column's live rows up to k are still hidden, and no others. Assumes nothing.
+use Prim.Native.Nat.{ℕ, _<_}
+use native.Mathlib.Omega.{arith}
+use mathlib.Core.Path.{_≡_, sym, _∙_}
+use mathlib.Core.List.{List}
+use borrow.Author.Needs.{needs}
+use Rattle.links.specs.Cover.{World, Holds, Open, cover}
+use Rattle.links.proofs.Cover.{Unwalk, unwalk-start, unwalk-hidden, unwalk-small, unwalk-less, unwalk-next, unwalk-length, unwalk-end, covered-length}
+use Rattle.links.proofs.unpurge_column.Statement.{statement}
+use Rattle.links.proofs.unpurge_column.Tie as tie
+
+abbrev Inv-loop : tie.InvT-loop
+Inv-loop links₀ c k₀ links k = (w : World) (m : List ℕ) → Holds w m → c < w .t .cols → Open w c → links₀ ≡ cover w c m → Unwalk w c m links k
+
+abbrev μ-loop : tie.MeasureT-loop
+μ-loop links₀ c k₀ links k = k
+
+mul-wide : tie.Need-mul-wide Inv-loop μ-loop
+mul-wide c = let p = c .before .pre in omega (arith, p .holds .fields .long, covered-length p, p .column, p .w .law .some, p .w .law .fits)
+
+slice-read-wide : tie.Need-slice-read-wide Inv-loop μ-loop
+slice-read-wide c = let p = c .before .before .pre in omega (arith, p .holds .fields .long, covered-length p, p .column, p .w .law .some, p .w .law .fits)
+
+wide-requires : tie.Need-wide-requires Inv-loop μ-loop
+wide-requires c κs = search needs
+
+loop-holds : tie.Need-loop-holds Inv-loop μ-loop
+loop-holds c = λ w m s l o q. unwalk-start w s l o _ q _ (c .wide .ensures)
+
+show-row-requires : tie.Need-show-row-requires Inv-loop μ-loop
+show-row-requires c κs = let p = c .before .before .before .before .before .before .pre in
+    let v = c .before .before .loop .inv (p .w) (p .old) (p .holds) (p .column) (p .isOpen) (p .so) in
+    unwalk-hidden (p .w) (p .holds) (p .column) (p .isOpen) v (c .before .loop-test .taken)
+
+mul-wide-2 : tie.Need-mul-wide-2 Inv-loop μ-loop
+mul-wide-2 c = let p = c .before .before .before .before .before .before .before .before .before .pre in
+    let v = c .before .before .before .before .before .loop .inv (p .w) (p .old) (p .holds) (p .column) (p .isOpen) (p .so) in
+    omega (arith, unwalk-small (p .w) (p .holds) (p .column) (p .isOpen) v (c .before .before .before .before .loop-test .taken) _ (c .before .before .show-row .ensures))
+
+slice-read-wide-2 : tie.Need-slice-read-wide-2 Inv-loop μ-loop
+slice-read-wide-2 c = let p = c .before .before .before .before .before .before .before .before .before .before .pre in
+    let v = c .before .before .before .before .before .before .loop .inv (p .w) (p .old) (p .holds) (p .column) (p .isOpen) (p .so) in
+    omega (arith, unwalk-small (p .w) (p .holds) (p .column) (p .isOpen) v (c .before .before .before .before .before .loop-test .taken) _ (c .before .before .before .show-row .ensures))
+
+wide-requires-2 : tie.Need-wide-requires-2 Inv-loop μ-loop
+wide-requires-2 c κs = search needs
+
+loop-less : tie.Need-loop-less Inv-loop μ-loop
+loop-less c = let p = c .before .before .before .before .before .before .before .before .before .before .before .pre in
+    let v = c .before .before .before .before .before .before .before .loop .inv (p .w) (p .old) (p .holds) (p .column) (p .isOpen) (p .so) in
+    unwalk-less (p .w) (p .holds) (p .column) (p .isOpen) v (c .before .before .before .before .before .before .loop-test .taken) _ (c .before .before .before .before .show-row .ensures) _ (c .wide2 .ensures)
+
+loop-again : tie.Need-loop-again Inv-loop μ-loop
+loop-again c = λ w m s l o q. unwalk-next w s l o (c .before .before .before .before .before .before .before .loop .inv w m s l o q) (c .before .before .before .before .before .before .loop-test .taken) _ (c .before .before .before .before .show-row .ensures) _ (c .wide2 .ensures)
+
+same-length : tie.Need-same-length Inv-loop μ-loop
+same-length c = let p = c .before .before .before .before .before .pre in
+    let v = c .before .loop .inv (p .w) (p .old) (p .holds) (p .column) (p .isOpen) (p .so) in
+    unwalk-length (p .w) (p .holds) (p .column) (p .isOpen) v ∙ sym (covered-length p)
+
+returns : tie.Need-returns Inv-loop μ-loop
+returns c = λ w m s l o q. unwalk-end w s l o (c .before .loop .inv w m s l o q) (c .loop-test .left)
+
+pub unpurge-column-spec : {M : Type 1} → statement M
+unpurge-column-spec =
+    tie.close
+    (tie.spec
+    Inv-loop
+    μ-loop
+    mul-wide
+    slice-read-wide
+    wide-requires
+    loop-holds
+    show-row-requires
+    mul-wide-2
+    slice-read-wide-2
+    wide-requires-2
+    loop-less
+    loop-again
+    same-length
+    returns)
