@@ -5,11 +5,15 @@
     replay.py < ../crates/replay/stdin           what the program is to print
 
 A call is: how many pieces, the engine (0 to 3), turned, mirrored, words of the work
-slice, numbers of the links slice; for the board, then for each of the first 16
-pieces, three sides, a count and the place where its cells begin; the lent bytes,
-a digit each.
+slice, numbers of the links slice, what is shown (0 its row system, 1 its pages too,
+2 its pages alone); for the board, then
+for each of the first 16 pieces, three sides, a count and the place where its cells
+begin; the lent bytes, a digit each.
+
+`calls` needs the oracle built (it takes random trays from target/release/trays).
 """
 
+import subprocess
 import sys
 from itertools import product
 from pathlib import Path
@@ -51,8 +55,8 @@ def symmetries(board, maps):
 
 
 def refusal(call):
-    n, engine, turned, mirrored, work, links, records, data = call
-    board, pieces = records[0], records[1:]
+    n, engine, turned, mirrored, work, links, _, records, data = call
+    pieces = records[1:]
     if n == 0:
         return 1
     if n > 16:
@@ -102,9 +106,11 @@ def problem_of(records, data):
 
 def show(call):
     number = refusal(call)
+    if call[6] == 2:
+        return pages(call, number)
     if number:
-        return [f"refused {number}"]
-    records, data = call[6], call[7]
+        return [f"refused {number}"] + pages(call, number)
+    records, data = call[7], call[8]
     problem = problem_of(records, data)
     size, kinds = len(problem.scanned), len(problem.kinds)
     sides = problem.board[0]
@@ -137,7 +143,39 @@ def show(call):
     for number, row in rows[:12] + (rows[-1:] if len(rows) > 12 else []):
         cells = [cell for cell in range(128) if row.covers >> cell & 1]
         lines.append(words("row", [number, row.kind, *row.place, *cells]))
+    return lines + pages(call, 0)
+
+
+def pages(call, number):
+    """The pages of Fast's list: three entries at a time, at most 20 times; then room
+    for none, from the end on, and at the largest skip."""
+    if not call[6]:
+        return []
+    # asked of Fast whatever the engine: other engines' refusals are not its own
+    call = changed(call, engine=FAST)
+    number = refusal(call)
+    if number:
+        return [f"page refused {number}"]
+    problem = problem_of(call[7], call[8])
+    entries = [answer_bytes(answer) for answer in problem.list("fast", identified(call))]
+    total = 0
+    for entry in entries[:60]:
+        for byte in entry:
+            total = (total * 257 + byte + 1) % 4294967291
+    more = " further" if len(entries) > 60 else ""
+    lines = [f"listed {min(60, len(entries))}{more} sum {total}"]
+    lines.append("room for none 0" + (" further" if entries else ""))
+    if len(entries) <= 60:
+        lines += ["past the end 0", "at the last skip 0"]
     return lines
+
+
+def answer_bytes(answer):
+    return [byte for owner in answer for byte in (owner or (255, 255))]
+
+
+def identified(call):
+    return "mirrored" if call[3] else "turned" if call[2] else "none"
 
 
 def words(name, numbers):
@@ -152,13 +190,13 @@ def tray(path, engine=None, turned=0, mirrored=0):
     return lent([(1, board)] + pieces, engine or FAST, turned, mirrored)
 
 
-def lent(grids, engine=FAST, turned=0, mirrored=0, work=8192, links=32768):
+def lent(grids, engine=FAST, turned=0, mirrored=0, work=8192, links=32768, paged=0):
     """A call whose grids' cells stand one behind the other; the first is the board."""
     records, data = [], []
     for count, (sides, cells) in grids:
         records.append((*sides, count, len(data)))
         data += cells
-    return [len(records) - 1, engine, turned, mirrored, work, links, records, data]
+    return [len(records) - 1, engine, turned, mirrored, work, links, paged, records, data]
 
 
 def full(*sides):
@@ -180,7 +218,7 @@ HOLLOW = ((1, 1, 3), (1, 0, 1))
 
 
 def changed(call, **fields):
-    names = ("n", "engine", "turned", "mirrored", "work", "links", "records", "data")
+    names = ("n", "engine", "turned", "mirrored", "work", "links", "paged", "records", "data")
     call = list(call)
     for name, value in fields.items():
         call[names.index(name)] = value
@@ -189,7 +227,7 @@ def changed(call, **fields):
 
 def record(call, number, **fields):
     names = ("a", "b", "c", "count", "start")
-    records = [list(entry) for entry in call[6]]
+    records = [list(entry) for entry in call[7]]
     for name, value in fields.items():
         records[number][names.index(name)] = value
     return changed(call, records=records)
@@ -256,10 +294,10 @@ def limits():
 
 def at_limits():
     def placements(grids):
-        return len(problem_of(*lent(grids)[6:]).placements)
+        return len(problem_of(*lent(grids)[7:]).placements)
 
     def links(grids):
-        return problem_of(*lent(grids)[6:]).links()
+        return problem_of(*lent(grids)[7:]).links()
 
     # 128 cells: 128 placements of M; full boxes of other sides add the rest
     board = full(2, 8, 8)
@@ -292,9 +330,9 @@ def pairs():
     ways = {
         3: lambda call: record(call, 1, b=9),
         4: lambda call: record(call, 2, start=6),
-        5: lambda call: changed(call, data=[3] + call[7][1:]),
-        6: lambda call: changed(call, data=call[7][:3] + [0] + call[7][4:]),
-        7: lambda call: changed(call, data=call[7][:4] + [0] + call[7][5:]),
+        5: lambda call: changed(call, data=[3] + call[8][1:]),
+        6: lambda call: changed(call, data=call[8][:3] + [0] + call[8][4:]),
+        7: lambda call: changed(call, data=call[8][:4] + [0] + call[8][5:]),
         8: lambda call: record(call, 1, count=128),
         10: lambda call: changed(call, turned=0, mirrored=1),
         11: lambda call: changed(call, engine=1),
@@ -310,6 +348,34 @@ def pairs():
         yield ways[number](large)
 
 
+def is_small(call):
+    """Few enough cells that its pages are found at once."""
+    return sum(call[8]) < 40
+
+
+def trays(seed, count, most):
+    """Random trays of the oracle's stream, for Fast, with pages; no more than `most`, of those whose list is not long."""
+    oracle = Path(__file__).parent / "target" / "release" / "trays"
+    stream = subprocess.run([oracle, str(seed), str(count)], capture_output=True, check=True).stdout
+    at = found = 0
+    while at < len(stream) and found < most:
+        end = stream.index(b"\n", at)
+        _, _, size, expected, _ = stream[at:end].split(b"\t")
+        start = end + 1
+        at = start + int(size) + int(expected)
+        try:
+            engine, identified, board, pieces = model.parse(stream[start:start + int(size)])
+        except model.Malformed:
+            continue
+        if engine != "fast" or len(pieces) > 17 or stream[start + int(size):at].count(b"\n") > 60:
+            continue
+        turned, mirrored = {"none": (0, 0), "turned": (1, 0), "mirrored": (1, 1)}[identified]
+        call = lent([(1, board)] + pieces, FAST, turned, mirrored, paged=2)
+        if 0 < len(call[8]) <= 400:
+            found += 1
+            yield call
+
+
 def text(call):
     n, *rest, records, data = call
     lines = [" ".join(map(str, [n, *rest]))]
@@ -321,8 +387,8 @@ def read(source):
     fields = source.split()
     at = 0
     while at < len(fields):
-        head = [int(field) for field in fields[at:at + 6]]
-        at += 6
+        head = [int(field) for field in fields[at:at + 7]]
+        at += 7
         records = []
         for _ in range(min(head[0], 16) + 1):
             records.append(tuple(int(field) for field in fields[at:at + 5]))
@@ -333,9 +399,13 @@ def read(source):
 
 def main():
     if sys.argv[1:] == ["calls"]:
-        for part_of in (systems, limits, pairs):
+        for call in systems():
+            print(text(call))
+        for part_of in (limits, pairs):
             for call in part_of():
-                print(text(call))
+                print(text(changed(call, paged=int(is_small(call)))))
+        for call in trays(31, 700, 220):
+            print(text(call))
         return
     for call in read(sys.stdin.read()):
         print("\n".join(show(call)))

@@ -36,7 +36,15 @@ pub fn silence_panics() {
     panic::set_hook(Box::new(|_| {}));
 }
 
-fn solve(tray: &Tray) -> String {
+/// The whole list of the original, built and read entry by entry, and how long it is.
+pub fn count_of_original(tray: &Tray) -> usize {
+    let answers = answers(tray);
+    (0..answers.len())
+        .filter(|&entry| !answers.get(entry).data.is_empty())
+        .count()
+}
+
+fn answers(tray: &Tray) -> solver::Answers {
     let pieces: Vec<Shape> = tray.pieces.iter().map(|piece| shape(&piece.grid)).collect();
     let counts: Vec<u32> = tray.pieces.iter().map(|piece| piece.count).collect();
     let config = solver::Config {
@@ -49,8 +57,11 @@ fn solve(tray: &Tray) -> String {
             Engine::Knuth => SolverKind::KnuthAlgorithm,
         },
     };
-    let answers = solver::solve(&pieces, &counts, &shape(&tray.board), config);
+    solver::solve(&pieces, &counts, &shape(&tray.board), config)
+}
 
+fn solve(tray: &Tray) -> String {
+    let answers = answers(tray);
     let mut listing = String::new();
     for entry in 0..answers.len() {
         writeln!(listing, "{entry}\t{}", box_cells(&answers.get(entry))).unwrap();

@@ -1,5 +1,5 @@
 // Reads calls from standard input, each as numbers, and prints the refusal of each, or its row system: sizes, kinds, pieces, what the allowed maps do to
-// cells on smaller boards, and rows. The stored output is the oracle's (oracle/replay.py).
+// cells on smaller boards, and rows; for some calls pages of Fast's list too. The stored output is the oracle's (oracle/replay.py).
 ghost use Prim.Native.Nat.{_+_, _*_, _≤_};
 ghost use lib.ListN.{length};
 ghost use Rattle.placements.specs.Counting.{Accepted9};
@@ -17,6 +17,8 @@ use placements::counting;
 use rows::Dims;
 use rows::system;
 use rows::table;
+
+mod pages;
 
 // A number that was read, and where the next begins.
 struct Token {
@@ -364,7 +366,8 @@ fn call(text: &[u8], i: usize, bytes: &mut [u8]) -> usize {
     let mirrored = number(text, turned.next);
     let work = number(text, mirrored.next);
     let links = number(text, work.next);
-    let board = entry(text, links.next);
+    let paged = number(text, links.next);
+    let board = entry(text, paged.next);
     let m = n.value;
     let table = pieces(text, board.next, m);
     let cells = digits(
@@ -379,14 +382,19 @@ fn call(text: &[u8], i: usize, bytes: &mut [u8]) -> usize {
     };
     let k = cells.value;
     if k <= bytes.len() {
-        show(
-            table,
-            board.record,
-            &bytes[..k],
-            config,
-            work.value,
-            links.value,
-        );
+        if paged.value < 2 {
+            show(
+                table,
+                board.record,
+                &bytes[..k],
+                config,
+                work.value,
+                links.value,
+            );
+        }
+        if 0 < paged.value {
+            pages::show_pages(table, board.record, &bytes[..k], config, work.value);
+        }
     }
     cells.next
 }

@@ -1,7 +1,7 @@
 -- `replay::call` meets its contract: the digits read are lent as the first `k` bytes, where `k` is at most their number. Assumes nothing.
-use borrow.Author.Needs.{needs}
 use mathlib.Core.Path.{sym}
 use lib.Seq.{length-take-le}
+use borrow.Author.Needs.{needs}
 use Rattle.replay.proofs.call.Statement.{statement}
 use Rattle.replay.proofs.call.Tie as tie
 
@@ -23,6 +23,9 @@ number-requires-5 c κs = search needs
 number-requires-6 : tie.Need-number-requires-6
 number-requires-6 c κs = search needs
 
+number-requires-7 : tie.Need-number-requires-7
+number-requires-7 c κs = search needs
+
 entry-requires : tie.Need-entry-requires
 entry-requires c κs = search needs
 
@@ -42,10 +45,19 @@ slice-reshare-prefix-show : tie.Need-slice-reshare-prefix-show
 slice-reshare-prefix-show c = search needs
 
 slice-aggregate-show : tie.Need-slice-aggregate-show
-slice-aggregate-show c = sym (length-take-le _ _ (c .before .before .if2 .taken))
+slice-aggregate-show c = sym (length-take-le _ _ (c .before .before .before .if2 .taken))
 
 show-requires : tie.Need-show-requires
 show-requires c κs = search needs
+
+slice-reshare-prefix-show-pages : tie.Need-slice-reshare-prefix-show-pages
+slice-reshare-prefix-show-pages c = search needs
+
+slice-aggregate-show-pages : tie.Need-slice-aggregate-show-pages
+slice-aggregate-show-pages c = sym (length-take-le _ _ (c .before .before .before .before .if2 .taken))
+
+show-pages-requires : tie.Need-show-pages-requires
+show-pages-requires c κs = search needs
 
 same-length : tie.Need-same-length
 same-length c = search needs
@@ -59,6 +71,12 @@ same-length-2 c = search needs
 returns-2 : tie.Need-returns-2
 returns-2 c = search needs
 
+same-length-3 : tie.Need-same-length-3
+same-length-3 c = search needs
+
+returns-3 : tie.Need-returns-3
+returns-3 c = search needs
+
 pub call-spec : {M : Type 1} → statement M
 call-spec =
     tie.close
@@ -69,6 +87,7 @@ call-spec =
     number-requires-4
     number-requires-5
     number-requires-6
+    number-requires-7
     entry-requires
     pieces-requires
     behind-requires
@@ -77,7 +96,12 @@ call-spec =
     slice-reshare-prefix-show
     slice-aggregate-show
     show-requires
+    slice-reshare-prefix-show-pages
+    slice-aggregate-show-pages
+    show-pages-requires
     same-length
     returns
     same-length-2
-    returns-2)
+    returns-2
+    same-length-3
+    returns-3)

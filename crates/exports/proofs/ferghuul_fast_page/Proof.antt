@@ -1,0 +1,24 @@
+-- `exports::ferghuul_fast_page` meets its contract: the page call does, and numbers say what the enum says. Assumes nothing.
+use mathlib.Core.Path.{_∙_}
+use borrow.Author.Needs.{needs}
+use Rattle.exports.proofs.NumberLaws.{outcome-numbers}
+use Rattle.exports.proofs.ferghuul_fast_page.Statement.{statement}
+use Rattle.exports.proofs.ferghuul_fast_page.Tie as tie
+
+page-requires : tie.Need-page-requires
+page-requires c κs = search needs
+
+in-numbers-requires : tie.Need-in-numbers-requires
+in-numbers-requires c κs = search needs
+
+same-length : tie.Need-same-length
+same-length c = search needs
+
+same-length-2 : tie.Need-same-length-2
+same-length-2 c = search needs
+
+returns : tie.Need-returns
+returns c = λ links. outcome-numbers _ _ _ _ links (c .in-numbers .ensures) ∙ c .before .before .before .before .before .page .ensures links
+
+pub ferghuul-fast-page-spec : {M : Type 1} → statement M
+ferghuul-fast-page-spec = tie.close (tie.spec page-requires in-numbers-requires same-length same-length-2 returns)

@@ -1,0 +1,120 @@
+//! Reads the oracle's stream of cases (oracle/README.md) and holds the page calls to
+//! it: each listing put together from pages of a random size, byte for byte; pages at
+//! random skips; what a call must not touch. Status 1 on a difference.
+
+use std::io::{self, Read};
+use std::process::ExitCode;
+
+use harness::{box_cells, Lent};
+use oracle::listing::refused;
+use oracle::random::Random;
+use oracle::tray::{self, Engine};
+
+const STAIN: u8 = 170;
+const WORD_STAIN: u64 = 0xAAAA_AAAA_AAAA_AAAA;
+const WORDS: usize = 8_200;
+
+fn main() -> io::Result<ExitCode> {
+    let mut stream = vec![];
+    io::stdin().read_to_end(&mut stream)?;
+    let (mut rest, mut held, mut pages, mut differences) = (&stream[..], 0, 0, 0);
+    while !rest.is_empty() {
+        let end = rest.iter().position(|&byte| byte == b'\n').unwrap();
+        let header = String::from_utf8_lossy(&rest[..end]).to_string();
+        let fields: Vec<&str> = header.split('\t').collect();
+        let (long, longer): (usize, usize) = (fields[2].parse().unwrap(), fields[3].parse().unwrap());
+        let file = &rest[end + 1..end + 1 + long];
+        let expected = std::str::from_utf8(&rest[end + 1 + long..end + 1 + long + longer]).unwrap();
+        rest = &rest[end + 1 + long + longer..];
+
+        let Some(tray) = tray::parse(file, tray::config_of_file) else {
+            continue;
+        };
+        if tray.config.engine != Engine::Fast {
+            continue;
+        }
+        held += 1;
+        let mut random = Random::new(held, 1);
+        match hold(&Lent::new(&tray), expected, &mut random) {
+            Ok(count) => pages += count,
+            Err(what) => {
+                differences += 1;
+                println!("{}: {what}", fields[1]);
+            }
+        }
+    }
+    println!("{held} trays, {pages} pages, {differences} differences");
+    Ok(if differences == 0 {
+        ExitCode::SUCCESS
+    } else {
+        ExitCode::FAILURE
+    })
+}
+
+fn hold(lent: &Lent, expected: &str, random: &mut Random) -> Result<usize, String> {
+    let size = lent.size();
+    let room = 1 + random.below(40);
+    let (mut listing, mut entries, mut pages) = (String::new(), 0, 0);
+    loop {
+        let (answers, answer) = ask(lent, entries, room, random.below(size.max(1)))?;
+        pages += 1;
+        if answer.number != 0 {
+            return same(&refused(answer.number as u8), expected, pages);
+        }
+        for bytes in answers[..answer.written * size].chunks(size) {
+            listing += &format!("{entries}\t{}\n", box_cells(bytes));
+            entries += 1;
+        }
+        if !answer.further {
+            break;
+        }
+        if answer.written != room {
+            return Err("a page that is not full says that a further entry follows".to_string());
+        }
+    }
+    listing += &format!("packings\t{entries}\n");
+    same(&listing, expected, pages)?;
+
+    // The ends: room for none, from the end on, at the largest skip; and somewhere.
+    let lines: Vec<&str> = expected.lines().collect();
+    let total = lines.len() as u64 - 1;
+    for (skip, room) in [(0, 0), (total, 1), (u64::MAX, 1), (random.below(total as usize + 1) as u64, 2)] {
+        let (answers, answer) = ask(lent, skip, room, 0)?;
+        let written = room.min(total.saturating_sub(skip) as usize);
+        let further = skip < total && skip + (written as u64) < total;
+        if (answer.written, answer.further) != (written, further) {
+            return Err(format!("at skip {skip} with room for {room}: {answer:?}"));
+        }
+        for (entry, bytes) in answers[..written * size].chunks(size).enumerate() {
+            let line = format!("{}\t{}", skip as usize + entry, box_cells(bytes));
+            same(&line, lines[skip as usize + entry], 0)?;
+        }
+        pages += 1;
+    }
+    Ok(pages)
+}
+
+/// One page from stained slices, `extra` bytes longer than so many answers; what it must not touch is looked at.
+fn ask(lent: &Lent, skip: u64, room: usize, extra: usize) -> Result<(Vec<u8>, harness::Answer), String> {
+    let mut answers = vec![STAIN; room * lent.size() + extra];
+    let mut work = vec![WORD_STAIN; WORDS];
+    let answer = lent.page(skip, &mut answers, &mut work);
+    let cleared = if answer.number == 0 { 8_192 } else { 0 };
+    let behind = answer.written * lent.size();
+    let is_kept = answers[behind..].iter().all(|&byte| byte == STAIN)
+        && work[..cleared].iter().all(|&word| word == 0)
+        && work[cleared..].iter().all(|&word| word == WORD_STAIN);
+    if is_kept {
+        Ok((answers, answer))
+    } else {
+        Err("slices afterwards".to_string())
+    }
+}
+
+fn same(found: &str, expected: &str, pages: usize) -> Result<usize, String> {
+    if found == expected {
+        Ok(pages)
+    } else {
+        Err("another listing".to_string())
+    }
+}

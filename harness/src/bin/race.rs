@@ -1,0 +1,58 @@
+//! `race TRAY ...`: the original's `solve` and the page call, the whole list of each tray, side by side.
+//! First the lists are compared, byte for byte; then each runs so many times, in turn.
+
+use std::time::{Duration, Instant};
+
+use harness::{box_cells, Lent};
+use oracle::listing;
+use oracle::tray::{self, Tray};
+
+const RUNS: usize = 9;
+
+fn main() {
+    listing::silence_panics();
+    println!("tray\tidentified\tpackings\toriginal ms\tpage ms\tratio");
+    for path in std::env::args().skip(1) {
+        let file = std::fs::read(&path).unwrap();
+        let given = tray::parse(&file, tray::config_of_file).unwrap();
+        for (name, turned, mirrored) in [("none", false, false), ("turned", true, false), ("mirrored", true, true)] {
+            let mut tray = given.clone();
+            (tray.config.turned, tray.config.mirrored) = (turned, mirrored);
+            race(&path, name, &tray);
+        }
+    }
+}
+
+fn race(path: &str, name: &str, tray: &Tray) {
+    let lent = Lent::new(tray);
+    let expected = listing::of_original(tray);
+    let total = expected.lines().count() - 1;
+    let mut answers = vec![0; total * lent.size()];
+    let mut work = vec![0; 8_192];
+    let found = lent.page(0, &mut answers, &mut work);
+    assert_eq!((found.number, found.written, found.further), (0, total, false), "{path} {name}");
+    let mut lines = String::new();
+    for (entry, bytes) in answers.chunks(lent.size()).enumerate() {
+        lines += &format!("{entry}\t{}\n", box_cells(bytes));
+    }
+    assert!(lines + &format!("packings\t{total}\n") == expected, "{path} {name}");
+
+    let (mut original, mut page) = (vec![], vec![]);
+    for _ in 0..RUNS {
+        original.push(timed(|| oracle::listing::count_of_original(tray)));
+        page.push(timed(|| lent.page(0, &mut answers, &mut work).written));
+    }
+    let (original, page) = (middle(original), middle(page));
+    println!("{path}\t{name}\t{total}\t{original:.2}\t{page:.2}\t{:.2}", page / original);
+}
+
+fn timed<T>(run: impl FnOnce() -> T) -> Duration {
+    let start = Instant::now();
+    std::hint::black_box(run());
+    start.elapsed()
+}
+
+fn middle(mut times: Vec<Duration>) -> f64 {
+    times.sort();
+    times[times.len() / 2].as_secs_f64() * 1000.0
+}

@@ -1,0 +1,123 @@
+//! The page calls of the static library, and trays as they take them.
+
+use oracle::tray::{Engine, Grid, Tray};
+
+#[repr(C)]
+#[derive(Clone, Copy, Default)]
+pub struct Record {
+    pub a: usize,
+    pub b: usize,
+    pub c: usize,
+    pub count: u32,
+    pub start: usize,
+}
+
+#[repr(C)]
+#[derive(Clone, Copy)]
+pub struct Table {
+    pub rows: [Record; 16],
+    pub n: usize,
+}
+
+#[repr(C)]
+#[derive(Clone, Copy, Debug, PartialEq, Eq)]
+pub struct Answer {
+    pub number: u32,
+    pub written: usize,
+    pub further: bool,
+}
+
+extern "C" {
+    fn ferghuul_fast_page(
+        t: Table,
+        board: Record,
+        bytes: *const u8,
+        byte_count: usize,
+        turned: bool,
+        mirrored: bool,
+        skip: u64,
+        answers: *mut u8,
+        answer_bytes: usize,
+        work: *mut u64,
+        words: usize,
+    ) -> Answer;
+}
+
+/// What a call lends.
+pub struct Lent {
+    pub table: Table,
+    pub board: Record,
+    pub bytes: Vec<u8>,
+    pub engine: Engine,
+    pub turned: bool,
+    pub mirrored: bool,
+}
+
+impl Lent {
+    pub fn new(tray: &Tray) -> Lent {
+        let mut bytes = vec![];
+        let board = record(&tray.board, 0, &mut bytes);
+        let mut rows = [Record::default(); 16];
+        for (row, piece) in rows.iter_mut().zip(&tray.pieces) {
+            *row = record(&piece.grid, piece.count, &mut bytes);
+        }
+        Lent {
+            table: Table {
+                rows,
+                n: tray.pieces.len(),
+            },
+            board,
+            bytes,
+            engine: tray.config.engine,
+            turned: tray.config.turned,
+            mirrored: tray.config.mirrored,
+        }
+    }
+
+    /// An answer's bytes.
+    pub fn size(&self) -> usize {
+        2 * self.board.a * self.board.b * self.board.c
+    }
+
+    pub fn page(&self, skip: u64, answers: &mut [u8], work: &mut [u64]) -> Answer {
+        assert!(self.engine == Engine::Fast);
+        unsafe {
+            ferghuul_fast_page(
+                self.table,
+                self.board,
+                self.bytes.as_ptr(),
+                self.bytes.len(),
+                self.turned,
+                self.mirrored,
+                skip,
+                answers.as_mut_ptr(),
+                answers.len(),
+                work.as_mut_ptr(),
+                work.len(),
+            )
+        }
+    }
+}
+
+fn record(grid: &Grid, count: u32, bytes: &mut Vec<u8>) -> Record {
+    let [a, b, c] = grid.sides.map(|side| side as usize);
+    let start = bytes.len();
+    bytes.extend(&grid.cells);
+    Record {
+        a,
+        b,
+        c,
+        count,
+        start,
+    }
+}
+
+/// An answer's bytes as `pack` prints them.
+pub fn box_cells(bytes: &[u8]) -> String {
+    let cell = |pair: &[u8]| match pair {
+        [255, 255] => "-".to_string(),
+        [piece, copy] => format!("{piece}.{copy}"),
+        _ => unreachable!(),
+    };
+    bytes.chunks(2).map(cell).collect::<Vec<_>>().join(" ")
+}
