@@ -1,0 +1,170 @@
+-- Each step of the search over slices: what it may call, and what it leaves on the page once its calls have met their contracts. Assumes nothing.
+use Prim.Native.Nat.{ℕ, zero, suc, _+_, _-_, _≤_, _<_}
+use mathlib.Core.Bool.{Bool, true}
+use mathlib.Core.List.{List, [], _∷_, _++_, List·Memᴰ, List·Memᴰ·append-cases, List·Memᴰ·eq-of-singleton}
+use mathlib.Core.Path.{_≡_, refl, sym, ap, _∙_, subst}
+use mathlib.Core.Logic.{⊎-elim}
+use native.Mathlib.Omega.{arith}
+use lib.Dec.{T, ltb, lt→ltb}
+use lib.ListN.{length, take, set, getD, length-take, length-map, length-set}
+use Rattle.definitions.specs.Lists.{all, below}
+use Rattle.definitions.specs.Kept.{Identify}
+use Rattle.definitions.specs.Emission.{Emitted}
+use Rattle.definitions.proofs.ListLaws.{all-at, all-of, length-below}
+use Rattle.rows.specs.Rows.{rowsIn, rowAt}
+use Rattle.rows.specs.Systems.{System, systemIn}
+use Rattle.rows.specs.Lawful.{Lawful}
+use Rattle.rows.specs.declared.Dims.{Dims}
+use Rattle.kept.specs.Emission.{emitKept}
+use Rattle.kept.specs.Ready.{Fillable, OfRows}
+use Rattle.links.specs.Cover.{World, cnt, worldTo}
+use Rattle.links.specs.Search.{Seek, At, selected, spend, start, pivot}
+use Rattle.links.proofs.Search.{choose-at, sel-unc, try-live, try-sub, try-seek, try-at}
+use Rattle.knuth.specs.Tables.{tableOf}
+use Rattle.knuth.specs.Listing.{Chosen, Choosable, Tryable, emitAll, knuthBelow, knuthRows}
+use Rattle.knuth.proofs.ChosenLaws.{all-fill, row-number, row-small, chosen-next, room-next}
+use Rattle.knuth.proofs.CycleLaws.{path-longer, leaf, none, below-rows, no-rows, stops, goes-on}
+
+module _ (d : Dims) (work images scans kinds pieces : List ℕ) where
+  abbrev S : System
+  S = systemIn d work images scans kinds pieces
+
+  size-is : S .size ≡ d .cells
+  unfolding systemIn
+  size-is = refl
+
+  rows-are : length (S .rows) ≡ d .rows
+  unfolding systemIn rowsIn
+  rows-are = length-map (below (d .rows)) (rowAt work) ∙ length-below (d .rows)
+
+  pub to-seek : {w : World} {unc : ℕ → Bool} {cp : ℕ → ℕ} {left : ℕ} {m : List ℕ} → Seek w unc cp (d .cells) left m → Seek w unc cp (S .size) left m
+  unfolding systemIn
+  to-seek q = q
+
+  pub of-seek : {w : World} {unc : ℕ → Bool} {cp : ℕ → ℕ} {left : ℕ} {m : List ℕ} → Seek w unc cp (S .size) left m → Seek w unc cp (d .cells) left m
+  unfolding systemIn
+  of-seek q = q
+
+  to-at : {w : World} {c k : ℕ} → At w (d .cells) c k → At w (S .size) c k
+  unfolding systemIn
+  to-at q = q
+
+  -- ---- choosing a column
+  pub leaf-fills : {m : List ℕ} {left : ℕ} {rs : List ℕ} → Choosable S m left rs → Fillable S rs
+  leaf-fills p = all-fill S (p .seek) (p .chosen)
+
+  pub column-tryable : {m : List ℕ} {left : ℕ} {rs : List ℕ} → Choosable S m left rs → (left ≡ 0 → ⊥) → (c : ℕ) → c ≡ pivot (cnt m) (d .cells) → (c ≡ 4096 → ⊥) → (k : ℕ) → k ≡ getD m (4096 + c) 0
+      → Tryable S m left c k rs
+  unfolding systemIn
+  column-tryable p nz c ec cf k ek = record { w = p .w; unc = p .unc; cp = p .cp; seek = p .seek; stand = choose-at (p .seek) nz c ec cf k ek; chosen = p .chosen }
+
+  module _ (i : Identify) (capacity : ℕ) {w : World} {unc : ℕ → Bool} {cp : ℕ → ℕ} {left : ℕ} {m : List ℕ} (q : Seek w unc cp (d .cells) left m) (rs : List ℕ) (before : Emitted) where
+    pub found-leaf : (after : Emitted) (g : ℕ) → left < g → left ≡ 0 → after ≡ emitKept S i capacity rs before → after ≡ emitAll S i capacity (knuthBelow S rs g w cp left) before
+    found-leaf after g h z e = e ∙ leaf S i capacity (to-seek q) rs g h z before
+
+    module _ (nz : left ≡ 0 → ⊥) (c : ℕ) (ec : c ≡ pivot (cnt m) (d .cells)) where
+      column-is : c ≡ pivot (cnt m) (S .size)
+      column-is = ec ∙ ap (pivot (cnt m)) (sym size-is)
+
+      pub found-none : c ≡ 4096 → (g : ℕ) → left < g → before ≡ emitAll S i capacity (knuthBelow S rs g w cp left) before
+      found-none cf g h = none S i capacity (to-seek q) rs nz c column-is cf g h before
+
+      pub found-rows : (after : Emitted) → (c ≡ 4096 → ⊥) → (k : ℕ) → k ≡ getD m (4096 + c) 0 → w .t ≡ tableOf S
+          → ((w : World) (unc : ℕ → Bool) (cp : ℕ → ℕ) (g : ℕ) → Seek w unc cp (d .cells) left m → At w (d .cells) c k → w .t ≡ tableOf S → left ≤ g → after ≡ emitAll S i capacity (knuthRows S rs g w cp left c k) before)
+          → (g : ℕ) → left < g → after ≡ emitAll S i capacity (knuthBelow S rs g w cp left) before
+      found-rows after cf k ek isT f zero h = absurd (omega arith)
+      found-rows after cf k ek isT f (suc g) h =
+          f w unc cp g q (choose-at q nz c ec cf k ek) isT (omega arith)
+          ∙ ap (λ (l : List (List ℕ)). emitAll S i capacity l before) (sym (below-rows S i capacity (to-seek q) rs nz c column-is cf k ek g h))
+
+  pub found-head : (i : Identify) (capacity : ℕ) {w : World} {unc : ℕ → Bool} {cp : ℕ → ℕ} {left : ℕ} {m : List ℕ} (q : Seek w unc cp (d .cells) left m) (rs : List ℕ) (before : Emitted) (c k : ℕ) → k ≡ c → (g : ℕ)
+      → before ≡ emitAll S i capacity (knuthRows S rs g w cp left c k) before
+  found-head i capacity q rs before c k kc g = no-rows S i capacity (to-seek q) rs c k kc g before
+
+  -- ---- trying the row of k
+  pub path-same : {path : List ℕ} {n : ℕ} → OfRows d path n → (after : List ℕ) → length after ≡ length path → take n after ≡ take n path → OfRows d after n
+  path-same {path} {n} isRows after e same =
+      record { within = (let a = isRows .within in omega arith); few = isRows .few; areRows = subst (λ (l : List ℕ). T (all (λ r. ltb r (d .rows)) l)) (sym same) (isRows .areRows) }
+
+  module _ (law : Lawful S) (path : List ℕ) (n : ℕ) (long : length path ≡ 128) (isRows : OfRows d path n) {m : List ℕ} {left c k : ℕ} (p : Tryable S m left c k (take n path)) (kc : k ≡ c → ⊥) where
+    abbrev live : p .w .liv k ≡ true
+    live = try-live (p .seek) (p .stand) kc
+
+    module _ (cells : ℕ) (en : cells ≡ getD m (16384 + k) 0 - getD m (12288 + k) 0 - 1) where
+      pub path-room : n + 1 ≤ 128
+      path-room =
+          let a = room-next S (p .seek) (p .chosen) live cells (try-sub (p .seek) (p .stand) kc cells en) in
+          let b = length-take n path in
+          let e = isRows .within in
+          let f = law .fewCells in
+          omega arith
+
+      module _ (r : ℕ) (er : r ≡ getD m (28672 + k) 0) where
+        row-is : r ≡ tableOf S .row k
+        row-is = er ∙ row-number S (p .seek) (p .chosen .isTable) k live
+
+        row-in : r < length (S .rows)
+        row-in = subst (λ (i : ℕ). i < length (S .rows)) (sym row-is) (row-small S (p .seek) (p .chosen) live)
+
+        pub row-bound : r < 1024
+        row-bound = let a = row-in in let b = law .fewRows in omega arith
+
+        longer : take (n + 1) (set path n r) ≡ take n path ++ (r ∷ [])
+        longer = let a = path-room in path-longer path n r (omega arith)
+
+        pub path-rows : OfRows d (set path n r) (n + 1)
+        path-rows =
+            let a = path-room in
+            record {
+              within = (let b = length-set path n r in omega arith);
+              few = a;
+              areRows = subst (λ (l : List ℕ). T (all (λ r. ltb r (d .rows)) l)) (sym longer) (all-of (λ r. ltb r (d .rows)) (take n path ++ (r ∷ [])) (λ x i. one x i));
+            }
+          where
+            one : (x : ℕ) → List·Memᴰ x (take n path ++ (r ∷ [])) → T (ltb x (d .rows))
+            one x i =
+                ⊎-elim (λ (j : List·Memᴰ x (take n path)). all-at (λ r. ltb r (d .rows)) (take n path) (isRows .areRows) j)
+                (λ (j : List·Memᴰ x (r ∷ [])). let e = List·Memᴰ·eq-of-singleton j in let a = row-in in let b = rows-are in lt→ltb x (d .rows) (omega arith))
+                (List·Memᴰ·append-cases (take n path) i)
+
+        module _ (m₁ : List ℕ) (g₁ : (w : World) (unc : ℕ → Bool) (cp : ℕ → ℕ) (cells left : ℕ) → Seek w unc cp cells left m → w .liv k ≡ true → m₁ ≡ selected w cp k m) where
+          pub row-choosable : Choosable S m₁ (left - cells) (take (n + 1) (set path n r))
+          row-choosable =
+              record {
+                w = worldTo (p .w) (start (p .w .t) (p .cp) k) (p .w .t .hi k - start (p .w .t) (p .cp) k);
+                unc = sel-unc (p .seek) k live;
+                cp = spend (p .w .t) (p .cp) k;
+                seek = try-seek (p .seek) (p .stand) kc cells en m₁ g₁;
+                chosen = subst (λ (l : List ℕ). Chosen S (worldTo (p .w) (start (p .w .t) (p .cp) k) (p .w .t .hi k - start (p .w .t) (p .cp) k)) (spend (p .w .t) (p .cp) k) (left - cells) l)
+                    (sym (longer ∙ ap (λ (i : ℕ). take n path ++ (i ∷ [])) row-is))
+                    (chosen-next S (p .seek) (p .chosen) live cells (try-sub (p .seek) (p .stand) kc cells en));
+              }
+
+          module _ (i : Identify) (capacity : ℕ) {w : World} {unc : ℕ → Bool} {cp : ℕ → ℕ} (q : Seek w unc cp (d .cells) left m) (st : At w (d .cells) c k) (isT : w .t ≡ tableOf S) (before after : Emitted)
+              (f : (w : World) (unc : ℕ → Bool) (cp : ℕ → ℕ) (g : ℕ) → Seek w unc cp (d .cells) (left - cells) m₁ → w .t ≡ tableOf S → left - cells < g
+              → after ≡ emitAll S i capacity (knuthBelow S (take (n + 1) (set path n r)) g w cp (left - cells)) before) (g : ℕ) (h : left ≤ g) where
+            is-longer : take (n + 1) (set path n r) ≡ take n path ++ (tableOf S .row k ∷ [])
+            is-longer = longer ∙ ap (λ (i : ℕ). take n path ++ (i ∷ [])) row-is
+
+            pub found-stop : after .further ≡ true → after ≡ emitAll S i capacity (knuthRows S (take n path) g w cp left c k) before
+            found-stop done =
+                stops S i capacity (to-seek q) (take n path) (to-at st) kc cells en m₁ g₁ (take (n + 1) (set path n r)) is-longer isT before after (λ w unc cp g u. f w unc cp g (of-seek u)) done g h
+
+            pub found-on : (m₃ : List ℕ) → m₃ ≡ m → (k′ : ℕ) → k′ ≡ getD m₃ (4096 + k) 0 → (rs : List ℕ) → rs ≡ take n path → (end : Emitted)
+                → ((w : World) (unc : ℕ → Bool) (cp : ℕ → ℕ) (g : ℕ) → Seek w unc cp (d .cells) left m₃ → At w (d .cells) c k′ → w .t ≡ tableOf S → left ≤ g → end ≡ emitAll S i capacity (knuthRows S rs g w cp left c k′) after)
+                → end ≡ emitAll S i capacity (knuthRows S (take n path) g w cp left c k) before
+            found-on m₃ back k′ ek rs same end rest =
+                goes-on S i capacity (to-seek q) (take n path) (to-at st) kc cells en m₁ g₁ (take (n + 1) (set path n r)) is-longer isT before after (λ w unc cp g u. f w unc cp g (of-seek u)) m₃ back k′ ek end g h
+                (rest w unc cp g (subst (λ (l : List ℕ). Seek w unc cp (d .cells) left l) (sym back) q) (try-at q st kc m₃ back k′ ek) isT h
+                ∙ ap (λ (l : List ℕ). emitAll S i capacity (knuthRows S l g w cp left c k′) after) same)
+
+    pub next-tryable : (m₃ : List ℕ) → m₃ ≡ m → (k′ : ℕ) → k′ ≡ getD m₃ (4096 + k) 0 → (rs : List ℕ) → rs ≡ take n path → Tryable S m₃ left c k′ rs
+    next-tryable m₃ back k′ ek rs same =
+        record {
+          w = p .w;
+          unc = p .unc;
+          cp = p .cp;
+          seek = subst (λ (l : List ℕ). Seek (p .w) (p .unc) (p .cp) (S .size) left l) (sym back) (p .seek);
+          stand = try-at (p .seek) (p .stand) kc m₃ back k′ ek;
+          chosen = subst (λ (l : List ℕ). Chosen S (p .w) (p .cp) left l) (sym same) (p .chosen);
+        }

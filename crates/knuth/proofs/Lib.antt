@@ -1,0 +1,11 @@
+pub mod TableOfLaws
+pub mod KnuthPivotLaws
+pub mod KnuthStateLaws
+pub mod KnuthListLaws
+pub mod ChosenLaws
+pub mod CycleLaws
+pub mod CycleStepLaws
+pub mod LaidLaws
+pub mod BuildingLaws
+pub mod KnuthFoundLaws
+pub mod KnuthPageLaws

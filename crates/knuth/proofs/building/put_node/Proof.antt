@@ -1,0 +1,85 @@
+-- `knuth::building::put_node` meets its contract: four stores, one into each of the node's fields. Assumes nothing.
+use native.Mathlib.Omega.{arith}
+use denote.Ref.{now}
+use lib.ListN.{length-set}
+use Rattle.knuth.proofs.LaidLaws.{laid-one}
+use borrow.Author.Needs.{needs}
+use Rattle.knuth.proofs.building.put_node.Statement.{statement}
+use Rattle.knuth.proofs.building.put_node.Tie as tie
+
+cast-links : tie.Need-cast-links
+cast-links c = search needs
+
+add-links : tie.Need-add-links
+add-links c = search needs
+
+mul-links : tie.Need-mul-links
+mul-links c = search needs
+
+slice-write-links : tie.Need-slice-write-links
+slice-write-links c = search needs
+
+cast-links-2 : tie.Need-cast-links-2
+cast-links-2 c = search needs
+
+add-links-2 : tie.Need-add-links-2
+add-links-2 c = search needs
+
+mul-links-2 : tie.Need-mul-links-2
+mul-links-2 c = search needs
+
+slice-write-links-2 : tie.Need-slice-write-links-2
+slice-write-links-2 c = simp length-set (omega arith)
+
+cast-links-3 : tie.Need-cast-links-3
+cast-links-3 c = search needs
+
+add-links-3 : tie.Need-add-links-3
+add-links-3 c = search needs
+
+mul-links-3 : tie.Need-mul-links-3
+mul-links-3 c = search needs
+
+slice-write-links-3 : tie.Need-slice-write-links-3
+slice-write-links-3 c = simp length-set (omega arith)
+
+cast-links-4 : tie.Need-cast-links-4
+cast-links-4 c = search needs
+
+add-links-4 : tie.Need-add-links-4
+add-links-4 c = search needs
+
+mul-links-4 : tie.Need-mul-links-4
+mul-links-4 c = search needs
+
+slice-write-links-4 : tie.Need-slice-write-links-4
+slice-write-links-4 c = simp length-set (omega arith)
+
+same-length : tie.Need-same-length
+same-length c = search needs
+
+returns : tie.Need-returns
+returns c = let a = c .args in laid-one (now (a .links)) (a .x) (a .column) (a .first) (a .end) (a .row) (omega arith) (omega arith)
+
+pub put-node-spec : {M : Type 1} → statement M
+put-node-spec =
+    tie.close
+    (tie.spec
+    cast-links
+    add-links
+    mul-links
+    slice-write-links
+    cast-links-2
+    add-links-2
+    mul-links-2
+    slice-write-links-2
+    cast-links-3
+    add-links-3
+    mul-links-3
+    slice-write-links-3
+    cast-links-4
+    add-links-4
+    mul-links-4
+    slice-write-links-4
+    same-length
+    returns)

@@ -1,0 +1,153 @@
+// The links of a row system: heads of cells and kinds, then for each row of a kind that has copies a node for its kind and one for each of its cells.
+ghost use mathlib.Core.List.{[], _∷_, map};
+ghost use mathlib.Core.Path.{_≡_};
+ghost use Prim.Native.Nat.{ℕ, suc, _+_, _*_, _≤_, _<_};
+ghost use lib.ListN.{getD, length};
+ghost use Rattle.definitions.specs.Lists.{below, howMany, keep};
+ghost use Rattle.masks.specs.Masks.{has};
+ghost use Rattle.rows.specs.Rows.{maskAt, rowAt};
+ghost use Rattle.rows.specs.Systems.{systemIn};
+ghost use Rattle.kept.specs.Ready.{Ready};
+ghost use Rattle.knuth.specs.Tables.{Laid, StockLaid, columns, headNodes, linkNodes, nodesFrom, rowNodes, stockedRows};
+ghost use Rattle.knuth.specs.Listing.{Begun};
+use masks::Mask;
+use rows::Dims;
+use rows::table;
+
+// The fields of node x that stay as they are.
+fn put_node(links: &mut [u16], x: usize, column: usize, first: usize, end: usize, row: usize)
+    requires { ⌜ (32768 ≤ length (now links)) × (x < 4096) × (column < 4096) × (first < 4096) × (end ≤ 4096) × (row < 4096) ⌝ }
+    ensures { λ _. ⌜ Laid (now (links .entry)) x (now (links .exit)) (record { col = column; lo = first; hi = end; row = row } ∷ []) ⌝ }
+{
+    links[8192 + x] = column as u16;
+    links[12288 + x] = first as u16;
+    links[16384 + x] = end as u16;
+    links[28672 + x] = row as u16;
+}
+
+// The heads of n columns.
+fn put_heads(links: &mut [u16], n: usize)
+    requires { ⌜ (32768 ≤ length (now links)) × (n < 4096) ⌝ }
+    ensures { λ _. ⌜ Laid (now (links .entry)) 0 (now (links .exit)) (headNodes n) ⌝ }
+{
+    let mut j = 0;
+    while j < n {
+        put_node(links, j, j, j, j + 1, 0);
+        j += 1;
+    }
+}
+
+// How many of the first n cells are in a mask.
+fn count_cells(mask: Mask, n: usize) -> usize
+    requires { ⌜ n ≤ 128 ⌝ }
+    ensures { λ r. ⌜ (r ≡ howMany (has mask) (below n)) × (r ≤ n) ⌝ }
+{
+    let mut count = 0;
+    let mut c = 0;
+    while c < n {
+        if mask.has_cell(c) {
+            count += 1;
+        }
+        c += 1;
+    }
+    count
+}
+
+// Nodes for the cells of a mask, from node x on; the row's nodes are those from `first` to below `end`.
+fn put_cells(
+    links: &mut [u16],
+    mask: Mask,
+    n: usize,
+    x: usize,
+    first: usize,
+    end: usize,
+    row: usize,
+)
+    requires { ⌜ (32768 ≤ length (now links)) × (n ≤ 128) × (first < 4096) × (end ≤ 4096) × (row < 4096) × (x + howMany (has mask) (below n) ≤ 4096) ⌝ }
+    ensures { λ _. ⌜ Laid (now (links .entry)) x (now (links .exit)) (map (λ c. record { col = c; lo = first; hi = end; row = row }) (keep (has mask) (below n))) ⌝ }
+{
+    let mut at = x;
+    let mut c = 0;
+    while c < n {
+        if mask.has_cell(c) {
+            put_node(links, at, c, first, end, row);
+            at += 1;
+        }
+        c += 1;
+    }
+}
+
+// The nodes of row r from node x on; and the node behind them.
+fn put_row(d: Dims, work: &[u64], links: &mut [u16], x: usize, r: usize) -> usize
+    requires { ⌜ (32768 ≤ length (now links)) × (8 * r + 8 ≤ length (now work)) × (r < 4096) × (d .cells ≤ 128) × (d .cells + rowAt (now work) r .kind < 4096) × (x + suc (howMany (has (maskAt (now work) r)) (below (d .cells))) ≤ 4096) ⌝ }
+    ensures { λ y. ⌜ (y ≡ x + suc (howMany (has (maskAt (now (work .entry)) r)) (below (d .cells)))) × Laid (now (links .entry)) x (now (links .exit)) (rowNodes (d .cells) x r (rowAt (now (work .entry)) r .kind) (keep (has (maskAt (now (work .entry)) r)) (below (d .cells)))) ⌝ }
+{
+    let mask = table::mask_at(work, r);
+    let end = x + 1 + count_cells(mask, d.cells);
+    put_node(links, x, d.cells + table::kind_at(work, r), x, end, r);
+    put_cells(links, mask, d.cells, x + 1, x, end, r);
+    end
+}
+
+// The copies of kinds, by their columns; none for the columns of cells.
+fn put_copies(d: Dims, kinds: &[u8], links: &mut [u16])
+    requires { ⌜ (32768 ≤ length (now links)) × (d .cells ≤ 128) × (d .kinds ≤ 16) × (2 * d .kinds ≤ length (now kinds)) ⌝ }
+    ensures { λ _. ⌜ StockLaid (now (links .entry)) (now (links .exit)) (d .cells) (d .kinds) (now (kinds .entry)) ⌝ }
+{
+    let mut j = 0;
+    while j < d.cells + d.kinds {
+        if j < d.cells {
+            links[24576 + j] = 0;
+        } else {
+            links[24576 + j] = kinds[2 * (j - d.cells)] as u16;
+        }
+        j += 1;
+    }
+}
+
+// The nodes of all rows of kinds that have copies, behind the heads; and how many nodes there are.
+fn put_rows(
+    d: Dims,
+    work: &[u64],
+    heads: &[u16],
+    images: &[u8],
+    scans: &[u8],
+    kinds: &[u8],
+    pieces: &[u8],
+    links: &mut [u16],
+) -> usize
+    requires { ⌜ Ready d (now work) (now heads) (now images) (now scans) (now kinds) (now pieces) × (32768 ≤ length (now links)) × (length (linkNodes (systemIn d (now work) (now images) (now scans) (now kinds) (now pieces))) ≤ 4096) ⌝ }
+    ensures { λ n. ⌜ (n ≡ length (linkNodes (systemIn d (now (work .entry)) (now (images .entry)) (now (scans .entry)) (now (kinds .entry)) (now (pieces .entry))))) × Laid (now (links .entry)) (columns (systemIn d (now (work .entry)) (now (images .entry)) (now (scans .entry)) (now (kinds .entry)) (now (pieces .entry)))) (now (links .exit)) (nodesFrom (systemIn d (now (work .entry)) (now (images .entry)) (now (scans .entry)) (now (kinds .entry)) (now (pieces .entry))) (columns (systemIn d (now (work .entry)) (now (images .entry)) (now (scans .entry)) (now (kinds .entry)) (now (pieces .entry)))) (stockedRows (systemIn d (now (work .entry)) (now (images .entry)) (now (scans .entry)) (now (kinds .entry)) (now (pieces .entry))))) ⌝ }
+{
+    let mut x = d.cells + d.kinds;
+    let mut r = 0;
+    while r < d.rows {
+        let kind = table::kind_at(work, r);
+        if 0 < kinds[2 * kind] {
+            x = put_row(d, work, links, x, r);
+        }
+        r += 1;
+    }
+    x
+}
+
+// The links of a row system, every row possible.
+pub fn build_links(
+    d: Dims,
+    work: &[u64],
+    heads: &[u16],
+    images: &[u8],
+    scans: &[u8],
+    kinds: &[u8],
+    pieces: &[u8],
+    links: &mut [u16],
+)
+    requires { ⌜ Ready d (now work) (now heads) (now images) (now scans) (now kinds) (now pieces) × (32768 ≤ length (now links)) × (length (linkNodes (systemIn d (now work) (now images) (now scans) (now kinds) (now pieces))) ≤ 4096) ⌝ }
+    ensures begun { λ _. ⌜ Begun (systemIn d (now (work .entry)) (now (images .entry)) (now (scans .entry)) (now (kinds .entry)) (now (pieces .entry))) (now (links .exit)) ⌝ }
+    ensures behind { λ _. ⌜ ((i : ℕ) → 32768 ≤ i → getD (now (links .exit)) i 0 ≡ getD (now (links .entry)) i 0) ⌝ }
+{
+    put_heads(links, d.cells + d.kinds);
+    put_copies(d, kinds, links);
+    let nodes = put_rows(d, work, heads, images, scans, kinds, pieces, links);
+    links::link_all(links, d.cells, d.cells + d.kinds, nodes);
+}
