@@ -41,6 +41,22 @@ extern "C" {
         work: *mut u64,
         words: usize,
     ) -> Answer;
+
+    fn ferghuul_knuth_page(
+        t: Table,
+        board: Record,
+        bytes: *const u8,
+        byte_count: usize,
+        turned: bool,
+        mirrored: bool,
+        skip: u64,
+        answers: *mut u8,
+        answer_bytes: usize,
+        work: *mut u64,
+        words: usize,
+        links: *mut u16,
+        numbers: usize,
+    ) -> Answer;
 }
 
 /// What a call lends.
@@ -79,22 +95,40 @@ impl Lent {
         2 * self.board.a * self.board.b * self.board.c
     }
 
-    pub fn page(&self, skip: u64, answers: &mut [u8], work: &mut [u64]) -> Answer {
-        assert!(self.engine == Engine::Fast);
+    /// A page of the tray's engine. Fast takes no links.
+    pub fn page(&self, skip: u64, answers: &mut [u8], work: &mut [u64], links: &mut [u16]) -> Answer {
         unsafe {
-            ferghuul_fast_page(
-                self.table,
-                self.board,
-                self.bytes.as_ptr(),
-                self.bytes.len(),
-                self.turned,
-                self.mirrored,
-                skip,
-                answers.as_mut_ptr(),
-                answers.len(),
-                work.as_mut_ptr(),
-                work.len(),
-            )
+            match self.engine {
+                Engine::Fast => ferghuul_fast_page(
+                    self.table,
+                    self.board,
+                    self.bytes.as_ptr(),
+                    self.bytes.len(),
+                    self.turned,
+                    self.mirrored,
+                    skip,
+                    answers.as_mut_ptr(),
+                    answers.len(),
+                    work.as_mut_ptr(),
+                    work.len(),
+                ),
+                Engine::Knuth => ferghuul_knuth_page(
+                    self.table,
+                    self.board,
+                    self.bytes.as_ptr(),
+                    self.bytes.len(),
+                    self.turned,
+                    self.mirrored,
+                    skip,
+                    answers.as_mut_ptr(),
+                    answers.len(),
+                    work.as_mut_ptr(),
+                    work.len(),
+                    links.as_mut_ptr(),
+                    links.len(),
+                ),
+                Engine::Auto | Engine::Naive => panic!("no page call of this engine"),
+            }
         }
     }
 }

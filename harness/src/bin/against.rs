@@ -13,11 +13,13 @@ use oracle::tray::{self, Engine};
 const STAIN: u8 = 170;
 const WORD_STAIN: u64 = 0xAAAA_AAAA_AAAA_AAAA;
 const WORDS: usize = 8_200;
+const LINK_STAIN: u16 = 0xAAAA;
+const NUMBERS: usize = 32_776;
 
 fn main() -> io::Result<ExitCode> {
     let mut stream = vec![];
     io::stdin().read_to_end(&mut stream)?;
-    let (mut rest, mut held, mut pages, mut differences) = (&stream[..], 0, 0, 0);
+    let (mut rest, mut held, mut pages, mut differences) = (&stream[..], [0; 2], 0, 0);
     while !rest.is_empty() {
         let end = rest.iter().position(|&byte| byte == b'\n').unwrap();
         let header = String::from_utf8_lossy(&rest[..end]).to_string();
@@ -30,11 +32,8 @@ fn main() -> io::Result<ExitCode> {
         let Some(tray) = tray::parse(file, tray::config_of_file) else {
             continue;
         };
-        if tray.config.engine != Engine::Fast {
-            continue;
-        }
-        held += 1;
-        let mut random = Random::new(held, 1);
+        held[usize::from(tray.config.engine == Engine::Knuth)] += 1;
+        let mut random = Random::new(held[0], held[1]);
         match hold(&Lent::new(&tray), expected, &mut random) {
             Ok(count) => pages += count,
             Err(what) => {
@@ -43,7 +42,8 @@ fn main() -> io::Result<ExitCode> {
             }
         }
     }
-    println!("{held} trays, {pages} pages, {differences} differences");
+    let [fast, knuth] = held;
+    println!("{fast} trays of fast and {knuth} of knuth, {pages} pages, {differences} differences");
     Ok(if differences == 0 {
         ExitCode::SUCCESS
     } else {
@@ -98,12 +98,17 @@ fn hold(lent: &Lent, expected: &str, random: &mut Random) -> Result<usize, Strin
 fn ask(lent: &Lent, skip: u64, room: usize, extra: usize) -> Result<(Vec<u8>, harness::Answer), String> {
     let mut answers = vec![STAIN; room * lent.size() + extra];
     let mut work = vec![WORD_STAIN; WORDS];
-    let answer = lent.page(skip, &mut answers, &mut work);
-    let cleared = if answer.number == 0 { 8_192 } else { 0 };
+    let mut links = vec![LINK_STAIN; NUMBERS];
+    let answer = lent.page(skip, &mut answers, &mut work, &mut links);
+    let is_accepted = answer.number == 0;
+    let cleared = if is_accepted { 8_192 } else { 0 };
+    let unlinked = if is_accepted && lent.engine == Engine::Knuth { 32_768 } else { 0 };
     let behind = answer.written * lent.size();
     let is_kept = answers[behind..].iter().all(|&byte| byte == STAIN)
         && work[..cleared].iter().all(|&word| word == 0)
-        && work[cleared..].iter().all(|&word| word == WORD_STAIN);
+        && work[cleared..].iter().all(|&word| word == WORD_STAIN)
+        && links[..unlinked].iter().all(|&link| link == 0)
+        && links[unlinked..].iter().all(|&link| link == LINK_STAIN);
     if is_kept {
         Ok((answers, answer))
     } else {

@@ -5,20 +5,26 @@ use std::time::{Duration, Instant};
 
 use harness::{box_cells, Lent};
 use oracle::listing;
-use oracle::tray::{self, Tray};
+use oracle::tray::{self, Config, Engine, Tray};
 
 const RUNS: usize = 9;
 
 fn main() {
     listing::silence_panics();
-    println!("tray\tidentified\tpackings\toriginal ms\tpage ms\tratio");
+    println!("tray\tengine\tidentified\tpackings\toriginal ms\tpage ms\tratio");
     for path in std::env::args().skip(1) {
         let file = std::fs::read(&path).unwrap();
         let given = tray::parse(&file, tray::config_of_file).unwrap();
         for (name, turned, mirrored) in [("none", false, false), ("turned", true, false), ("mirrored", true, true)] {
-            let mut tray = given.clone();
-            (tray.config.turned, tray.config.mirrored) = (turned, mirrored);
-            race(&path, name, &tray);
+            for engine in [Engine::Fast, Engine::Knuth] {
+                let mut tray = given.clone();
+                tray.config = Config {
+                    engine,
+                    turned,
+                    mirrored,
+                };
+                race(&path, &format!("{engine:?}\t{name}"), &tray);
+            }
         }
     }
 }
@@ -29,7 +35,8 @@ fn race(path: &str, name: &str, tray: &Tray) {
     let total = expected.lines().count() - 1;
     let mut answers = vec![0; total * lent.size()];
     let mut work = vec![0; 8_192];
-    let found = lent.page(0, &mut answers, &mut work);
+    let mut links = vec![0; 32_768];
+    let found = lent.page(0, &mut answers, &mut work, &mut links);
     assert_eq!((found.number, found.written, found.further), (0, total, false), "{path} {name}");
     let mut lines = String::new();
     for (entry, bytes) in answers.chunks(lent.size()).enumerate() {
@@ -40,7 +47,7 @@ fn race(path: &str, name: &str, tray: &Tray) {
     let (mut original, mut page) = (vec![], vec![]);
     for _ in 0..RUNS {
         original.push(timed(|| oracle::listing::count_of_original(tray)));
-        page.push(timed(|| lent.page(0, &mut answers, &mut work).written));
+        page.push(timed(|| lent.page(0, &mut answers, &mut work, &mut links).written));
     }
     let (original, page) = (middle(original), middle(page));
     println!("{path}\t{name}\t{total}\t{original:.2}\t{page:.2}\t{:.2}", page / original);
