@@ -107,9 +107,9 @@ def problem_of(records, data):
 def show(call):
     number = refusal(call)
     if call[6] == 2:
-        return pages(call, number)
+        return pages(call)
     if number:
-        return [f"refused {number}"] + pages(call, number)
+        return [f"refused {number}"] + pages(call)
     records, data = call[7], call[8]
     problem = problem_of(records, data)
     size, kinds = len(problem.scanned), len(problem.kinds)
@@ -143,27 +143,29 @@ def show(call):
     for number, row in rows[:12] + (rows[-1:] if len(rows) > 12 else []):
         cells = [cell for cell in range(128) if row.covers >> cell & 1]
         lines.append(words("row", [number, row.kind, *row.place, *cells]))
-    return lines + pages(call, 0)
+    return lines + pages(call)
 
 
-def pages(call, number):
-    """The pages of Fast's list: three entries at a time, at most 20 times; then room
-    for none, from the end on, and at the largest skip."""
+def pages(call):
+    """The pages of both engines' lists: three entries at a time, at most 20 times; then
+    room for none, from the end on, and at the largest skip."""
     if not call[6]:
         return []
-    # asked of Fast whatever the engine: other engines' refusals are not its own
-    call = changed(call, engine=FAST)
+    return engine_pages("fast", changed(call, engine=FAST)) + engine_pages("knuth", changed(call, engine=KNUTH))
+
+
+def engine_pages(engine, call):
     number = refusal(call)
     if number:
-        return [f"page refused {number}"]
+        return [f"{engine}: refused {number}"]
     problem = problem_of(call[7], call[8])
-    entries = [answer_bytes(answer) for answer in problem.list("fast", identified(call))]
+    entries = [answer_bytes(answer) for answer in problem.list(engine, identified(call))]
     total = 0
     for entry in entries[:60]:
         for byte in entry:
             total = (total * 257 + byte + 1) % 4294967291
     more = " further" if len(entries) > 60 else ""
-    lines = [f"listed {min(60, len(entries))}{more} sum {total}"]
+    lines = [f"{engine}: listed {min(60, len(entries))}{more} sum {total}"]
     lines.append("room for none 0" + (" further" if entries else ""))
     if len(entries) <= 60:
         lines += ["past the end 0", "at the last skip 0"]

@@ -1,5 +1,5 @@
 // Reads calls from standard input, each as numbers, and prints the refusal of each, or its row system: sizes, kinds, pieces, what the allowed maps do to
-// cells on smaller boards, and rows; for some calls pages of Fast's list too. The stored output is the oracle's (oracle/replay.py).
+// cells on smaller boards, and rows; for some calls pages of both engines' lists too. The stored output is the oracle's (oracle/replay.py).
 ghost use Prim.Native.Nat.{_+_, _*_, _≤_};
 ghost use lib.ListN.{length};
 ghost use Rattle.placements.specs.Counting.{Accepted9};
@@ -358,6 +358,39 @@ fn show(t: Table, board: Record, bytes: &[u8], config: Config, work: usize, link
     }
 }
 
+// The pages of both engines.
+fn show_engines(
+    t: Table,
+    board: Record,
+    bytes: &[u8],
+    config: Config,
+    words: usize,
+    numbers: usize,
+) {
+    pages::show_pages(
+        t,
+        board,
+        bytes,
+        config,
+        pages::Asked {
+            knuth: false,
+            words,
+            numbers,
+        },
+    );
+    pages::show_pages(
+        t,
+        board,
+        bytes,
+        config,
+        pages::Asked {
+            knuth: true,
+            words,
+            numbers,
+        },
+    );
+}
+
 // The call that stands from i on; and where the next begins.
 fn call(text: &[u8], i: usize, bytes: &mut [u8]) -> usize {
     let n = number(text, i);
@@ -393,7 +426,14 @@ fn call(text: &[u8], i: usize, bytes: &mut [u8]) -> usize {
             );
         }
         if 0 < paged.value {
-            pages::show_pages(table, board.record, &bytes[..k], config, work.value);
+            show_engines(
+                table,
+                board.record,
+                &bytes[..k],
+                config,
+                work.value,
+                links.value,
+            );
         }
     }
     cells.next

@@ -5,13 +5,16 @@ use super::word;
 use definitions::Config;
 use definitions::Listing;
 use definitions::Record;
-use fast::page;
+use fast::page as fast_page;
+use knuth::page as knuth_page;
 use placements::Table;
 
 // What slices hold before a call.
 const STAIN: u8 = 170;
 
 const WORD_STAIN: u64 = 12297829382473034410;
+
+const LINK_STAIN: u16 = 43690;
 
 // Whether the bytes from i on are as they were.
 fn is_stained(bytes: &[u8], i: usize) -> bool {
@@ -31,6 +34,19 @@ fn is_cleared(words: &[u64], n: usize) -> bool {
     while k < words.len() {
         let w = if k < n { 0 } else { WORD_STAIN };
         if words[k] != w {
+            return false;
+        }
+        k += 1;
+    }
+    true
+}
+
+// Whether the first n links are 0 and the others as they were.
+fn are_links_cleared(links: &[u16], n: usize) -> bool {
+    let mut k = 0;
+    while k < links.len() {
+        let l = if k < n { 0 } else { LINK_STAIN };
+        if links[k] != l {
             return false;
         }
         k += 1;
@@ -77,7 +93,7 @@ fn both(a: bool, b: bool) -> bool {
     if a { b } else { false }
 }
 
-fn ask(
+fn ask_fast(
     t: Table,
     board: Record,
     bytes: &[u8],
@@ -90,7 +106,7 @@ fn ask(
 ) -> Given {
     let turned = config.identify_transformed_answers;
     let mirrored = config.identify_mirrored_answers;
-    let r = page::page(t, board, bytes, turned, mirrored, skip, answers, work);
+    let r = fast_page::page(t, board, bytes, turned, mirrored, skip, answers, work);
     match r {
         Listing::Refused(why) => Given {
             refused: definitions::refusal_number(why) as usize,
@@ -112,8 +128,60 @@ fn ask(
     }
 }
 
-// A page with room for so many bytes, at most 4,096, in a work slice of so many words, at most 8,200.
-fn one_page(
+fn ask_knuth(
+    t: Table,
+    board: Record,
+    bytes: &[u8],
+    config: Config,
+    skip: u64,
+    answers: &mut [u8],
+    work: &mut [u64],
+    links: &mut [u16],
+    size: usize,
+    sum: u64,
+) -> Given {
+    let turned = config.identify_transformed_answers;
+    let mirrored = config.identify_mirrored_answers;
+    let r = knuth_page::page(
+        t,
+        board,
+        bytes,
+        turned,
+        mirrored,
+        skip,
+        answers,
+        work,
+        links,
+    );
+    match r {
+        Listing::Refused(why) => Given {
+            refused: definitions::refusal_number(why) as usize,
+            written: 0,
+            further: false,
+            sum,
+            kept: both(
+                both(is_stained(answers, 0), is_cleared(work, 0)),
+                are_links_cleared(links, 0),
+            ),
+        },
+        Listing::Page(written, further) => Given {
+            refused: 0,
+            written,
+            further,
+            sum: sum_bytes(answers, times(written, size), sum),
+            kept: both(
+                both(
+                    is_stained(answers, times(written, size)),
+                    is_cleared(work, 8192),
+                ),
+                are_links_cleared(links, 32768),
+            ),
+        },
+    }
+}
+
+// A page of Fast with room for so many bytes, at most 4,096, in a work slice of so many words, at most 8,200.
+fn one_fast(
     t: Table,
     board: Record,
     bytes: &[u8],
@@ -128,7 +196,7 @@ fn one_page(
     let mut work = [WORD_STAIN; 8200];
     let n = if room < 4096 { room } else { 4096 };
     let w = if words < 8200 { words } else { 8200 };
-    ask(
+    ask_fast(
         t,
         board,
         bytes,
@@ -139,6 +207,75 @@ fn one_page(
         size,
         sum,
     )
+}
+
+// The same of KnuthAlgorithm, with so many links, at most 32,776.
+fn one_knuth(
+    t: Table,
+    board: Record,
+    bytes: &[u8],
+    config: Config,
+    words: usize,
+    numbers: usize,
+    room: usize,
+    skip: u64,
+    size: usize,
+    sum: u64,
+) -> Given {
+    let mut answers = [STAIN; 4096];
+    let mut work = [WORD_STAIN; 8200];
+    let mut links = [LINK_STAIN; 32776];
+    let n = if room < 4096 { room } else { 4096 };
+    let w = if words < 8200 { words } else { 8200 };
+    let l = if numbers < 32776 { numbers } else { 32776 };
+    ask_knuth(
+        t,
+        board,
+        bytes,
+        config,
+        skip,
+        &mut answers[..n],
+        &mut work[..w],
+        &mut links[..l],
+        size,
+        sum,
+    )
+}
+
+// The engine that is asked, and how long the slices are that it works in.
+pub struct Asked {
+    pub knuth: bool,
+    pub words: usize,
+    pub numbers: usize,
+}
+
+fn one_page(
+    t: Table,
+    board: Record,
+    bytes: &[u8],
+    config: Config,
+    asked: Asked,
+    room: usize,
+    skip: u64,
+    size: usize,
+    sum: u64,
+) -> Given {
+    if asked.knuth {
+        one_knuth(
+            t,
+            board,
+            bytes,
+            config,
+            asked.words,
+            asked.numbers,
+            room,
+            skip,
+            size,
+            sum,
+        )
+    } else {
+        one_fast(t, board, bytes, config, asked.words, room, skip, size, sum)
+    }
 }
 
 // An answer's bytes, where the sides are 1 to 8.
@@ -164,7 +301,7 @@ fn show_given(g: Given) {
 }
 
 // Pages of three entries, one behind the other, at most 20 of them.
-fn show_walk(t: Table, board: Record, bytes: &[u8], config: Config, words: usize) -> Given {
+fn show_walk(t: Table, board: Record, bytes: &[u8], config: Config, asked: Asked) -> Given {
     let size = size_of(board);
     let mut all = Given {
         refused: 0,
@@ -180,7 +317,7 @@ fn show_walk(t: Table, board: Record, bytes: &[u8], config: Config, words: usize
             board,
             bytes,
             config,
-            words,
+            asked,
             times(3, size) + 1,
             all.written as u64,
             size,
@@ -211,10 +348,15 @@ fn show_walk(t: Table, board: Record, bytes: &[u8], config: Config, words: usize
 }
 
 // All of these pages of a call, as lines.
-pub fn show_pages(t: Table, board: Record, bytes: &[u8], config: Config, words: usize) {
-    let all = show_walk(t, board, bytes, config, words);
+pub fn show_pages(t: Table, board: Record, bytes: &[u8], config: Config, asked: Asked) {
+    let all = show_walk(t, board, bytes, config, asked);
+    if asked.knuth {
+        word(b"knuth: ");
+    } else {
+        word(b"fast: ");
+    }
     if 0 < all.refused {
-        word(b"page refused");
+        word(b"refused");
         print(all.refused);
         if !all.kept {
             word(b" touched");
@@ -227,7 +369,7 @@ pub fn show_pages(t: Table, board: Record, bytes: &[u8], config: Config, words: 
     word(b" sum");
     print(all.sum as usize);
     word(b"\nroom for none");
-    show_given(one_page(t, board, bytes, config, words, 0, 0, 2, 0));
+    show_given(one_page(t, board, bytes, config, asked, 0, 0, 2, 0));
     if !all.further {
         let size = size_of(board);
         word(b"\npast the end");
@@ -236,7 +378,7 @@ pub fn show_pages(t: Table, board: Record, bytes: &[u8], config: Config, words: 
             board,
             bytes,
             config,
-            words,
+            asked,
             size,
             all.written as u64,
             size,
@@ -248,7 +390,7 @@ pub fn show_pages(t: Table, board: Record, bytes: &[u8], config: Config, words: 
             board,
             bytes,
             config,
-            words,
+            asked,
             size,
             18446744073709551615,
             size,

@@ -50,14 +50,14 @@ slice-aggregate-show c = sym (length-take-le _ _ (c .before .before .before .if2
 show-requires : tie.Need-show-requires
 show-requires c κs = search needs
 
-slice-reshare-prefix-show-pages : tie.Need-slice-reshare-prefix-show-pages
-slice-reshare-prefix-show-pages c = search needs
+slice-reshare-prefix-show-engines : tie.Need-slice-reshare-prefix-show-engines
+slice-reshare-prefix-show-engines c = search needs
 
-slice-aggregate-show-pages : tie.Need-slice-aggregate-show-pages
-slice-aggregate-show-pages c = sym (length-take-le _ _ (c .before .before .before .before .if2 .taken))
+slice-aggregate-show-engines : tie.Need-slice-aggregate-show-engines
+slice-aggregate-show-engines c = sym (length-take-le _ _ (c .before .before .before .before .if2 .taken))
 
-show-pages-requires : tie.Need-show-pages-requires
-show-pages-requires c κs = search needs
+show-engines-requires : tie.Need-show-engines-requires
+show-engines-requires c κs = search needs
 
 same-length : tie.Need-same-length
 same-length c = search needs
@@ -96,9 +96,9 @@ call-spec =
     slice-reshare-prefix-show
     slice-aggregate-show
     show-requires
-    slice-reshare-prefix-show-pages
-    slice-aggregate-show-pages
-    show-pages-requires
+    slice-reshare-prefix-show-engines
+    slice-aggregate-show-engines
+    show-engines-requires
     same-length
     returns
     same-length-2

@@ -5,10 +5,10 @@ use Rattle.replay.proofs.pages.show_walk.Statement.{statement}
 use Rattle.replay.proofs.pages.show_walk.Tie as tie
 
 abbrev Inv-loop : tie.InvT-loop
-Inv-loop t board bytes config words size all₀ left₀ all left = left ≤ 20
+Inv-loop t board bytes config asked size all₀ left₀ all left = left ≤ 20
 
 abbrev μ-loop : tie.MeasureT-loop
-μ-loop t board bytes config words size all₀ left₀ all left = left
+μ-loop t board bytes config asked size all₀ left₀ all left = left
 
 size-of-requires : tie.Need-size-of-requires Inv-loop μ-loop
 size-of-requires c κs = search needs
