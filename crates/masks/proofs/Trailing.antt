@@ -126,7 +126,7 @@ module _ (a b n : ℕ) (low : a < 2 ^ 64) (high : b < 2 ^ 64) where
         stops = λ u. absurd (omega arith);
       }
 
--- ---- the first number in a set: the first that the flipped words leave open
+-- ---- the first number from n on in a set: the first that the flipped words leave open
 hit-flipped : (c k : ℕ) → c < 2 ^ 64 → k < 64 → hit (2 ^ 64 - 1 - c) k ≡ not (hit c k)
 hit-flipped c k l h = ⊎-elim (λ e. rw (hit-no c k e) (hit-yes (2 ^ 64 - 1 - c) k (λ f. omega (arith, flipped c k l h))))
     (λ e. rw (hit-yes c k e) (hit-no (2 ^ 64 - 1 - c) k (omega (arith, flipped c k l h, mod-lt (c / 2 ^ k) (pow-pos 1)))))
@@ -146,10 +146,11 @@ not-back : (x y : Bool) → x ≡ not y → (z : Bool) → x ≡ z → y ≡ not
 not-back x true e z f = ap not (sym e ∙ f)
 not-back x false e z f = ap not (sym e ∙ f)
 
-pub first-in : (a b r : ℕ) → a < 2 ^ 64 → b < 2 ^ 64 → FirstOpen (hit2 (2 ^ 64 - 1 - a) (2 ^ 64 - 1 - b)) 0 r → FirstIn (hit2 a b) r
-first-in a b r low high f =
+pub first-in : (a b n r : ℕ) → a < 2 ^ 64 → b < 2 ^ 64 → FirstOpen (hit2 (2 ^ 64 - 1 - a) (2 ^ 64 - 1 - b)) n r → FirstIn (hit2 a b) n r
+first-in a b n r low high f =
     record {
+      from = f .from;
       upTo = f .upTo;
-      passed = λ k l. not-back _ _ (hit2-flipped a b k low high (omega (arith, f .upTo))) true (f .passed k (omega arith) l);
+      passed = λ k g l. not-back _ _ (hit2-flipped a b k low high (omega (arith, f .upTo))) true (f .passed k g l);
       stops = λ l. not-back _ _ (hit2-flipped a b r low high l) false (f .stops l);
     }

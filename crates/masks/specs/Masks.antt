@@ -41,8 +41,9 @@ pub record FirstOpen (a : ℕ → Bool) (n r : ℕ) : Type 0 where
   pub passed : (k : ℕ) → n ≤ k → k < r → a k ≡ true
   pub stops : r < 128 → a r ≡ false
 
--- r is the first number in the set; 128 where there is none below it
-pub record FirstIn (a : ℕ → Bool) (r : ℕ) : Type 0 where
+-- r is the first number from n on that is in the set; 128 where there is none below it
+pub record FirstIn (a : ℕ → Bool) (n r : ℕ) : Type 0 where
+  pub from : n ≤ r
   pub upTo : r ≤ 128
-  pub passed : (k : ℕ) → k < r → a k ≡ false
+  pub passed : (k : ℕ) → n ≤ k → k < r → a k ≡ false
   pub stops : r < 128 → a r ≡ true

@@ -97,14 +97,15 @@ impl Mask {
         128
     }
 
-    // The first cell in the set, 128 where it is empty.
-    pub fn first_cell(self) -> usize
-        ensures { λ r. ⌜ FirstIn (has self) r ⌝ }
+    // The first cell from n on that is in the set, 128 where none is.
+    pub fn next_cell(self, n: usize) -> usize
+        requires { ⌜ n ≤ 128 ⌝ }
+        ensures { λ r. ⌜ FirstIn (has self) n r ⌝ }
     {
         let others = Mask {
             low: !self.low,
             high: !self.high,
         };
-        others.next_open(0)
+        others.next_open(n)
     }
 }

@@ -294,7 +294,7 @@ pub record Searching (work : List ℕ) (n kind : ℕ) (m : Mask) (c r : ℕ) : T
   pub atP : r < n → rowAt work r .p ≡ c
   pub left : rowWith (rowsIn work n) (kind ∷ cellsOf m) ≡ firstFrom (matches (kind ∷ cellsOf m)) (rowsIn work n) r
 
-module _ (work : List ℕ) (n kind : ℕ) (m : Mask) (c : ℕ) (fc : FirstCells (rowsIn work n)) (first : FirstIn (has m) c) where
+module _ (work : List ℕ) (n kind : ℕ) (m : Mask) (c : ℕ) (fc : FirstCells (rowsIn work n)) (first : FirstIn (has m) 0 c) where
   p-held : (q : Placement) → List·Memᴰ q (rowsIn work n) → T (matches (kind ∷ cellsOf m) q) → (q .p < 128) × (c ≤ q .p) × (c < 128 → q .p ≤ c)
   p-held q i t =
       let e = same→eq (q .cells) (cellsOf m) (and-right (eqb (q .kind) kind) (same (q .cells) (cellsOf m)) t) in
@@ -302,7 +302,7 @@ module _ (work : List ℕ) (n kind : ℕ) (m : Mask) (c : ℕ) (fc : FirstCells 
       (h .0, from-c (q .p) (h .1) (lt-or-ge (q .p) c), λ l. fc .fromP q i c (subst (λ (l : List ℕ). List·Memᴰ c l) (sym e) (cells-of m l (first .stops l))))
     where
       from-c : (p : ℕ) → has m p ≡ true → (p < c) ⊎ (c ≤ p) → c ≤ p
-      from-c p e (inl h) = absurd (true≢false (sym e ∙ first .passed p h))
+      from-c p e (inl h) = absurd (true≢false (sym e ∙ first .passed p (omega arith) h))
       from-c p e (inr h) = h
 
   matched : (q : Placement) → List·Memᴰ q (rowsIn work n) → T (matches (kind ∷ cellsOf m) q) → T (atCell c q)

@@ -2,6 +2,7 @@
 use Prim.Native.Nat.{ℕ, zero, suc, _+_, _-_, _≤_, _<_}
 use mathlib.Core.Bool.{Bool, true, false, cond, _||_}
 use mathlib.Core.List.{List, [], _∷_, map, List·Memᴰ, Memᴰ·map, Memᴰ·of-map, Memᴰ·cast}
+use mathlib.Core.Logic.{⊎-elim}
 use mathlib.Core.Path.{_≡_, refl, sym, ap, ap₂, _∙_, subst, fun-ext}
 use native.Mathlib.Numerals.{add-one}
 use native.Mathlib.Omega.{arith}
@@ -14,8 +15,9 @@ use Rattle.definitions.proofs.ListLaws.{and-left, and-right, and-both, ltb-tran
 use Rattle.definitions.proofs.EngineLaws.{sort-at}
 use Rattle.definitions.proofs.ShapeLaws.{sort-of}
 use Rattle.definitions.proofs.ImageLaws.{ltb-tied}
-use Rattle.masks.specs.Masks.{has, nothing, only, either}
+use Rattle.masks.specs.Masks.{has, nothing, only, either, FirstIn}
 use Rattle.masks.specs.declared.Mask.{Mask}
+use Rattle.masks.proofs.MaskLaws.{lt-or-ge}
 use Rattle.rows.specs.Rows.{cellsOf, maskAt, rowAt}
 use Rattle.rows.specs.Systems.{kindBy, cellsBy, movedBy, rowWith}
 use Rattle.rows.specs.Lawful.{Permutes}
@@ -49,23 +51,37 @@ module _ (t : ℕ → Bool) (f : ℕ → ℕ) where
   unfolding TakenUp nothing
   taken-none v taken e k = let z : v - 0 ≡ v = omega arith in rw (e, z)
 
-  module _ (v i : ℕ) (taken : ℕ → Bool) (h : i < v) (u : TakenUp v i taken) where
-    more : (b : Bool) → t i ≡ b → (k : ℕ) → imagesFrom i v k ≡ member k (map f (consIf b i (keep t (from (i + 1) (v - (i + 1))))))
-    more b e k = let z : v - i ≡ suc (v - (i + 1)) = omega arith in rw (z, add-one i, e)
+  more : (v i : ℕ) → i < v → (b : Bool) → t i ≡ b → (k : ℕ) → imagesFrom i v k ≡ member k (map f (consIf b i (keep t (from (i + 1) (v - (i + 1))))))
+  more v i h b e k = let z : v - i ≡ suc (v - (i + 1)) = omega arith in rw (z, add-one i, e)
 
-    pub taken-miss : t i ≡ false → TakenUp v (i + 1) taken
-    unfolding TakenUp
-    taken-miss e k = ap (λ (b : Bool). taken k || b) (sym (more false e k)) ∙ u k
+  -- d cells that are not in the set are passed
+  passed-by : (v d i : ℕ) → ((j : ℕ) → i ≤ j → j < i + d → t j ≡ false) → (k : ℕ) → imagesFrom i v k ≡ imagesFrom (i + d) v k
+  passed-by v zero i p k = let z : i + 0 ≡ i = omega arith in rw z refl
+  passed-by v (suc d) i p k =
+      let z : i + 1 + d ≡ i + suc d = omega arith in
+      let rest : imagesFrom (i + 1) v k ≡ imagesFrom (i + suc d) v k = rw z at (passed-by v d (i + 1) (λ j g l. p j (omega arith) (omega arith)) k) in
+      ⊎-elim (λ (h : i < v). more v i h false (p i (omega arith) (omega arith)) k ∙ rest) (λ (h : v ≤ i). none-from i h ∙ sym (none-from (i + suc d) (omega arith))) (lt-or-ge i v)
+    where
+      none-from : (j : ℕ) → v ≤ j → imagesFrom j v k ≡ false
+      none-from j h = let z : v - j ≡ 0 = omega arith in rw z refl
 
-    pub taken-hit : t i ≡ true → (y : ℕ) → y ≡ f i → (now : ℕ → Bool) → now ≡ either taken (only y) → TakenUp v (i + 1) now
-    unfolding TakenUp either only
-    taken-hit e y is now d k =
-        ap (λ (g : ℕ → Bool). g k || imagesFrom (i + 1) v k) d ∙ ap (λ (z : ℕ). (taken k || eqb k z) || imagesFrom (i + 1) v k) is
-        ∙ assoc (taken k) (eqb k (f i)) (imagesFrom (i + 1) v k) ∙ ap (λ (b : Bool). taken k || b) (sym (more true e k)) ∙ u k
-      where
-        assoc : (a b c : Bool) → ((a || b) || c) ≡ (a || (b || c))
-        assoc true b c = refl
-        assoc false b c = refl
+  -- the walk goes on to the next number in the set
+  pub taken-on : (v i r : ℕ) (taken : ℕ → Bool) → FirstIn t i r → TakenUp v i taken → TakenUp v r taken
+  unfolding TakenUp
+  taken-on v i r taken n u k =
+      let z : i + (r - i) ≡ r = omega (arith, n .from) in
+      let e : imagesFrom i v k ≡ imagesFrom r v k = rw z at (passed-by v (r - i) i (λ j g l. n .passed j g (omega arith)) k) in
+      ap (λ (b : Bool). taken k || b) (sym e) ∙ u k
+
+  pub taken-hit : (v i : ℕ) (taken : ℕ → Bool) → i < v → TakenUp v i taken → t i ≡ true → (y : ℕ) → y ≡ f i → (now : ℕ → Bool) → now ≡ either taken (only y) → TakenUp v (i + 1) now
+  unfolding TakenUp either only
+  taken-hit v i taken h u e y is now d k =
+      ap (λ (g : ℕ → Bool). g k || imagesFrom (i + 1) v k) d ∙ ap (λ (z : ℕ). (taken k || eqb k z) || imagesFrom (i + 1) v k) is
+      ∙ assoc (taken k) (eqb k (f i)) (imagesFrom (i + 1) v k) ∙ ap (λ (b : Bool). taken k || b) (sym (more v i h true e k)) ∙ u k
+    where
+      assoc : (a b c : Bool) → ((a || b) || c) ≡ (a || (b || c))
+      assoc true b c = refl
+      assoc false b c = refl
 
   pub taken-all : (v i : ℕ) (taken : ℕ → Bool) → v ≤ i → TakenUp v i taken → taken ≡ (λ n. member n (map f (keep t (below v))))
   unfolding TakenUp

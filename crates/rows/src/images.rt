@@ -84,12 +84,10 @@ fn moved_mask(mask: Mask, images: &[u8], start: usize, size: usize) -> Mask
     ensures { λ r. ⌜ has r ≡ (λ n. member n (map (λ i. getD (take size (drop start (now (images .entry)))) i 0) (keep (has mask) (below size)))) ⌝ }
 {
     let mut moved = Mask::empty();
-    let mut i = 0;
+    let mut i = mask.next_cell(0);
     while i < size {
-        if mask.has_cell(i) {
-            moved = moved.with_cell(images[start + i] as usize);
-        }
-        i += 1;
+        moved = moved.with_cell(images[start + i] as usize);
+        i = mask.next_cell(i + 1);
     }
     moved
 }
@@ -99,7 +97,7 @@ fn find_row(work: &[u64], rows: usize, heads: &[u16], kind: usize, mask: Mask) -
     requires { ⌜ (8 * rows ≤ length (now work)) × (rows ≤ 1024) × (length (now heads) ≡ 128) × Chained (now work) (now heads) rows × FirstCells (rowsIn (now work) rows) ⌝ }
     ensures { λ r. ⌜ r ≡ rowWith (rowsIn (now (work .entry)) rows) (kind ∷ cellsOf mask) ⌝ }
 {
-    let c = mask.first_cell();
+    let c = mask.next_cell(0);
     if c == 128 {
         return rows;
     }

@@ -18,18 +18,18 @@ Inv-loop work rows heads kind mask c r₀ r = Searching work rows kind mask c r
 abbrev μ-loop : tie.MeasureT-loop
 μ-loop work rows heads kind mask c r₀ r = rows - r
 
-first-cell-requires : tie.Need-first-cell-requires Inv-loop μ-loop
-first-cell-requires c κs = search needs
+next-cell-requires : tie.Need-next-cell-requires Inv-loop μ-loop
+next-cell-requires c κs = search needs
 
 returns : tie.Need-returns Inv-loop μ-loop
 returns c =
     let k = c .before .before .before .before in
     let a = k .args in
-    find-none (now (a .work)) (a .rows) (a .kind) (a .mask) (c .before .first-cell .result) (k .pre .4) (c .before .first-cell .ensures) (c .if1 .taken)
+    find-none (now (a .work)) (a .rows) (a .kind) (a .mask) (c .before .next-cell .result) (k .pre .4) (c .before .next-cell .ensures) (c .if1 .taken)
 
 -- the mask has a cell
-small : (c : tie.Else1 Inv-loop μ-loop) → c .before .first-cell .result < 128
-small c = let h = c .if1 .left in omega (arith, c .before .first-cell .ensures .upTo)
+small : (c : tie.Else1 Inv-loop μ-loop) → c .before .next-cell .result < 128
+small c = let h = c .if1 .left in omega (arith, c .before .next-cell .ensures .upTo)
 
 mul-r : tie.Need-mul-r Inv-loop μ-loop
 mul-r c = omega arith
@@ -38,13 +38,13 @@ shared-slice-read-r : tie.Need-shared-slice-read-r Inv-loop μ-loop
 shared-slice-read-r c = let h = small (c .before) in omega arith
 
 cast-r : tie.Need-cast-r Inv-loop μ-loop
-cast-r c = omega (arith, c .shared-slice-known3 .given (c .before .before .first-cell .result))
+cast-r c = omega (arith, c .shared-slice-known3 .given (c .before .before .next-cell .result))
 
 loop-holds : tie.Need-loop-holds Inv-loop μ-loop
 loop-holds c =
     let k = c .before .before .before .before .before in
     let a = k .args in
-    let f = c .before .before .first-cell in
+    let f = c .before .before .next-cell in
     find-start (now (a .work)) (a .rows) (a .kind) (a .mask) (f .result) (k .pre .4) (f .ensures) _ (k .pre .3 .firsts (f .result) (small (c .before)))
 
 kind-at-requires : tie.Need-kind-at-requires Inv-loop μ-loop
@@ -61,7 +61,7 @@ returns-2 c =
     let l = c .before .before .before .before .before .before in
     let k = l .before .before .before .before .before .before in
     let a = k .args in
-    let f = l .before .before .before .first-cell in
+    let f = l .before .before .before .next-cell in
     let t = c .before .before .before .before in
     let same : has (maskAt (now (a .work)) (l .loop .r)) ≡ has (a .mask)
     = ap has (sym (c .before .before .mask-at .ensures)) ∙ are-same (c .before .equals .result) _ _ (c .if3 .taken) (c .before .equals .ensures) in
@@ -75,13 +75,13 @@ next-at-requires c κs = search needs
 onward : (c : tie.After-next-at Inv-loop μ-loop) → (c .before .before .before .before .loop .r < c .next-at .result)
     × Searching (now (c .before .before .before .before .before .before .before .before .before .before .args .work)) (c .before .before .before .before .before .before .before .before .before .before .args .rows)
     (c .before .before .before .before .before .before .before .before .before .before .args .kind) (c .before .before .before .before .before .before .before .before .before .before .args .mask)
-    (c .before .before .before .before .before .before .before .first-cell .result) (c .next-at .result)
+    (c .before .before .before .before .before .before .before .next-cell .result) (c .next-at .result)
 unfolding maskAt
 onward c =
     let l = c .before .before .before .before in
     let k = l .before .before .before .before .before .before in
     let a = k .args in
-    let f = l .before .before .before .first-cell in
+    let f = l .before .before .before .next-cell in
     find-next (now (a .work)) (a .rows) (a .kind) (a .mask) (f .result) (k .pre .4) (f .ensures) (l .loop .r) (l .loop .inv) (omega arith)
     (⊎-elim
     (λ w. match-cells (now (a .work)) (l .loop .r) (a .kind) (a .mask) (omega (arith, l .before .before .before .before .before .shared-slice-known .given (8 * l .loop .r + 1))) (omega (arith, k .good))
@@ -101,7 +101,7 @@ returns-3 c =
     let l = c .before in
     let k = l .before .before .before .before .before .before in
     let a = k .args in
-    let f = l .before .before .before .first-cell in
+    let f = l .before .before .before .next-cell in
     find-end (now (a .work)) (a .rows) (a .kind) (a .mask) (f .result) (k .pre .4) (f .ensures) (l .loop .r) (l .loop .inv) (c .loop-test .left)
 
 pub find-row-spec : {M : Type 1} → statement M
@@ -110,7 +110,7 @@ find-row-spec =
     (tie.spec
     Inv-loop
     μ-loop
-    first-cell-requires
+    next-cell-requires
     returns
     mul-r
     shared-slice-read-r
