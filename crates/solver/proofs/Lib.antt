@@ -1,0 +1,3 @@
+pub mod Calls
+pub mod LentLaws
+pub mod RecordLaws

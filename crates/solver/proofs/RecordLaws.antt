@@ -1,0 +1,86 @@
+-- The table made of a list of records stands for the list as far as a call's outcome reads it: of at most 16 records it has all, and a call with more is
+-- refused with 2, whatever the records are. Assumes nothing.
+use Prim.Native.Nat.{ℕ, zero, suc, _+_, _≤_, _<_}
+use mathlib.Core.Bool.{Bool, true, false}
+use mathlib.Core.List.{List, [], _∷_, map}
+use mathlib.Core.Path.{_≡_, refl, sym, ap, _∙_}
+use native.Mathlib.Omega.{arith}
+use borrow.Author.Tests.{leb-true, leb-false, lt-ltb}
+use lib.Dec.{leb}
+use lib.ListN.{length, getD, take, length-map}
+use lib.Seq.{length-take-le, getD-take, ext-getD}
+use Rattle.definitions.specs.Lists.{below, isEmpty}
+use Rattle.definitions.specs.Refusals.{Call, table, refusal}
+use Rattle.definitions.specs.Outcomes.{refused, outcome}
+use Rattle.definitions.specs.declared.Record.{Record}
+use Rattle.definitions.specs.declared.Config.{Config}
+use Rattle.definitions.proofs.ListLaws.{length-below}
+use Rattle.definitions.proofs.RefusalLaws.{outcome-refused}
+use Rattle.placements.specs.declared.Table.{Table}
+use Rattle.placements.specs.Tables.{noRecord, recordsOf}
+use Rattle.placements.proofs.RefusalLaws.{records-few, records-count}
+use Rattle.rows.proofs.MovedLaws.{getD-of}
+use Rattle.solver.specs.Lent.{callWith}
+use Rattle.solver.specs.Records.{emptyTable, putRow, tableOf}
+
+-- the table with the first k records put, one after the other
+unfoldable pub filled : List Record → ℕ → Table
+filled ps zero = emptyTable (length ps)
+filled ps (suc k) = putRow (filled ps k) k (getD ps k noRecord)
+
+pub filled-is : (ps : List Record) → filled ps 16 ≡ tableOf ps
+unfolding filled tableOf
+filled-is ps = refl
+
+module _ (ps : List Record) where
+  abbrev rows : List Record
+  rows = map (λ i. getD ps i noRecord) (below 16)
+
+  rows-many : length rows ≡ 16
+  rows-many = length-map (below 16) (λ i. getD ps i noRecord) ∙ length-below 16
+
+  -- of at most 16 records, the table stands for all
+  records-are : length ps ≤ 16 → recordsOf (tableOf ps) ≡ ps
+  unfolding tableOf
+  records-are h =
+      let m = rows-many in
+      let len : length (take (length ps) rows) ≡ length ps = length-take-le (length ps) rows (omega arith) in
+      records-few (tableOf ps) h
+      ∙ ext-getD noRecord (take (length ps) rows) ps len
+      (λ i l. let k : i < length ps = omega arith in
+      getD-take (length ps) rows i noRecord k ∙ getD-of (λ j. getD ps j noRecord) noRecord 0 16 i (omega arith) ∙ ap (λ (j : ℕ). getD ps j noRecord) (let z : 0 + i ≡ i = omega arith in z))
+
+  -- and of more, a list that is as long
+  records-more : length (recordsOf (tableOf ps)) ≡ length ps
+  unfolding tableOf
+  records-more = records-count (tableOf ps) rows-many
+
+-- a definition that says the same of all lists of more than 16 records says the same of the table's list
+same-of : {A : Type 0} (d : List Record → A) → ((ps qs : List Record) → 16 < length ps → 16 < length qs → d ps ≡ d qs) → (ps : List Record) → d (recordsOf (tableOf ps)) ≡ d ps
+same-of d big ps = go (leb (length ps) 16) refl
+  where
+    go : (b : Bool) → leb (length ps) 16 ≡ b → d (recordsOf (tableOf ps)) ≡ d ps
+    go true e = ap d (records-are ps (leb-true (length ps) 16 e))
+    go false e = let h = leb-false (length ps) 16 e in let m = records-more ps in big (recordsOf (tableOf ps)) ps (omega arith) h
+
+not-empty : (ps : List Record) → 16 < length ps → isEmpty ps ≡ false
+not-empty [] h = absurd (omega arith)
+not-empty (p ∷ ps) h = refl
+
+module _ (board : Record) (bytes : List ℕ) (config : Config) (skip : ℕ) (answers work links : List ℕ) where
+  abbrev call : List Record → Call
+  call ps = callWith ps board bytes config skip answers work links
+
+  refusal-many : (ps : List Record) → 16 < length ps → refusal (callWith ps board bytes config skip answers work links) ≡ 2
+  unfolding refusal table callWith
+  refusal-many ps h = simp (not-empty ps h, lt-ltb 16 (length ps) h)
+
+  outcome-many : (ps : List Record) → 16 < length ps → outcome (call ps) ≡ refused 2 (call ps)
+  outcome-many ps h = let e = refusal-many ps h in outcome-refused (call ps) (λ z. omega (arith, e, z)) ∙ ap (λ (n : ℕ). refused n (call ps)) e
+
+  none-read : (l m : List Record) → refused 2 (call l) ≡ refused 2 (call m)
+  unfolding refused callWith
+  none-read l m = refl
+
+  pub outcome-same : (ps : List Record) → outcome (callWith (recordsOf (tableOf ps)) board bytes config skip answers work links) ≡ outcome (callWith ps board bytes config skip answers work links)
+  outcome-same ps = same-of (λ l. outcome (call l)) (λ l m hl hm. outcome-many l hl ∙ none-read l m ∙ sym (outcome-many m hm)) ps
