@@ -1,21 +1,24 @@
--- `replay::pages::is_stained` meets its contract: a byte is read only below the slice's length. The measure is what is left of the bytes. Assumes nothing.
+-- `replay::are_links_cleared` meets its contract: a link is read only below the slice's length. The measure is what is left of the links. Assumes nothing.
 use Prim.Native.Nat.{_≤_, _-_}
 use lib.ListN.{length}
 use borrow.Author.Needs.{needs}
-use Rattle.replay.proofs.pages.is_stained.Statement.{statement}
-use Rattle.replay.proofs.pages.is_stained.Tie as tie
+use Rattle.replay.proofs.are_links_cleared.Statement.{statement}
+use Rattle.replay.proofs.are_links_cleared.Tie as tie
 
 abbrev Inv-loop : tie.InvT-loop
-Inv-loop bytes i k₀ k = i ≤ k
+Inv-loop links n k₀ k = k ≤ length links
 
 abbrev μ-loop : tie.MeasureT-loop
-μ-loop bytes i k₀ k = length bytes - k
+μ-loop links n k₀ k = length links - k
 
 loop-holds : tie.Need-loop-holds Inv-loop μ-loop
 loop-holds c = search needs
 
-shared-slice-read-if1 : tie.Need-shared-slice-read-if1 Inv-loop μ-loop
-shared-slice-read-if1 c = search needs
+mul-if2 : tie.Need-mul-if2 Inv-loop μ-loop
+mul-if2 c = search needs
+
+shared-slice-read-if2 : tie.Need-shared-slice-read-if2 Inv-loop μ-loop
+shared-slice-read-if2 c = search needs
 
 returns : tie.Need-returns Inv-loop μ-loop
 returns c = search needs
@@ -32,14 +35,15 @@ loop-again c = search needs
 returns-2 : tie.Need-returns-2 Inv-loop μ-loop
 returns-2 c = search needs
 
-pub is-stained-spec : {M : Type 1} → statement M
-is-stained-spec =
+pub are-links-cleared-spec : {M : Type 1} → statement M
+are-links-cleared-spec =
     tie.close
     (tie.spec
     Inv-loop
     μ-loop
     loop-holds
-    shared-slice-read-if1
+    mul-if2
+    shared-slice-read-if2
     returns
     add-k
     loop-less

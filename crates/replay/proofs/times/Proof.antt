@@ -1,10 +1,10 @@
--- `replay::pages::times` meets its contract: the product of two numbers below 65536 is below 4294967296. Assumes nothing.
+-- `replay::times` meets its contract: the product of two numbers below 65536 is below 4294967296. Assumes nothing.
 use Prim.Native.Nat.{_*_, _≤_}
 use native.Mathlib.Nat.{mul-le-mul}
 use native.Mathlib.Omega.{arith}
 use borrow.Author.Needs.{needs}
-use Rattle.replay.proofs.pages.times.Statement.{statement}
-use Rattle.replay.proofs.pages.times.Tie as tie
+use Rattle.replay.proofs.times.Statement.{statement}
+use Rattle.replay.proofs.times.Tie as tie
 
 -- the product of what is below 65536
 small : (c : tie.Then2) → (let a = c .before .before .args in a .n * a .m ≤ 65535 * 65535)

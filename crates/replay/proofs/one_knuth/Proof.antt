@@ -1,11 +1,11 @@
--- `replay::pages::one_knuth` meets its contract: the parts lent are no longer than the arrays. Assumes nothing.
+-- `replay::one_knuth` meets its contract: the parts lent are no longer than the arrays. Assumes nothing.
 use mathlib.Core.Path.{sym}
 use mathlib.Core.Logic.{⊎-elim}
 use lib.Seq.{length-take-le}
 use native.Mathlib.Omega.{arith}
 use borrow.Author.Needs.{needs}
-use Rattle.replay.proofs.pages.one_knuth.Statement.{statement}
-use Rattle.replay.proofs.pages.one_knuth.Tie as tie
+use Rattle.replay.proofs.one_knuth.Statement.{statement}
+use Rattle.replay.proofs.one_knuth.Tie as tie
 
 array-borrow-prefix-answers : tie.Need-array-borrow-prefix-answers
 array-borrow-prefix-answers c = ⊎-elim (λ v. omega arith) (λ v. omega arith) (c .before .before .if1 .came)

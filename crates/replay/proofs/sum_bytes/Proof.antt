@@ -1,10 +1,10 @@
--- `replay::pages::sum_bytes` meets its contract. The loop's invariant: the sum stays below 4294967291, so that 257 times it and a byte fit. The measure is what is left of the bytes. Assumes nothing.
+-- `replay::sum_bytes` meets its contract. The loop's invariant: the sum stays below 4294967291, so that 257 times it and a byte fit. The measure is what is left of the bytes. Assumes nothing.
 use Prim.Native.Nat.{_≤_, _<_, _-_}
 use lib.ListN.{length}
 use borrow.Author.Needs.{needs}
 use native.Mathlib.Omega.{arith}
-use Rattle.replay.proofs.pages.sum_bytes.Statement.{statement}
-use Rattle.replay.proofs.pages.sum_bytes.Tie as tie
+use Rattle.replay.proofs.sum_bytes.Statement.{statement}
+use Rattle.replay.proofs.sum_bytes.Tie as tie
 
 abbrev Inv-loop : tie.InvT-loop
 Inv-loop bytes n sum s₀ k₀ s k = (s < 4294967291) × (k ≤ length bytes)

@@ -1,9 +1,9 @@
--- `replay::pages::is_cleared` meets its contract: a word is read only below the slice's length. The measure is what is left of the words. Assumes nothing.
+-- `replay::is_cleared` meets its contract: a word is read only below the slice's length. The measure is what is left of the words. Assumes nothing.
 use Prim.Native.Nat.{_≤_, _-_}
 use lib.ListN.{length}
 use borrow.Author.Needs.{needs}
-use Rattle.replay.proofs.pages.is_cleared.Statement.{statement}
-use Rattle.replay.proofs.pages.is_cleared.Tie as tie
+use Rattle.replay.proofs.is_cleared.Statement.{statement}
+use Rattle.replay.proofs.is_cleared.Tie as tie
 
 abbrev Inv-loop : tie.InvT-loop
 Inv-loop words n k₀ k = k ≤ length words

@@ -1,8 +1,8 @@
--- `replay::pages::show_walk` meets its contract: each sum is of numbers that are small. The measure is how many pages are left, at most 20. Assumes nothing.
+-- `replay::show_walk` meets its contract: each sum is of numbers that are small. The measure is how many pages are left, at most 20. Assumes nothing.
 use Prim.Native.Nat.{_≤_}
 use borrow.Author.Needs.{needs}
-use Rattle.replay.proofs.pages.show_walk.Statement.{statement}
-use Rattle.replay.proofs.pages.show_walk.Tie as tie
+use Rattle.replay.proofs.show_walk.Statement.{statement}
+use Rattle.replay.proofs.show_walk.Tie as tie
 
 abbrev Inv-loop : tie.InvT-loop
 Inv-loop t board bytes config asked size all₀ left₀ all left = left ≤ 20
