@@ -3,20 +3,13 @@
 use oracle::tray::{Engine, Grid, Tray};
 
 #[repr(C)]
-#[derive(Clone, Copy, Default)]
+#[derive(Clone, Copy)]
 pub struct Record {
     pub a: usize,
     pub b: usize,
     pub c: usize,
     pub count: u32,
     pub start: usize,
-}
-
-#[repr(C)]
-#[derive(Clone, Copy)]
-pub struct Table {
-    pub rows: [Record; 16],
-    pub n: usize,
 }
 
 #[repr(C)]
@@ -28,25 +21,14 @@ pub struct Answer {
 }
 
 extern "C" {
-    fn ferghuul_fast_page(
-        t: Table,
+    // A slice is passed as its address and its length.
+    fn ferghuul_page(
+        pieces: *const Record,
+        piece_count: usize,
         board: Record,
         bytes: *const u8,
         byte_count: usize,
-        turned: bool,
-        mirrored: bool,
-        skip: u64,
-        answers: *mut u8,
-        answer_bytes: usize,
-        work: *mut u64,
-        words: usize,
-    ) -> Answer;
-
-    fn ferghuul_knuth_page(
-        t: Table,
-        board: Record,
-        bytes: *const u8,
-        byte_count: usize,
+        engine: u8,
         turned: bool,
         mirrored: bool,
         skip: u64,
@@ -61,7 +43,7 @@ extern "C" {
 
 /// What a call lends.
 pub struct Lent {
-    pub table: Table,
+    pub pieces: Vec<Record>,
     pub board: Record,
     pub bytes: Vec<u8>,
     pub engine: Engine,
@@ -73,15 +55,13 @@ impl Lent {
     pub fn new(tray: &Tray) -> Lent {
         let mut bytes = vec![];
         let board = record(&tray.board, 0, &mut bytes);
-        let mut rows = [Record::default(); 16];
-        for (row, piece) in rows.iter_mut().zip(&tray.pieces) {
-            *row = record(&piece.grid, piece.count, &mut bytes);
-        }
+        let pieces = tray
+            .pieces
+            .iter()
+            .map(|piece| record(&piece.grid, piece.count, &mut bytes))
+            .collect();
         Lent {
-            table: Table {
-                rows,
-                n: tray.pieces.len(),
-            },
+            pieces,
             board,
             bytes,
             engine: tray.config.engine,
@@ -95,40 +75,32 @@ impl Lent {
         2 * self.board.a * self.board.b * self.board.c
     }
 
-    /// A page of the tray's engine. Fast takes no links.
+    /// A page of the engine's list, or the refusal.
     pub fn page(&self, skip: u64, answers: &mut [u8], work: &mut [u64], links: &mut [u16]) -> Answer {
+        let engine = match self.engine {
+            Engine::Auto => 0,
+            Engine::Naive => 1,
+            Engine::Fast => 2,
+            Engine::Knuth => 3,
+        };
         unsafe {
-            match self.engine {
-                Engine::Fast => ferghuul_fast_page(
-                    self.table,
-                    self.board,
-                    self.bytes.as_ptr(),
-                    self.bytes.len(),
-                    self.turned,
-                    self.mirrored,
-                    skip,
-                    answers.as_mut_ptr(),
-                    answers.len(),
-                    work.as_mut_ptr(),
-                    work.len(),
-                ),
-                Engine::Knuth => ferghuul_knuth_page(
-                    self.table,
-                    self.board,
-                    self.bytes.as_ptr(),
-                    self.bytes.len(),
-                    self.turned,
-                    self.mirrored,
-                    skip,
-                    answers.as_mut_ptr(),
-                    answers.len(),
-                    work.as_mut_ptr(),
-                    work.len(),
-                    links.as_mut_ptr(),
-                    links.len(),
-                ),
-                Engine::Auto | Engine::Naive => panic!("no page call of this engine"),
-            }
+            ferghuul_page(
+                self.pieces.as_ptr(),
+                self.pieces.len(),
+                self.board,
+                self.bytes.as_ptr(),
+                self.bytes.len(),
+                engine,
+                self.turned,
+                self.mirrored,
+                skip,
+                answers.as_mut_ptr(),
+                answers.len(),
+                work.as_mut_ptr(),
+                work.len(),
+                links.as_mut_ptr(),
+                links.len(),
+            )
         }
     }
 }

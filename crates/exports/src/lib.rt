@@ -1,14 +1,20 @@
 // The page calls for C and Rust, with what they answer as numbers (docs/INTERFACE.md).
 ghost use mathlib.Core.Path.{_≡_};
-ghost use Rattle.exports.specs.Numbers.{AnswersInNumbers, numbersOf, outcomeBy};
+ghost use Rattle.exports.specs.Numbers.{AnswersInNumbers, configOf, engineOf, numbersOf, outcomeBy};
 ghost use Rattle.definitions.specs.Outcomes.{outcome};
 ghost use Rattle.definitions.specs.declared.SolverKind.the-variants.{Fast, KnuthAlgorithm};
 ghost use Rattle.kept.specs.Calls.{callOf};
+ghost use Rattle.placements.specs.Tables.{recordsOf};
+ghost use Rattle.solver.specs.Lent.{callWith};
+use definitions::Config;
 use definitions::Listing;
 use definitions::Record;
+use definitions::SolverKind;
 use fast::page as fast_page;
 use knuth::page as knuth_page;
 use placements::Table;
+use solver::records;
+use solver::tables;
 
 // What a call answers: the refusal's number in document 01's table, 0 where it is accepted; how many answers were written; whether a further one follows.
 #[repr(C)]
@@ -76,4 +82,71 @@ pub extern "C" fn ferghuul_knuth_page(
         work,
         links,
     ))
+}
+
+// The engine that a number stands for: 2 Fast, 3 KnuthAlgorithm; the others are refused.
+fn engine_of(engine: u8) -> SolverKind
+    ensures { λ r. ⌜ r ≡ engineOf engine ⌝ }
+{
+    if engine == 0 {
+        SolverKind::Auto
+    } else if engine == 2 {
+        SolverKind::Fast
+    } else if engine == 3 {
+        SolverKind::KnuthAlgorithm
+    } else {
+        SolverKind::Naive
+    }
+}
+
+// The entry point over a table of records, in numbers.
+fn page_in_numbers(
+    t: Table,
+    board: Record,
+    bytes: &[u8],
+    engine: u8,
+    turned: bool,
+    mirrored: bool,
+    skip: u64,
+    answers: &mut [u8],
+    work: &mut [u64],
+    links: &mut [u16],
+) -> Answer
+    ensures { λ r. ⌜ outcomeBy r (now (answers .exit)) (now (work .exit)) (now (links .exit)) ≡ outcome (callWith (recordsOf t) board (now (bytes .entry)) (configOf engine turned mirrored) skip (now (answers .entry)) (now (work .entry)) (now (links .entry))) ⌝ }
+{
+    let config = Config {
+        identify_transformed_answers: turned,
+        identify_mirrored_answers: mirrored,
+        solver: engine_of(engine),
+    };
+    in_numbers(tables::page(t, board, bytes, config, skip, answers, work, links))
+}
+
+#[no_mangle]
+pub extern "C" fn ferghuul_page(
+    pieces: &[Record],
+    board: Record,
+    bytes: &[u8],
+    engine: u8,
+    turned: bool,
+    mirrored: bool,
+    skip: u64,
+    answers: &mut [u8],
+    work: &mut [u64],
+    links: &mut [u16],
+) -> Answer
+    ensures { λ r. ⌜ outcomeBy r (now (answers .exit)) (now (work .exit)) (now (links .exit)) ≡ outcome (callWith (now (pieces .entry)) board (now (bytes .entry)) (configOf engine turned mirrored) skip (now (answers .entry)) (now (work .entry)) (now (links .entry))) ⌝ }
+{
+    page_in_numbers(
+        records::taken(pieces),
+        board,
+        bytes,
+        engine,
+        turned,
+        mirrored,
+        skip,
+        answers,
+        work,
+        links,
+    )
 }

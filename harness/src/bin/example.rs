@@ -1,0 +1,25 @@
+//! Document 01's example through the entry point: a tray of three cells, M and D.
+
+use harness::{box_cells, Answer, Lent, Record};
+use oracle::tray::Engine;
+
+fn main() {
+    let lent = Lent {
+        pieces: vec![
+            Record { a: 1, b: 1, c: 1, count: 1, start: 3 },
+            Record { a: 1, b: 1, c: 2, count: 1, start: 4 },
+        ],
+        board: Record { a: 1, b: 1, c: 3, count: 0, start: 0 },
+        bytes: vec![1; 6],
+        engine: Engine::Fast,
+        turned: false,
+        mirrored: false,
+    };
+    let (mut answers, mut work) = ([0; 12], vec![0; 8_192]);
+    let answer = lent.page(0, &mut answers, &mut work, &mut []);
+    assert_eq!(answer, Answer { number: 0, written: 2, further: false });
+    assert_eq!(answers, [0, 0, 1, 0, 1, 0, 1, 0, 1, 0, 0, 0]);
+    for (entry, bytes) in answers.chunks(6).enumerate() {
+        println!("{entry}\t{}", box_cells(bytes));
+    }
+}
