@@ -9,7 +9,7 @@ ghost use Rattle.definitions.specs.Placements.{compile};
 ghost use Rattle.placements.specs.Counting.{Accepted9};
 ghost use Rattle.placements.specs.Tables.{recordsOf, trayIn};
 ghost use Rattle.definitions.specs.declared.SolverKind.the-variants.{Fast};
-ghost use Rattle.fast.specs.Calls.{AnswersCall};
+ghost use Rattle.fast.specs.Calls.{AnswersBehind, AnswersCall};
 ghost use Rattle.kept.specs.Calls.{PageIs, callOf};
 ghost use Rattle.fast.specs.Pruned.{cellsOfAll};
 use super::pruning;
@@ -26,6 +26,7 @@ use placements::Verdict;
 use placements::counting;
 use placements::records;
 use rows::Dims;
+use rows::shown;
 use rows::system;
 use shape::grids;
 
@@ -57,19 +58,21 @@ fn all_left(kinds: &[u8], n: usize, left: &mut [u8])
     }
 }
 
-// The page of a tray that is not refused. Rows stand in the work slice afterwards.
+// The page of a tray that is not refused, from the start of its list or from behind an entry on. Rows stand in the work slice afterwards.
 fn list(
     t: Table,
     board: Record,
     bytes: &[u8],
     turned: bool,
     mirrored: bool,
+    last: &[u8],
+    waiting: bool,
     skip: u64,
     answers: &mut [u8],
     work: &mut [u64],
 ) -> Emission
     requires { ⌜ Accepted9 t board (now bytes) × (placementCount (compile (trayIn (recordsOf t) board (now bytes))) ≤ 1024) × (8192 ≤ length (now work)) ⌝ }
-    ensures { λ r. ⌜ PageIs (callOf Fast t board (now (bytes .entry)) turned mirrored skip (now (answers .entry)) (now (work .entry)) []) (r .written) (r .further) (now (answers .exit)) × (drop 8192 (now (work .exit)) ≡ drop 8192 (now (work .entry))) ⌝ }
+    ensures { λ r. ⌜ PageIs (now (last .entry)) waiting (callOf Fast t board (now (bytes .entry)) turned mirrored skip (now (answers .entry)) (now (work .entry)) []) (r .written) (r .further) (now (answers .exit)) × (drop 8192 (now (work .exit)) ≡ drop 8192 (now (work .entry))) ⌝ }
 {
     let mut heads = [0u16; 128];
     let mut images = [0u8; 6144];
@@ -89,9 +92,12 @@ fn list(
     );
     let mut left = [0u8; 16];
     all_left(&kinds, d.kinds, &mut left);
+    let mut shown = [0u8; 256];
+    shown::show_cells(d, &scans, last, &mut shown);
     let mut path = [0u16; 128];
     let capacity = answers.len() / (2 * d.places);
     let e = Emission {
+        waiting,
         skip,
         written: 0,
         further: false,
@@ -111,6 +117,8 @@ fn list(
                     mirrored,
                     &mut left,
                     &mut path,
+                    last,
+                    &shown,
                     capacity,
                     answers,
                     e,
@@ -132,6 +140,8 @@ fn list(
         &mut path,
         0,
         Mask::empty(),
+        last,
+        &shown,
         capacity,
         answers,
         e,
@@ -160,7 +170,59 @@ pub fn page(
     match verdict {
         Verdict::Refused(why) => Listing::Refused(why),
         Verdict::Accepted => {
-            let e = list(t, board, bytes, turned, mirrored, skip, answers, work);
+            let none = [0u8; 1];
+            let e = list(
+                t,
+                board,
+                bytes,
+                turned,
+                mirrored,
+                &none,
+                false,
+                skip,
+                answers,
+                work,
+            );
+            clearing::clear_work(work);
+            Listing::Page(e.written, e.further)
+        }
+    }
+}
+
+// A call of Fast, whatever is lent: the page from behind the entry `last` on, or the refusal.
+pub fn page_behind(
+    t: Table,
+    board: Record,
+    bytes: &[u8],
+    turned: bool,
+    mirrored: bool,
+    last: &[u8],
+    answers: &mut [u8],
+    work: &mut [u64],
+) -> Listing
+    ensures { λ r. ⌜ AnswersBehind (now (last .entry)) (callOf Fast t board (now (bytes .entry)) turned mirrored 0 (now (answers .entry)) (now (work .entry))) r (now (answers .exit)) (now (work .exit)) ⌝ }
+{
+    let config = Config {
+        identify_transformed_answers: turned,
+        identify_mirrored_answers: mirrored,
+        solver: SolverKind::Fast,
+    };
+    let verdict = counting::refusal_of(t, board, bytes, config, work.len(), 0);
+    match verdict {
+        Verdict::Refused(why) => Listing::Refused(why),
+        Verdict::Accepted => {
+            let e = list(
+                t,
+                board,
+                bytes,
+                turned,
+                mirrored,
+                last,
+                true,
+                0,
+                answers,
+                work,
+            );
             clearing::clear_work(work);
             Listing::Page(e.written, e.further)
         }

@@ -1,4 +1,5 @@
 // Kind 0 first (`use_pre_pruning`): a row of kind 0 that an allowed map takes onto one before it starts no packing that is kept.
+ghost use mathlib.Core.Bool.{_&&_, _||_, not};
 ghost use mathlib.Core.List.{[]};
 ghost use mathlib.Core.Path.{_≡_};
 ghost use Prim.Native.Nat.{_+_, _*_, _-_, _≤_, _<_};
@@ -8,7 +9,9 @@ ghost use Rattle.definitions.specs.Lists.{any, from};
 ghost use Rattle.definitions.specs.Refusals.{identifies};
 ghost use Rattle.definitions.specs.Emission.{emits};
 ghost use lib.Dec.{ltb};
-ghost use Rattle.rows.specs.Systems.{systemIn};
+ghost use Rattle.rows.specs.Rows.{rowAt};
+ghost use Rattle.rows.specs.Shown.{Shown, showsRow};
+ghost use Rattle.rows.specs.Systems.{ownedIn, systemIn};
 ghost use Rattle.kept.specs.Emission.{emittedOf};
 ghost use Rattle.kept.specs.Normal.{imageOf};
 ghost use Rattle.kept.specs.Ready.{Ready};
@@ -19,6 +22,7 @@ use kept::emission::Emission;
 use masks::Mask;
 use rows::Dims;
 use rows::images;
+use rows::shown;
 use rows::table;
 
 // Whether one of the maps numbered from `start` to below `end` takes row r onto a row before it.
@@ -120,6 +124,41 @@ fn is_pruned(
     )
 }
 
+// Whether row r, of kind 0, is tried: it is not pruned, and while an answer is waited for the answer shows it.
+fn is_first(
+    d: Dims,
+    work: &[u64],
+    heads: &[u16],
+    images: &[u8],
+    scans: &[u8],
+    kinds: &[u8],
+    pieces: &[u8],
+    turned: bool,
+    mirrored: bool,
+    shown: &[u8],
+    waiting: bool,
+    r: usize,
+) -> bool
+    requires { ⌜ Ready d (now work) (now heads) (now images) (now scans) (now kinds) (now pieces) × (r < d .rows) × (length (now shown) ≡ 256) ⌝ }
+    ensures { λ b. ⌜ b ≡ not (prunedBy (systemIn d (now (work .entry)) (now (images .entry)) (now (scans .entry)) (now (kinds .entry)) (now (pieces .entry))) (identifies turned mirrored) r) && (not waiting || showsRow (ownedIn (now (pieces .entry)) (d .pieces)) (now (shown .entry)) (rowAt (now (work .entry)) r)) ⌝ }
+{
+    if is_pruned(
+        d,
+        work,
+        heads,
+        images,
+        scans,
+        kinds,
+        pieces,
+        turned,
+        mirrored,
+        r,
+    ) {
+        return false;
+    }
+    shown::leads(d, work, pieces, shown, waiting, r)
+}
+
 // The packings that start with a row of kind 0, row by row, from the state with nothing chosen.
 pub fn search_first(
     d: Dims,
@@ -133,13 +172,15 @@ pub fn search_first(
     mirrored: bool,
     left: &mut [u8],
     path: &mut [u16],
+    last: &[u8],
+    shown: &[u8],
     capacity: usize,
     answers: &mut [u8],
     e: Emission,
 ) -> Emission
-    requires { ⌜ Ready d (now work) (now heads) (now images) (now scans) (now kinds) (now pieces) × (length (now path) ≡ 128) × (capacity * (2 * d .places) ≤ length (now answers)) × (0 < getD (now left) 0 0) ⌝ }
+    requires { ⌜ Ready d (now work) (now heads) (now images) (now scans) (now kinds) (now pieces) × (length (now path) ≡ 128) × (length (now shown) ≡ 256) × Shown (d .cells) (take (d .places) (now scans)) (now last) (now shown) × (capacity * (2 * d .places) ≤ length (now answers)) × (0 < getD (now left) 0 0) ⌝ }
     requires { ⌜ Searching (systemIn d (now work) (now images) (now scans) (now kinds) (now pieces)) (now left) (record { low = 0; high = 0 }) [] ⌝ }
-    ensures { λ r. ⌜ emittedOf r (now (answers .exit)) ≡ emits capacity (fastFirst (systemIn d (now (work .entry)) (now (images .entry)) (now (scans .entry)) (now (kinds .entry)) (now (pieces .entry))) (identifies turned mirrored) (stateBy (systemIn d (now (work .entry)) (now (images .entry)) (now (scans .entry)) (now (kinds .entry)) (now (pieces .entry))) (now (left .entry)) (record { low = 0; high = 0 }) [])) (emittedOf e (now (answers .entry))) ⌝ }
+    ensures { λ r. ⌜ emittedOf r (now (last .entry)) (now (answers .exit)) ≡ emits capacity (fastFirst (systemIn d (now (work .entry)) (now (images .entry)) (now (scans .entry)) (now (kinds .entry)) (now (pieces .entry))) (identifies turned mirrored) (stateBy (systemIn d (now (work .entry)) (now (images .entry)) (now (scans .entry)) (now (kinds .entry)) (now (pieces .entry))) (now (left .entry)) (record { low = 0; high = 0 }) [])) (emittedOf e (now (last .entry)) (now (answers .entry))) ⌝ }
     ensures { λ _. ⌜ now (left .exit) ≡ now (left .entry) ⌝ }
 {
     let mut s = e;
@@ -148,7 +189,7 @@ pub fn search_first(
         if 0 < table::kind_at(work, r) {
             return s;
         }
-        if !is_pruned(
+        if is_first(
             d,
             work,
             heads,
@@ -158,6 +199,8 @@ pub fn search_first(
             pieces,
             turned,
             mirrored,
+            shown,
+            s.waiting,
             r,
         ) {
             left[0] -= 1;
@@ -177,6 +220,8 @@ pub fn search_first(
                 path,
                 1,
                 mask,
+                last,
+                shown,
                 capacity,
                 answers,
                 s,

@@ -1,1 +1,3 @@
 pub mod Stretches
+pub mod Put
+pub mod Reading

@@ -9,9 +9,9 @@ use Rattle.rows.specs.Answering.{answerBy}
 use Rattle.kept.specs.Normal.{rowOf, sortRows, normal}
 use Rattle.kept.specs.declared.emission.Emission as code
 
--- the code's state with the answer buffer
-abbrev pub emittedOf : code.Emission → List ℕ → Emitted
-emittedOf e answers = record { skip = e .skip; written = e .written; further = e .further; answers = answers }
+-- the code's state with the entry that may be waited for and the answer buffer
+abbrev pub emittedOf : code.Emission → List ℕ → List ℕ → Emitted
+emittedOf e last answers = record { last = last; waiting = e .waiting; skip = e .skip; written = e .written; further = e .further; answers = answers }
 
 -- the answer of a packing by its rows in any order
 unfoldable pub answerOf : System → List ℕ → List ℕ

@@ -13,14 +13,15 @@ use super::sorting;
 use rows::Dims;
 use rows::answers;
 
-// How many entries are still to be skipped, how many were written, and whether a further one is known.
+// Whether an entry is still waited for; how many entries are still to be skipped, how many were written, and whether a further one is known.
 pub struct Emission {
+    pub waiting: bool,
     pub skip: u64,
     pub written: usize,
     pub further: bool,
 }
 
-// The answer of the packing whose rows are the first n, ascending: skipped, written behind those before it, or the further one.
+// The answer of the packing whose rows are the first n, ascending: met or passed by, skipped, written behind those before it, or the further one.
 fn emit_answer(
     d: Dims,
     work: &[u64],
@@ -28,20 +29,31 @@ fn emit_answer(
     pieces: &[u8],
     rows: &[u16],
     n: usize,
+    last: &[u8],
     capacity: usize,
     answers: &mut [u8],
     e: Emission,
 ) -> Emission
     requires { ⌜ Held d (now work) (now pieces) (now rows) n × (d .places ≤ length (now scans)) × (capacity * (2 * d .places) ≤ length (now answers)) ⌝ }
-    ensures { λ r. ⌜ emittedOf r (now (answers .exit)) ≡ emit capacity (answersOver (takenBy (ownedIn (now (pieces .entry)) (d .pieces)) (d .kinds) (pathIn (now (work .entry)) (now (rows .entry)) n)) (take (d .places) (now (scans .entry)))) (emittedOf e (now (answers .entry))) ⌝ }
+    ensures { λ r. ⌜ emittedOf r (now (last .entry)) (now (answers .exit)) ≡ emit capacity (answersOver (takenBy (ownedIn (now (pieces .entry)) (d .pieces)) (d .kinds) (pathIn (now (work .entry)) (now (rows .entry)) n)) (take (d .places) (now (scans .entry)))) (emittedOf e (now (last .entry)) (now (answers .entry))) ⌝ }
 {
     let skip = e.skip;
     let written = e.written;
     if e.further {
         return e;
     }
+    if e.waiting {
+        let met = answers::is_answer(d, work, scans, pieces, rows, n, last);
+        return Emission {
+            waiting: !met,
+            skip,
+            written,
+            further: false,
+        };
+    }
     if 0 < skip {
         return Emission {
+            waiting: false,
             skip: skip - 1,
             written,
             further: false,
@@ -59,12 +71,14 @@ fn emit_answer(
             written * (2 * d.places),
         );
         return Emission {
+            waiting: false,
             skip: 0,
             written: written + 1,
             further: false,
         };
     }
     Emission {
+        waiting: false,
         skip: 0,
         written,
         further: true,
@@ -84,12 +98,13 @@ pub fn emit_kept(
     mirrored: bool,
     path: &[u16],
     n: usize,
+    last: &[u8],
     capacity: usize,
     answers: &mut [u8],
     e: Emission,
 ) -> Emission
     requires { ⌜ Ready d (now work) (now heads) (now images) (now scans) (now kinds) (now pieces) × OfRows d (now path) n × Fillable (systemIn d (now work) (now images) (now scans) (now kinds) (now pieces)) (take n (now path)) × (capacity * (2 * d .places) ≤ length (now answers)) ⌝ }
-    ensures { λ r. ⌜ emittedOf r (now (answers .exit)) ≡ emitKept (systemIn d (now (work .entry)) (now (images .entry)) (now (scans .entry)) (now (kinds .entry)) (now (pieces .entry))) (identifies turned mirrored) capacity (take n (now (path .entry))) (emittedOf e (now (answers .entry))) ⌝ }
+    ensures { λ r. ⌜ emittedOf r (now (last .entry)) (now (answers .exit)) ≡ emitKept (systemIn d (now (work .entry)) (now (images .entry)) (now (scans .entry)) (now (kinds .entry)) (now (pieces .entry))) (identifies turned mirrored) capacity (take n (now (path .entry))) (emittedOf e (now (last .entry)) (now (answers .entry))) ⌝ }
 {
     let mut sorted = [0u16; 128];
     sorting::sort_path(path, n, &mut sorted);
@@ -108,5 +123,16 @@ pub fn emit_kept(
     ) {
         return e;
     }
-    emit_answer(d, work, scans, pieces, &sorted, n, capacity, answers, e)
+    emit_answer(
+        d,
+        work,
+        scans,
+        pieces,
+        &sorted,
+        n,
+        last,
+        capacity,
+        answers,
+        e,
+    )
 }

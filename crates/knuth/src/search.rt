@@ -4,6 +4,7 @@ ghost use mathlib.Core.Bool.{Bool};
 ghost use Prim.Native.Nat.{ℕ, _*_, _≤_, _<_};
 ghost use lib.ListN.{length, take};
 ghost use Rattle.definitions.specs.Refusals.{identifies};
+ghost use Rattle.rows.specs.Shown.{Shown};
 ghost use Rattle.rows.specs.Systems.{systemIn};
 ghost use Rattle.kept.specs.Emission.{emittedOf};
 ghost use Rattle.kept.specs.Ready.{OfRows, Ready};
@@ -14,6 +15,7 @@ ghost use Rattle.knuth.specs.Listing.{Choosable, Tryable, emitAll, knuth
 use kept::emission;
 use kept::emission::Emission;
 use rows::Dims;
+use rows::shown;
 
 // The packings that extend the rows chosen: the uncovered cell with the fewest rows still possible, but at least one, is covered in each way.
 pub fn choose(
@@ -30,15 +32,17 @@ pub fn choose(
     left: usize,
     path: &mut [u16],
     n: usize,
+    last: &[u8],
+    shown: &[u8],
     capacity: usize,
     answers: &mut [u8],
     e: Emission,
 ) -> Emission
-    requires { ⌜ Ready d (now work) (now heads) (now images) (now scans) (now kinds) (now pieces) × OfRows d (now path) n × (length (now path) ≡ 128) × (capacity * (2 * d .places) ≤ length (now answers)) ⌝ }
+    requires { ⌜ Ready d (now work) (now heads) (now images) (now scans) (now kinds) (now pieces) × OfRows d (now path) n × (length (now path) ≡ 128) × (length (now shown) ≡ 256) × Shown (d .cells) (take (d .places) (now scans)) (now last) (now shown) × (capacity * (2 * d .places) ≤ length (now answers)) ⌝ }
     requires { ⌜ Choosable (systemIn d (now work) (now images) (now scans) (now kinds) (now pieces)) (now links) left (take n (now path)) ⌝ }
     ensures same { λ _. ⌜ (now (links .exit) ≡ now (links .entry)) × (take n (now (path .exit)) ≡ take n (now (path .entry))) ⌝ }
     ensures found { λ r. ⌜ ((w : World) (unc : ℕ → Bool) (cp : ℕ → ℕ) (g : ℕ) → Seek w unc cp (d .cells) left (now (links .entry)) → w .t ≡ tableOf (systemIn d (now (work .entry)) (now (images .entry)) (now (scans .entry)) (now (kinds .entry)) (now (pieces .entry))) → left < g
-        → emittedOf r (now (answers .exit)) ≡ emitAll (systemIn d (now (work .entry)) (now (images .entry)) (now (scans .entry)) (now (kinds .entry)) (now (pieces .entry))) (identifies turned mirrored) capacity (knuthBelow (systemIn d (now (work .entry)) (now (images .entry)) (now (scans .entry)) (now (kinds .entry)) (now (pieces .entry))) (take n (now (path .entry))) g w cp left) (emittedOf e (now (answers .entry)))) ⌝ }
+        → emittedOf r (now (last .entry)) (now (answers .exit)) ≡ emitAll (systemIn d (now (work .entry)) (now (images .entry)) (now (scans .entry)) (now (kinds .entry)) (now (pieces .entry))) (identifies turned mirrored) capacity (knuthBelow (systemIn d (now (work .entry)) (now (images .entry)) (now (scans .entry)) (now (kinds .entry)) (now (pieces .entry))) (take n (now (path .entry))) g w cp left) (emittedOf e (now (last .entry)) (now (answers .entry)))) ⌝ }
 {
     if left == 0 {
         return emission::emit_kept(
@@ -53,6 +57,7 @@ pub fn choose(
             mirrored,
             path,
             n,
+            last,
             capacity,
             answers,
             e,
@@ -79,6 +84,8 @@ pub fn choose(
         k,
         path,
         n,
+        last,
+        shown,
         capacity,
         answers,
         e,
@@ -102,21 +109,49 @@ fn try_rows(
     k: usize,
     path: &mut [u16],
     n: usize,
+    last: &[u8],
+    shown: &[u8],
     capacity: usize,
     answers: &mut [u8],
     e: Emission,
 ) -> Emission
-    requires { ⌜ Ready d (now work) (now heads) (now images) (now scans) (now kinds) (now pieces) × OfRows d (now path) n × (length (now path) ≡ 128) × (capacity * (2 * d .places) ≤ length (now answers)) ⌝ }
+    requires { ⌜ Ready d (now work) (now heads) (now images) (now scans) (now kinds) (now pieces) × OfRows d (now path) n × (length (now path) ≡ 128) × (length (now shown) ≡ 256) × Shown (d .cells) (take (d .places) (now scans)) (now last) (now shown) × (capacity * (2 * d .places) ≤ length (now answers)) ⌝ }
     requires { ⌜ Tryable (systemIn d (now work) (now images) (now scans) (now kinds) (now pieces)) (now links) left c k (take n (now path)) ⌝ }
     ensures same { λ _. ⌜ (now (links .exit) ≡ now (links .entry)) × (take n (now (path .exit)) ≡ take n (now (path .entry))) ⌝ }
     ensures found { λ r. ⌜ ((w : World) (unc : ℕ → Bool) (cp : ℕ → ℕ) (g : ℕ) → Seek w unc cp (d .cells) left (now (links .entry)) → At w (d .cells) c k → w .t ≡ tableOf (systemIn d (now (work .entry)) (now (images .entry)) (now (scans .entry)) (now (kinds .entry)) (now (pieces .entry))) → left ≤ g
-        → emittedOf r (now (answers .exit)) ≡ emitAll (systemIn d (now (work .entry)) (now (images .entry)) (now (scans .entry)) (now (kinds .entry)) (now (pieces .entry))) (identifies turned mirrored) capacity (knuthRows (systemIn d (now (work .entry)) (now (images .entry)) (now (scans .entry)) (now (kinds .entry)) (now (pieces .entry))) (take n (now (path .entry))) g w cp left c k) (emittedOf e (now (answers .entry)))) ⌝ }
+        → emittedOf r (now (last .entry)) (now (answers .exit)) ≡ emitAll (systemIn d (now (work .entry)) (now (images .entry)) (now (scans .entry)) (now (kinds .entry)) (now (pieces .entry))) (identifies turned mirrored) capacity (knuthRows (systemIn d (now (work .entry)) (now (images .entry)) (now (scans .entry)) (now (kinds .entry)) (now (pieces .entry))) (take n (now (path .entry))) g w cp left c k) (emittedOf e (now (last .entry)) (now (answers .entry)))) ⌝ }
 {
     if k == c {
         return e;
     }
+    let r = links::row_of(links, k);
+    if !shown::leads(d, work, pieces, shown, e.waiting, r) {
+        let passed = links::below(links, k);
+        return try_rows(
+            d,
+            work,
+            heads,
+            images,
+            scans,
+            kinds,
+            pieces,
+            turned,
+            mirrored,
+            links,
+            left,
+            c,
+            passed,
+            path,
+            n,
+            last,
+            shown,
+            capacity,
+            answers,
+            e,
+        );
+    }
     let cells = links::row_cells(links, k);
-    path[n] = links::row_of(links, k) as u16;
+    path[n] = r as u16;
     let a = links::select_row(links, k);
     let s = choose(
         d,
@@ -132,6 +167,8 @@ fn try_rows(
         left - cells,
         path,
         n + 1,
+        last,
+        shown,
         capacity,
         answers,
         e,
@@ -157,6 +194,8 @@ fn try_rows(
         next,
         path,
         n,
+        last,
+        shown,
         capacity,
         answers,
         s,

@@ -51,6 +51,8 @@ pub record Lawful (s : System) : Type 0 where
   pub fewKinds : length (s .copies) ≤ 16
   pub aPartnerEach : length (s .partners) ≡ length (s .copies)
   pub fewCopies : sum (s .copies) ≤ 128
+  -- each cell has a place in the board's box
+  pub scanned : (c : ℕ) → c < s .size → List·Memᴰ c (s .scans)
   -- rows
   pub inOrder : T (ascending ahead (s .rows))
   pub row : (q : Placement) → List·Memᴰ q (s .rows) → LawfulRow s q

@@ -4,3 +4,4 @@ pub mod Boards
 pub mod Chains
 pub mod Answering
 pub mod Lawful
+pub mod Shown

@@ -4,7 +4,7 @@ ghost use Prim.Native.Nat.{_+_, _*_, _≤_, _<_};
 ghost use lib.Dec.{T, eqb, ltb};
 ghost use lib.ListN.{getD, length, take};
 ghost use lib.Seq.{paste};
-ghost use Rattle.definitions.specs.Lists.{all, each, howMany};
+ghost use Rattle.definitions.specs.Lists.{all, each, howMany, same};
 ghost use Rattle.definitions.specs.Answers.{copyOn};
 ghost use Rattle.rows.specs.Systems.{ownedIn};
 ghost use Rattle.rows.specs.Answering.{Held, answersOver, asCopy, copiesBy, noCopy, pathIn, takenBy};
@@ -125,4 +125,35 @@ pub fn reconstruct_answer(
         answers[at + 2 * i + 1] = c.copy;
         i += 1;
     }
+}
+
+// Whether a slice is the answer of a packing whose rows are the first n of an ascending path.
+pub fn is_answer(
+    d: Dims,
+    work: &[u64],
+    scans: &[u8],
+    pieces: &[u8],
+    path: &[u16],
+    n: usize,
+    last: &[u8],
+) -> bool
+    requires { ⌜ Held d (now work) (now pieces) (now path) n × (d .places ≤ length (now scans)) × (d .places ≤ 512) ⌝ }
+    ensures { λ b. ⌜ b ≡ same (answersOver (takenBy (ownedIn (now (pieces .entry)) (d .pieces)) (d .kinds) (pathIn (now (work .entry)) (now (path .entry)) n)) (take (d .places) (now (scans .entry)))) (now (last .entry)) ⌝ }
+{
+    let v = d.places;
+    if last.len() != 2 * v {
+        return false;
+    }
+    let mut i = 0;
+    while i < v {
+        let c = copy_at(d, work, scans, pieces, path, n, i);
+        if last[2 * i] != c.piece {
+            return false;
+        }
+        if last[2 * i + 1] != c.copy {
+            return false;
+        }
+        i += 1;
+    }
+    true
 }

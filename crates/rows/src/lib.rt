@@ -3,6 +3,7 @@
 
 pub mod answers;
 pub mod images;
+pub mod shown;
 pub mod system;
 pub mod table;
 

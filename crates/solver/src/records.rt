@@ -48,7 +48,8 @@ pub fn record_or(pieces: &[Record], i: usize) -> Record
     }
 }
 
-fn empty_table(n: usize) -> Table
+// The table of n records of zeros.
+pub fn empty_table(n: usize) -> Table
     ensures { λ r. ⌜ r ≡ emptyTable n ⌝ }
 {
     let p = no_record();

@@ -3,6 +3,7 @@ ghost use mathlib.Core.Path.{_≡_};
 ghost use lib.ListN.{length};
 ghost use Rattle.definitions.specs.Outcomes.{outcome, outcomeOf};
 ghost use Rattle.definitions.specs.Refusals.{isPorted};
+ghost use Rattle.kept.specs.Calls.{outcomeBehind};
 ghost use Rattle.placements.specs.Tables.{recordsOf};
 ghost use Rattle.solver.specs.Lent.{RefusedFirst, callWith};
 ghost use mathlib.Core.Bool.{false};
@@ -63,6 +64,44 @@ pub fn page(
                 turned,
                 mirrored,
                 skip,
+                answers,
+                work,
+                links,
+            )
+        }
+    }
+}
+
+// A call for what lies behind the entry `last` of the engine's list, whatever is lent: the page from there on, or the first refusal that applies.
+pub fn page_behind(
+    t: Table,
+    board: Record,
+    bytes: &[u8],
+    config: Config,
+    last: &[u8],
+    answers: &mut [u8],
+    work: &mut [u64],
+    links: &mut [u16],
+) -> Listing
+    ensures { λ r. ⌜ outcomeOf r (now (answers .exit)) (now (work .exit)) (now (links .exit)) ≡ outcomeBehind (now (last .entry)) (callWith (recordsOf t) board (now (bytes .entry)) config 0 (now (answers .entry)) (now (work .entry)) (now (links .entry))) ⌝ }
+{
+    let turned = config.identify_transformed_answers;
+    let mirrored = config.identify_mirrored_answers;
+    let solver = config.solver;
+    match solver {
+        SolverKind::Auto => refuse(t, board, bytes, config, work.len(), links.len()),
+        SolverKind::Naive => refuse(t, board, bytes, config, work.len(), links.len()),
+        SolverKind::Fast => {
+            fast_page::page_behind(t, board, bytes, turned, mirrored, last, answers, work)
+        }
+        SolverKind::KnuthAlgorithm => {
+            knuth_page::page_behind(
+                t,
+                board,
+                bytes,
+                turned,
+                mirrored,
+                last,
                 answers,
                 work,
                 links,

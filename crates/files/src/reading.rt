@@ -1,0 +1,153 @@
+// What a file of `pack` asks for: the pieces' records and their cells, the board's, and a configuration.
+ghost use mathlib.Core.List.{map};
+ghost use mathlib.Core.Path.{_≡_};
+ghost use mathlib.Core.Bool.{_||_};
+ghost use Prim.Native.Nat.{_+_, _-_, _≤_, _<_};
+ghost use lib.Dec.{T, eqb};
+ghost use Rattle.definitions.specs.Lists.{all};
+ghost use lib.ListN.{drop, length, take};
+ghost use lib.Seq.{paste};
+ghost use Rattle.definitions.specs.Files.{callIn, fieldsOf, gridIn, isConfig, isFile, isGridIn, isPiece, recordAt};
+ghost use Rattle.solver.specs.Records.{tableOf};
+ghost use Rattle.files.specs.Stretches.{Within, stretch};
+ghost use Rattle.files.specs.Reading.{Lines, PiecesRead, configIn, pushRow};
+use super::spans;
+use super::spans::Span;
+use definitions::Config;
+use definitions::Record;
+use definitions::SolverKind;
+use placements::Table;
+use solver::records;
+
+// The pieces of a file: the first 16 records, how many pieces there are, and how many cells they have together.
+pub struct Pieces {
+    pub table: Table,
+    pub used: usize,
+}
+
+// What a file asks for: its pieces, its board, its configuration, and how many cells they have together.
+pub struct Asked {
+    pub pieces: Table,
+    pub board: Record,
+    pub config: Config,
+    pub used: usize,
+}
+
+// The configuration that the first line gives.
+fn config_in(text: &[u8], line: Span) -> Config
+    requires { ⌜ Within line (now text) × T (isConfig (stretch line (now text))) ⌝ }
+    ensures { λ r. ⌜ r ≡ configIn (stretch line (now (text .entry))) ⌝ }
+{
+    let identified = spans::field_of(text, line, 2);
+    let mirrored = spans::is_word(text, identified, b"mirrored");
+    let mut turned = mirrored;
+    if spans::is_word(text, identified, b"turned") {
+        turned = true;
+    }
+    if spans::is_word(text, spans::field_of(text, line, 1), b"knuth") {
+        return Config {
+            identify_transformed_answers: turned,
+            identify_mirrored_answers: mirrored,
+            solver: SolverKind::KnuthAlgorithm,
+        };
+    }
+    Config {
+        identify_transformed_answers: turned,
+        identify_mirrored_answers: mirrored,
+        solver: SolverKind::Fast,
+    }
+}
+
+// The record of the grid from field n on, whose cells are lent from a place on.
+fn record_in(text: &[u8], line: Span, n: usize, count: u32, start: usize) -> Record
+    requires { ⌜ Within line (now text) × (n + 4 ≤ length (fieldsOf (stretch line (now text)))) × T (isGridIn n (stretch line (now text))) ⌝ }
+    ensures { λ r. ⌜ r ≡ recordAt start (gridIn count n (stretch line (now (text .entry)))) ⌝ }
+{
+    Record {
+        a: spans::number_in(text, spans::field_of(text, line, n)),
+        b: spans::number_in(text, spans::field_of(text, line, n + 1)),
+        c: spans::number_in(text, spans::field_of(text, line, n + 2)),
+        count,
+        start,
+    }
+}
+
+// The cells of a stretch as bytes 0 and 1, from a place on; and the place behind them.
+fn put_cells(text: &[u8], s: Span, cells: &mut [u8], at: usize) -> usize
+    requires { ⌜ Within s (now text) × T (all (λ x. eqb x 48 || eqb x 49) (stretch s (now text))) × (at + (s .to - s .from) ≤ length (now cells)) ⌝ }
+    ensures { λ r. ⌜ (r ≡ at + (s .to - s .from)) × (now (cells .exit) ≡ paste (now (cells .entry)) at (map (λ x. x - 48) (stretch s (now (text .entry)))) (s .to - s .from)) ⌝ }
+{
+    let from = s.from;
+    let n = s.to - from;
+    let mut i = 0;
+    while i < n {
+        cells[at + i] = text[from + i] - 48;
+        i += 1;
+    }
+    at + n
+}
+
+// One record more, behind those of a table; past 16 it is only counted.
+fn push_row(t: Table, p: Record) -> Table
+    requires { ⌜ t .n < 16384 ⌝ }
+    ensures { λ r. ⌜ r ≡ pushRow t p ⌝ }
+{
+    let n = t.n;
+    let mut out = t;
+    if n < 16 {
+        out.rows[n] = p;
+    }
+    out.n = n + 1;
+    out
+}
+
+// The pieces of the lines from a place on, their cells from the start of a slice on.
+fn read_pieces(text: &[u8], start: usize, cells: &mut [u8]) -> Pieces
+    requires { ⌜ (start ≤ length (now text)) × (length (now text) ≤ 16384) × (16384 ≤ length (now cells)) × Lines isPiece (drop start (now text)) ⌝ }
+    ensures { λ r. ⌜ PiecesRead (drop start (now (text .entry))) (now (cells .entry)) (r .table) (r .used) (now (cells .exit)) × (start + r .used ≤ length (now (text .entry))) ⌝ }
+{
+    let to = text.len();
+    let mut t = records::empty_table(0);
+    let mut used = 0;
+    let mut from = start;
+    while from < to {
+        let end = spans::find(text, Span { from, to }, 10);
+        let line = Span { from, to: end };
+        let count = spans::number_in(text, spans::field_of(text, line, 1));
+        let p = record_in(text, line, 2, count as u32, used);
+        t = push_row(t, p);
+        used = put_cells(text, spans::field_of(text, line, 5), cells, used);
+        from = end + 1;
+    }
+    Pieces { table: t, used }
+}
+
+// What a file asks for. The pieces' cells are lent first, then the board's.
+pub fn read_file(text: &[u8], cells: &mut [u8]) -> Asked
+    requires { ⌜ T (isFile (now text)) × (16384 ≤ length (now cells)) ⌝ }
+    ensures said { λ r. ⌜ (r .pieces ≡ tableOf (callIn (now (text .entry)) 0 0 .pieces)) × (r .board ≡ callIn (now (text .entry)) 0 0 .board) × (r .config ≡ callIn (now (text .entry)) 0 0 .config) ⌝ }
+    ensures lent { λ r. ⌜ (take (r .used) (now (cells .exit)) ≡ callIn (now (text .entry)) 0 0 .bytes) × (r .used ≤ 16384) × (drop (r .used) (now (cells .exit)) ≡ drop (r .used) (now (cells .entry))) ⌝ }
+{
+    let to = text.len();
+    let first = Span {
+        from: 0,
+        to: spans::find(text, Span { from: 0, to }, 10),
+    };
+    let from = first.to + 1;
+    let second = Span {
+        from,
+        to: spans::find(text, Span { from, to }, 10),
+    };
+    let config = config_in(text, first);
+    let p = read_pieces(text, second.to + 1, cells);
+    let at = p.used;
+    let pieces = p.table;
+    let board = record_in(text, second, 1, 0, at);
+    let used = put_cells(text, spans::field_of(text, second, 4), cells, at);
+    Asked {
+        pieces,
+        board,
+        config,
+        used,
+    }
+}
