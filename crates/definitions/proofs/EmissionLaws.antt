@@ -1,6 +1,6 @@
 -- The entries of a list, emitted one after the other, leave document 01's page. Assumes nothing.
 use Prim.Native.Nat.{ℕ, zero, suc, min, _+_, _-_, _*_, _≤_, _<_}
-use mathlib.Core.Bool.{Bool, true, false, cond}
+use mathlib.Core.Bool.{Bool, true, false, cond, not}
 use mathlib.Core.List.{List, [], _∷_, _++_, List·Memᴰ, List·Memᴰ·head, List·Memᴰ·tail, append-nil, append-assoc}
 use mathlib.Core.Path.{_≡_, refl, sym, ap, ap₂, _∙_, subst}
 use mathlib.Core.Logic.{_⊎_, inl, inr, ⊎-elim}
@@ -11,11 +11,11 @@ use native.Mathlib.Omega.{arith}
 use borrow.Author.Tests.{lt-ltb, le-ltb}
 use lib.Dec.{T, ltb, leb·suc-suc}
 use lib.ListN.{length, take, drop, length-take, length-drop, length-append, drop-of-length-le, take-append-drop}
-use lib.Seq.{paste, take-nil, take-length, take-paste, drop-paste, drop-drop, length-paste}
-use Rattle.definitions.specs.Lists.{joined}
+use lib.Seq.{paste, take-nil, drop-nil, take-length, take-paste, drop-paste, drop-drop, length-paste}
+use Rattle.definitions.specs.Lists.{joined, same}
 use Rattle.definitions.specs.Page.{Page, page}
 use Rattle.definitions.specs.Outcomes.{overStart}
-use Rattle.definitions.specs.Emission.{Emitted, begin, emit, emits, IsPage}
+use Rattle.definitions.specs.Emission.{Emitted, begin, emit, emits, behind, onwards, IsPage}
 use Rattle.definitions.proofs.DemandLaws.{length-joined, drop-in, take-in}
 
 -- ---- one entry
@@ -24,18 +24,24 @@ module _ (capacity : ℕ) (entry : List ℕ) (s : Emitted) where
   unfolding emit
   emit-done e = rw e
 
-  pub emit-skipped : s .further ≡ false → 0 < s .skip → emit capacity entry s ≡ record { skip = s .skip - 1; written = s .written; further = false; answers = s .answers }
+  pub emit-waited : s .further ≡ false → s .waiting ≡ true
+      → emit capacity entry s ≡ record { last = s .last; waiting = not (same entry (s .last)); skip = s .skip; written = s .written; further = false; answers = s .answers }
   unfolding emit
-  emit-skipped e h = rw (e, lt-ltb 0 (s .skip) h)
+  emit-waited e f = rw (e, f)
 
-  pub emit-written : s .further ≡ false → s .skip ≤ 0 → s .written < capacity
-      → emit capacity entry s ≡ record { skip = 0; written = s .written + 1; further = false; answers = paste (s .answers) (s .written * length entry) entry (length entry) }
-  unfolding emit
-  emit-written e z h = rw (e, le-ltb 0 (s .skip) z, lt-ltb (s .written) capacity h)
+  module _ (f : s .waiting ≡ false) where
+    pub emit-skipped : s .further ≡ false → 0 < s .skip → emit capacity entry s ≡ record { last = s .last; waiting = false; skip = s .skip - 1; written = s .written; further = false; answers = s .answers }
+    unfolding emit
+    emit-skipped e h = rw (e, f, lt-ltb 0 (s .skip) h)
 
-  pub emit-full : s .further ≡ false → s .skip ≤ 0 → capacity ≤ s .written → emit capacity entry s ≡ record { skip = 0; written = s .written; further = true; answers = s .answers }
-  unfolding emit
-  emit-full e z h = rw (e, le-ltb 0 (s .skip) z, le-ltb (s .written) capacity h)
+    pub emit-written : s .further ≡ false → s .skip ≤ 0 → s .written < capacity
+        → emit capacity entry s ≡ record { last = s .last; waiting = false; skip = 0; written = s .written + 1; further = false; answers = paste (s .answers) (s .written * length entry) entry (length entry) }
+    unfolding emit
+    emit-written e z h = rw (e, f, le-ltb 0 (s .skip) z, lt-ltb (s .written) capacity h)
+
+    pub emit-full : s .further ≡ false → s .skip ≤ 0 → capacity ≤ s .written → emit capacity entry s ≡ record { last = s .last; waiting = false; skip = 0; written = s .written; further = true; answers = s .answers }
+    unfolding emit
+    emit-full e z h = rw (e, f, le-ltb 0 (s .skip) z, le-ltb (s .written) capacity h)
 
 -- ---- from any split of the list; and once a further entry is known nothing changes, so that a search may stop at once
 pub emits-append : (capacity : ℕ) (xs ys : List (List ℕ)) (s : Emitted) → emits capacity (xs ++ ys) s ≡ emits capacity ys (emits capacity xs s)
@@ -48,19 +54,31 @@ unfolding emits
 emits-done capacity [] s e = refl
 emits-done capacity (x ∷ xs) s e = rw (emit-done capacity x s e) (emits-done capacity xs s e)
 
--- ---- entries that are skipped
-abbrev at : ℕ → ℕ → List ℕ → Emitted
-at k w o = record { skip = k; written = w; further = false; answers = o }
-
-skipped : (capacity w : ℕ) (o : List ℕ) (l : List (List ℕ)) (k : ℕ) → emits capacity l (at k w o) ≡ emits capacity (drop k l) (at (k - length l) w o)
+-- while an entry is waited for, those that are others change nothing
+pub emits-unmet : (capacity : ℕ) (xs : List (List ℕ)) (s : Emitted) → s .waiting ≡ true → ((x : List ℕ) → List·Memᴰ x xs → same x (s .last) ≡ false) → emits capacity xs s ≡ s
 unfolding emits
-skipped capacity w o [] zero = refl
-skipped capacity w o [] (suc k) = let e : suc k - 0 ≡ suc k = omega arith in rw e
-skipped capacity w o (x ∷ l) zero = let e : 0 - suc (length l) ≡ 0 = omega arith in rw e
-skipped capacity w o (x ∷ l) (suc k) =
+emits-unmet capacity [] s f others = refl
+emits-unmet capacity (x ∷ xs) s f others = rw (stays (s .further) refl) (emits-unmet capacity xs s f (λ y m. others y (List·Memᴰ·tail m)))
+  where
+    stays : (b : Bool) → s .further ≡ b → emit capacity x s ≡ s
+    stays true e = emit-done capacity x s e
+    stays false e =
+        emit-waited capacity x s e f
+        ∙ (λ i. record { last = s .last; waiting = (ap not (others x (List·Memᴰ·head refl)) ∙ sym f) i; skip = s .skip; written = s .written; further = sym e i; answers = s .answers })
+
+-- ---- entries that are skipped
+abbrev at : List ℕ → ℕ → ℕ → List ℕ → Emitted
+at last k w o = record { last = last; waiting = false; skip = k; written = w; further = false; answers = o }
+
+skipped : (last : List ℕ) (capacity w : ℕ) (o : List ℕ) (l : List (List ℕ)) (k : ℕ) → emits capacity l (at last k w o) ≡ emits capacity (drop k l) (at last (k - length l) w o)
+unfolding emits
+skipped last capacity w o [] zero = refl
+skipped last capacity w o [] (suc k) = let e : suc k - 0 ≡ suc k = omega arith in rw e
+skipped last capacity w o (x ∷ l) zero = let e : 0 - suc (length l) ≡ 0 = omega arith in rw e
+skipped last capacity w o (x ∷ l) (suc k) =
     let e : suc k - suc (length l) ≡ k - length l = omega arith in
     let d : suc k - 1 ≡ k = omega arith in
-    rw (emit-skipped capacity x (at (suc k) w o) refl (omega arith), d, e) (skipped capacity w o l k)
+    rw (emit-skipped capacity x (at last (suc k) w o) refl refl (omega arith), d, e) (skipped last capacity w o l k)
 
 -- ---- entries that are written from the w-th answer on
 -- what the buffer holds afterwards, with room for c answers
@@ -87,29 +105,29 @@ Sized n l = (x : List ℕ) → List·Memᴰ x l → length x ≡ n
 room : (w capacity n m : ℕ) → w < capacity → capacity * n ≤ m → w * n + n ≤ m
 room w capacity n m h k = let a = mul-le-mul-right n (let i : suc w ≤ capacity = omega arith in i) in let b = suc-mul w n in omega arith
 
-written : (n : ℕ) (l : List (List ℕ)) → Sized n l → (c capacity w : ℕ) (o : List ℕ) → capacity ≡ w + c → capacity * n ≤ length o
-    → emits capacity l (at 0 w o) ≡ record { skip = 0; written = w + min c (length l); further = ltb c (length l); answers = filled n o w c l }
+written : (last : List ℕ) (n : ℕ) (l : List (List ℕ)) → Sized n l → (c capacity w : ℕ) (o : List ℕ) → capacity ≡ w + c → capacity * n ≤ length o
+    → emits capacity l (at last 0 w o) ≡ record { last = last; waiting = false; skip = 0; written = w + min c (length l); further = ltb c (length l); answers = filled n o w c l }
 unfolding emits
-written n [] s c capacity w o e h =
+written last n [] s c capacity w o e h =
     let z : w + min c 0 ≡ w = omega arith in
     rw (z, le-ltb c 0 (omega arith), take-nil c, append-nil (take (w * n) o), take-append-drop (w * n) o)
-written n (x ∷ xs) s zero capacity w o e h =
+written last n (x ∷ xs) s zero capacity w o e h =
     let z : w + min 0 (suc (length xs)) ≡ w = omega arith in
-    rw (z, lt-ltb 0 (suc (length xs)) (omega arith), emit-full capacity x (at 0 w o) refl (omega arith) (omega arith), append-nil (take (w * n) o), take-append-drop (w * n) o)
+    rw (z, lt-ltb 0 (suc (length xs)) (omega arith), emit-full capacity x (at last 0 w o) refl refl (omega arith) (omega arith), append-nil (take (w * n) o), take-append-drop (w * n) o)
     (emits-done capacity xs _ refl)
-written n (x ∷ xs) s (suc c) capacity w o e h =
+written last n (x ∷ xs) s (suc c) capacity w o e h =
     let z : w + min (suc c) (suc (length xs)) ≡ w + 1 + min c (length xs) = omega arith in
     let size : length x ≡ n = s x (List·Memᴰ·head refl) in
     let fits : w * n + n ≤ length o = room w capacity n (length o) (omega arith) h in
     rw (
       z,
       leb·suc-suc (suc c) (length xs),
-      emit-written capacity x (at 0 w o) refl (omega arith) (omega arith),
+      emit-written capacity x (at last 0 w o) refl refl (omega arith) (omega arith),
       size,
       ← head-more n o x w size fits (joined (take c xs)),
       ← tail-more n o x w size fits (min c (length xs)) (w + 1 + min c (length xs)) refl,
     )
-    (written n xs (λ y m. s y (List·Memᴰ·tail m)) c capacity (w + 1) (paste o (w * n) x n) (omega arith) (rw (length-paste o (w * n) x n fits (omega arith)) h))
+    (written last n xs (λ y m. s y (List·Memᴰ·tail m)) c capacity (w + 1) (paste o (w * n) x n) (omega arith) (rw (length-paste o (w * n) x n fits (omega arith)) h))
 
 -- ---- the page
 lt-or-ge : (a b : ℕ) → (a < b) ⊎ (b ≤ a)
@@ -124,7 +142,7 @@ same-test : (a b c d : ℕ) → (a < b → c < d) → (b ≤ a → d ≤ c) → 
 same-test a b c d f g =
     ⊎-elim (λ (h : a < b). lt-ltb a b h ∙ sym (lt-ltb c d (f h))) (λ (h : b ≤ a). le-ltb a b h ∙ sym (le-ltb c d (g h))) (lt-or-ge a b)
 
-module _ (n : ℕ) (list : List (List ℕ)) (sized : Sized n list) (skip capacity : ℕ) (old : List ℕ) (fits : capacity * n ≤ length old) where
+module _ (last : List ℕ) (n : ℕ) (list : List (List ℕ)) (sized : Sized n list) (skip capacity : ℕ) (old : List ℕ) (fits : capacity * n ≤ length old) where
   abbrev entries : List (List ℕ)
   entries = take capacity (drop skip list)
 
@@ -136,19 +154,19 @@ module _ (n : ℕ) (list : List (List ℕ)) (sized : Sized n list) (skip capacit
 
   -- the state that the fold ends in
   ends : skip < length list
-      → emits capacity list (at skip 0 old) ≡ record { skip = 0; written = length entries; further = ltb capacity (length list - skip); answers = joined entries ++ drop (length (joined entries)) old }
+      → emits capacity list (at last skip 0 old) ≡ record { last = last; waiting = false; skip = 0; written = length entries; further = ltb capacity (length list - skip); answers = joined entries ++ drop (length (joined entries)) old }
   ends h =
       let k : skip - length list ≡ 0 = omega arith in
       let v : 0 + min capacity (length list - skip) ≡ length entries = let e = how-many in omega arith in
-      rw (skipped capacity 0 old list skip, k, written n (drop skip list) (λ x m. sized x (drop-in skip list m)) capacity capacity 0 old (omega arith) fits, length-drop skip list, zero-mul n, v, how-long)
+      rw (skipped last capacity 0 old list skip, k, written last n (drop skip list) (λ x m. sized x (drop-in skip list m)) capacity capacity 0 old (omega arith) fits, length-drop skip list, zero-mul n, v, how-long)
 
-  past : length list ≤ skip → emits capacity list (at skip 0 old) ≡ at (skip - length list) 0 old
+  past : length list ≤ skip → emits capacity list (at last skip 0 old) ≡ at last (skip - length list) 0 old
   unfolding emits
-  past h = rw (skipped capacity 0 old list skip, drop-of-length-le list h)
+  past h = rw (skipped last capacity 0 old list skip, drop-of-length-le list h)
 
-  pub emits-page : IsPage list skip capacity old (emits capacity list (begin skip old))
+  whole-page : IsPage list skip capacity old (emits capacity list (begin last false skip old))
   unfolding page overStart
-  emits-page =
+  whole-page =
       ⊎-elim
       (λ (h : skip < length list).
       let k = how-many in
@@ -167,3 +185,59 @@ module _ (n : ℕ) (list : List (List ℕ)) (sized : Sized n list) (skip capacit
         answers = sym (ap (λ (l : List (List ℕ)). joined l ++ drop (length (joined l)) old) e);
       }))
       (lt-or-ge skip (length list))
+
+-- ---- behind an entry
+behind-in : (last : List ℕ) (list : List (List ℕ)) {x : List ℕ} → List·Memᴰ x (behind last list) → List·Memᴰ x list
+behind-in last [] m = m
+behind-in last (y ∷ ys) {x} m = go (same y last) m (λ (k : List·Memᴰ x (behind last ys)). behind-in last ys k)
+  where
+    go : (b : Bool) → List·Memᴰ x (cond b ys (behind last ys)) → (List·Memᴰ x (behind last ys) → List·Memᴰ x ys) → List·Memᴰ x (y ∷ ys)
+    go true k f = List·Memᴰ·tail k
+    go false k f = List·Memᴰ·tail (f k)
+
+-- the entry is met, and what lies behind it is emitted; or it never comes, and there is nothing behind it
+met-or-not : (last : List ℕ) (capacity skip : ℕ) (old : List ℕ) (list : List (List ℕ))
+    → (emits capacity list (begin last true skip old) ≡ emits capacity (behind last list) (begin last false skip old)) ⊎ ((behind last list ≡ []) × (emits capacity list (begin last true skip old) ≡ begin last true skip old))
+unfolding emits
+met-or-not last capacity skip old [] = inr (refl, refl)
+met-or-not last capacity skip old (x ∷ xs) = go (same x last) refl (met-or-not last capacity skip old xs)
+  where
+    after : Bool → Emitted
+    after b = record { last = last; waiting = not b; skip = skip; written = 0; further = false; answers = old }
+
+    one : (b : Bool) → same x last ≡ b → emit capacity x (begin last true skip old) ≡ after b
+    one b e = emit-waited capacity x (begin last true skip old) refl refl ∙ ap after e
+
+    Rest : Type 0
+    Rest = (emits capacity xs (begin last true skip old) ≡ emits capacity (behind last xs) (begin last false skip old)) ⊎ ((behind last xs ≡ []) × (emits capacity xs (begin last true skip old) ≡ begin last true skip old))
+
+    go : (b : Bool) → same x last ≡ b → Rest
+        → (emits capacity xs (emit capacity x (begin last true skip old)) ≡ emits capacity (cond b xs (behind last xs)) (begin last false skip old))
+        ⊎ ((cond b xs (behind last xs) ≡ []) × (emits capacity xs (emit capacity x (begin last true skip old)) ≡ begin last true skip old))
+    go true e r = inl (ap (emits capacity xs) (one true e))
+    go false e (inl f) = inl (ap (emits capacity xs) (one false e) ∙ f)
+    go false e (inr f) = inr (f .0, ap (emits capacity xs) (one false e) ∙ f .1)
+
+module _ (last : List ℕ) (waiting : Bool) (n : ℕ) (list : List (List ℕ)) (sized : Sized n list) (skip capacity : ℕ) (old : List ℕ) (fits : capacity * n ≤ length old) where
+  pub emits-page : IsPage (onwards last waiting list) skip capacity old (emits capacity list (begin last waiting skip old))
+  unfolding page overStart
+  emits-page = go waiting
+    where
+      none : IsPage [] skip capacity old (begin last true skip old)
+      none =
+          let e : take capacity (drop skip []) ≡ [] = ap (λ (l : List (List ℕ)). take capacity l) (drop-nil skip) ∙ take-nil capacity in
+          record {
+            written = sym (ap (λ (l : List (List ℕ)). length l) e);
+            further = sym (le-ltb (skip + length (take capacity (drop skip []))) 0 (omega arith));
+            answers = sym (ap (λ (l : List (List ℕ)). joined l ++ drop (length (joined l)) old) e);
+          }
+
+      go : (b : Bool) → IsPage (onwards last b list) skip capacity old (emits capacity list (begin last b skip old))
+      go false = whole-page last n list sized skip capacity old fits
+      go true =
+          ⊎-elim
+          (λ (e : emits capacity list (begin last true skip old) ≡ emits capacity (behind last list) (begin last false skip old)).
+          subst (λ (s : Emitted). IsPage (behind last list) skip capacity old s) (sym e) (whole-page last n (behind last list) (λ x m. sized x (behind-in last list m)) skip capacity old fits))
+          (λ (e : (behind last list ≡ []) × (emits capacity list (begin last true skip old) ≡ begin last true skip old)).
+          subst (λ (s : Emitted). IsPage (behind last list) skip capacity old s) (sym (e .1)) (subst (λ (l : List (List ℕ)). IsPage l skip capacity old (begin last true skip old)) (sym (e .0)) none))
+          (met-or-not last capacity skip old list)
