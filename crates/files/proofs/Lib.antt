@@ -1,2 +1,7 @@
 pub mod SpanLaws
 pub mod LineLaws
+pub mod PutLaws
+pub mod DecimalLaws
+pub mod ListingLaws
+pub mod ReadingLaws
+pub mod ReadingLineLaws

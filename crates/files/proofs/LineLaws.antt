@@ -32,7 +32,7 @@ unfolding stretch
 stretch-length s bytes w = let i = w .inside in let o = w .order in simp (length-take, length-drop) (omega arith)
 
 -- ---- numbers of at most three digits
-three-are-nine : (ds : List ℕ) → isNumber 3 ds ≡ true → T (isNumber 9 ds)
+pub three-are-nine : (ds : List ℕ) → isNumber 3 ds ≡ true → T (isNumber 9 ds)
 unfolding isNumber
 three-are-nine ds e =
     let t = holds (isNumber 3 ds) e in
@@ -203,7 +203,7 @@ parts-none b (x ∷ xs) e = go (eqb b x) refl e (λ (k : before (eqb b) xs ≡ l
     go true f k r = absurd (omega arith)
     go false f k r = rw (eqb-sym b x false f, r (omega arith))
 
-parts-some : (b : ℕ) (xs : List ℕ) → before (eqb b) xs < length xs → parts b xs ≡ take (before (eqb b) xs) xs ∷ parts b (drop (suc (before (eqb b) xs)) xs)
+pub parts-some : (b : ℕ) (xs : List ℕ) → before (eqb b) xs < length xs → parts b xs ≡ take (before (eqb b) xs) xs ∷ parts b (drop (suc (before (eqb b) xs)) xs)
 parts-some b [] h = absurd (omega arith)
 parts-some b (x ∷ xs) h = go (eqb b x) refl h (λ (k : before (eqb b) xs < length xs). parts-some b xs k)
   where
@@ -211,7 +211,7 @@ parts-some b (x ∷ xs) h = go (eqb b x) refl h (λ (k : before (eqb b) xs < len
     go true f k r = rw (eqb-sym b x true f)
     go false f k r = rw (eqb-sym b x false f, r (omega arith))
 
-parts-exist : (b : ℕ) (xs : List ℕ) → 0 < length (parts b xs)
+pub parts-exist : (b : ℕ) (xs : List ℕ) → 0 < length (parts b xs)
 parts-exist b [] = omega arith
 parts-exist b (x ∷ xs) = go (eqb x b) (parts b xs)
   where
@@ -269,7 +269,7 @@ unfolding fileFrom
 file-over number bytes from h = ap (fileFrom number) (drop-of-length-le bytes h)
 
 -- a file is its lines from the first on
-pieces-all : (n : ℕ) (ws : List (List ℕ)) → allLines (suc (suc n)) ws ≡ all isPiece ws
+pub pieces-all : (n : ℕ) (ws : List (List ℕ)) → allLines (suc (suc n)) ws ≡ all isPiece ws
 pieces-all n [] = le-leb 2 (suc (suc n)) (omega arith)
 pieces-all n (w ∷ ws) = ap (λ (t : Bool). isPiece w && t) (pieces-all (suc n) ws)
 
@@ -296,7 +296,7 @@ unfolding stretch
 stretch-rest from bytes = take-all (length bytes - from) (drop from bytes) (let e = length-drop from bytes in omega arith)
 
 module _ (number : ℕ) (bytes : List ℕ) (from end : ℕ) (is : end ≡ from + before (eqb 10) (stretch (record { from = from; to = length bytes }) bytes)) where
-  found : end ≡ from + before (eqb 10) (drop from bytes)
+  pub found : end ≡ from + before (eqb 10) (drop from bytes)
   found = is ∙ ap (λ (l : List ℕ). from + before (eqb 10) l) (stretch-rest from bytes)
 
   pub not-ended : from < length bytes → end ≡ length bytes → fileFrom number (drop from bytes) ≡ false
