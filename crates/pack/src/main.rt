@@ -4,7 +4,10 @@ ghost use mathlib.Core.Path.{_≡_};
 ghost use Prim.Native.Nat.{_+_, _*_, _≤_};
 ghost use lib.Dec.{T};
 ghost use lib.ListN.{length};
+ghost use mathlib.Core.Logic.{_⊎_};
 ghost use Rattle.definitions.specs.Files.{isFile};
+ghost use Rattle.definitions.specs.Grid.{volume};
+ghost use Rattle.definitions.specs.Refusals.{sidesOf};
 use definitions::Config;
 use definitions::Listing;
 use definitions::Record;
@@ -81,7 +84,7 @@ fn print_page(answers: &[u8], places: usize, written: usize, count: u64) -> Prog
 
 // The places of a board's box; 0 where a side is out of range.
 fn places_of(board: Record) -> usize
-    ensures { λ r. ⌜ r ≤ 512 ⌝ }
+    ensures { λ r. ⌜ (r ≤ 512) × ((r ≡ 0) ⊎ (r ≡ volume (sidesOf board))) ⌝ }
 {
     if 8 < board.a {
         return 0;
@@ -146,6 +149,9 @@ fn list_rest(
         }
         if !further {
             print_last(count);
+            return;
+        }
+        if n == 0 {
             return;
         }
         written = n;

@@ -8,16 +8,17 @@ use mathlib.Core.Logic.{_⊎_, inl, inr, ⊎-elim}
 use native.Mathlib.Nat.{add-zero}
 use native.Mathlib.Numerals.{add-one}
 use native.Mathlib.Omega.{arith}
+use borrow.Author.Count.{below-more}
 use borrow.Author.Tests.{ne-eqb, eqb-true, eqb-false}
 use lib.Dec.{T, ltb, eqb, ltb→lt, eqb→eq}
 use lib.ListN.{length, getD, take, drop, set, length-map, List·getD-append, drop-of-length-le}
-use lib.Seq.{paste, length-take-le, drop-cons, take-suc, getD-take, take-take, getD-append-add}
-use Rattle.definitions.specs.Lists.{consIf, keep, all, howMany, before, joined, ascending, each, numberedFrom, from, below, member, less}
+use lib.Seq.{paste, length-take-le, drop-cons, take-suc, getD-take, take-take, getD-append-add, ext-getD}
+use Rattle.definitions.specs.Lists.{consIf, keep, all, howMany, before, joined, ascending, each, numberedFrom, from, below, member, same, less}
 use Rattle.definitions.specs.Kinds.{Copy}
 use Rattle.definitions.specs.Placements.{Placement}
 use Rattle.definitions.specs.Packing.{ahead, rank, used}
 use Rattle.definitions.specs.Answers.{Taken, takes, copyOn}
-use Rattle.definitions.proofs.ListLaws.{and-left, and-right, or-cases, all-at, all-of, keep-at, keep-of, below-of, length-below, from-at, is-false, member-at, member-of}
+use Rattle.definitions.proofs.ListLaws.{and-left, and-right, or-cases, all-at, all-of, keep-at, keep-of, below-of, length-below, from-at, is-true, is-false, member-at, member-of, same→eq, same-refl}
 use Rattle.definitions.proofs.GroupLaws.{map-same}
 use Rattle.definitions.proofs.WellMadeLaws.{nth-mem}
 use Rattle.definitions.proofs.KindLaws.{nth-at}
@@ -29,7 +30,7 @@ use Rattle.rows.specs.Systems.{Owned, ownedIn}
 use Rattle.rows.specs.Answering.{noCopy, copiesIf, copiesBy, pathIn, takenBy, answersOver, asCopy, Held}
 use Rattle.rows.specs.declared.Dims.{Dims}
 use Rattle.rows.specs.declared.answers.Copied.{Copied}
-use Rattle.rows.proofs.PairLaws.{getD-from, pairs, pair-stored}
+use Rattle.rows.proofs.PairLaws.{getD-from, pairs, length-pairs, pair-first, pair-second, pair-stored}
 
 -- ---- the copies of a kind, piece by piece
 abbrev pub ownedAt : List ℕ → ℕ → Owned
@@ -343,3 +344,63 @@ module _ (ts : List Taken) (scans old : List ℕ) (at v : ℕ) (long : v ≤ len
       ap (λ (l : List ℕ). set (set l (at + 2 * i) (d .piece)) (at + 2 * i + 1) (d .copy)) e
       ∙ ap₂ (λ (a b : ℕ). set (set (paste old at (pairs f g xs) (2 * i)) (at + 2 * i) a) (at + 2 * i + 1) b) piece copy
       ∙ pair-stored f g old at xs 0 (omega arith) i (omega arith)
+
+-- ---- an answer's bytes, compared two a turn
+-- of a slice as long as an answer for v places, the first 2 i bytes are the answer's
+pub record Agreed (told last : List ℕ) (v i : ℕ) : Type 0 where
+  pub upTo : i ≤ v
+  pub sized : length last ≡ 2 * v
+  pub agree : (k : ℕ) → k < 2 * i → getD last k 0 ≡ getD told k 0
+
+module _ (ts : List Taken) (scans last : List ℕ) (v : ℕ) (long : v ≤ length scans) where
+  abbrev told : List ℕ
+  told = answersOver ts (take v scans)
+
+  told-length : length told ≡ 2 * v
+  unfolding answersOver
+  told-length = let a = length-pairs (λ n. copyOn ts n .piece) (λ n. copyOn ts n .copy) (take v scans) in let b = length-take-le v scans long in omega arith
+
+  told-piece : (i : ℕ) → i < v → (d : Copied) → asCopy d ≡ copyOn ts (getD scans i 0) → getD told (2 * i) 0 ≡ d .piece
+  unfolding answersOver asCopy
+  told-piece i h d c =
+      pair-first (λ n. copyOn ts n .piece) (λ n. copyOn ts n .copy) (take v scans) i 0 (let b = length-take-le v scans long in omega arith)
+      ∙ ap (λ (n : ℕ). copyOn ts n .piece) (getD-take v scans i 0 h) ∙ sym (ap (λ (y : Copy). y .piece) c)
+
+  told-copy : (i : ℕ) → i < v → (d : Copied) → asCopy d ≡ copyOn ts (getD scans i 0) → getD told (2 * i + 1) 0 ≡ d .copy
+  unfolding answersOver asCopy
+  told-copy i h d c =
+      pair-second (λ n. copyOn ts n .piece) (λ n. copyOn ts n .copy) (take v scans) i 0 (let b = length-take-le v scans long in omega arith)
+      ∙ ap (λ (n : ℕ). copyOn ts n .copy) (getD-take v scans i 0 h) ∙ sym (ap (λ (y : Copy). y .copy) c)
+
+  pub agreed-none : length last ≡ 2 * v → Agreed told last v 0
+  agreed-none e = record { upTo = omega arith; sized = e; agree = λ k h. absurd (omega arith) }
+
+  pub agreed-more : (i : ℕ) → Agreed told last v i → i < v → (d : Copied) → asCopy d ≡ copyOn ts (getD scans i 0)
+      → getD last (2 * i) 0 ≡ d .piece → getD last (2 * i + 1) 0 ≡ d .copy → Agreed told last v (i + 1)
+  agreed-more i a h d c p q =
+      record {
+        upTo = omega arith;
+        sized = a .sized;
+        agree = λ k l. below-more Same (2 * i + 1) (below-more Same (2 * i) (a .agree) (p ∙ sym (told-piece i h d c))) (q ∙ sym (told-copy i h d c)) k (omega arith);
+      }
+    where
+      Same : ℕ → Type 0
+      Same k = getD last k 0 ≡ getD told k 0
+
+  apart : (xs ys : List ℕ) → (xs ≡ ys → ⊥) → false ≡ same xs ys
+  apart xs ys f = sym (is-false (same xs ys) (λ t. f (same→eq xs ys t)))
+
+  pub sizes-apart : (length last ≡ 2 * v → ⊥) → false ≡ same told last
+  sizes-apart f = apart told last (λ e. f (sym (ap length e) ∙ told-length))
+
+  pub pieces-apart : (i : ℕ) → i < v → (d : Copied) → asCopy d ≡ copyOn ts (getD scans i 0) → (getD last (2 * i) 0 ≡ d .piece → ⊥) → false ≡ same told last
+  pieces-apart i h d c f = apart told last (λ e. f (sym (ap (λ (l : List ℕ). getD l (2 * i) 0) e) ∙ told-piece i h d c))
+
+  pub copies-apart : (i : ℕ) → i < v → (d : Copied) → asCopy d ≡ copyOn ts (getD scans i 0) → (getD last (2 * i + 1) 0 ≡ d .copy → ⊥) → false ≡ same told last
+  copies-apart i h d c f = apart told last (λ e. f (sym (ap (λ (l : List ℕ). getD l (2 * i + 1) 0) e) ∙ told-copy i h d c))
+
+  pub agreed-all : (i : ℕ) → Agreed told last v i → v ≤ i → true ≡ same told last
+  agreed-all i a h =
+      let n = told-length in
+      let e : last ≡ told = ext-getD 0 last told (a .sized ∙ sym n) (λ k l. a .agree k (let s = a .sized in omega arith)) in
+      sym (is-true (same told last) (subst (λ (l : List ℕ). T (same told l)) (sym e) (same-refl told)))

@@ -1,5 +1,6 @@
 pub mod PairLaws
 pub mod AnsweringLaws
+pub mod ShownLaws
 pub mod KindListLaws
 pub mod AnswerLaws
 pub mod ChainLaws

@@ -1,14 +1,15 @@
 -- The system of an accepted tray is lawful: its rows are the tray's placements, its maps the board's, and the limits are those that a call must keep. Assumes nothing.
 use Prim.Native.Nat.{ℕ, suc, _+_, _≤_, _<_}
 use mathlib.Core.Bool.{Bool, true, false, cond, not, _&&_}
-use mathlib.Core.List.{List, [], _∷_, map, List·Memᴰ}
+use mathlib.Core.List.{List, [], _∷_, map, List·Memᴰ, Memᴰ·cast, Memᴰ·map}
 use mathlib.Core.Path.{_≡_, refl, sym, ap, _∙_, subst}
 use native.Mathlib.Omega.{arith}
 use lib.Dec.{T, ltb, nltb→le}
 use lib.ListN.{length, getD, length-map, length-append}
 use Rattle.definitions.specs.Lists.{consIf, all, keep, each, below, numberedFrom, member, ascending, sum}
-use Rattle.definitions.specs.Grid.{Grid, sameGrid, gridAhead, filledCells}
+use Rattle.definitions.specs.Grid.{Grid, Cell, box, sameGrid, gridAhead, filledCells}
 use Rattle.definitions.specs.Maps.{identity}
+use Rattle.definitions.specs.Scan.{scanNumber}
 use Rattle.definitions.specs.Kinds.{Piece, Sorted, Copy, Kind, sorted, shapes, smallest, copiesOf, kindsOf}
 use Rattle.definitions.specs.Placements.{Placement, Compiled, compile}
 use Rattle.definitions.specs.Packing.{limits}
@@ -17,14 +18,14 @@ use Rattle.definitions.specs.Refusals.{Call, trayOf, areBits, copyCount, boardC
 use Rattle.definitions.proofs.ListLaws.{and-left, keep-at, keep-of, keep-ascending, below-of, from-ascending, member-at, member-of, ltb-trans, ltb-irrefl, ascending-unique, and-right, not-again, length-below, apart-ascending, apart-length, is-false}
 use Rattle.definitions.proofs.CountLaws.{total, total-add, total-zero, total-same, sum-map}
 use Rattle.definitions.proofs.GroupLaws.{identity-grid, sameGrid→eq}
-use Rattle.definitions.proofs.MapLaws.{map-map-of}
+use Rattle.definitions.proofs.MapLaws.{map-map-of, box-of}
 use Rattle.definitions.proofs.CellLaws.{grid-trans, grid-irrefl}
 use Rattle.definitions.proofs.EngineLaws.{sort-at}
 use Rattle.definitions.proofs.RefusalLaws.{none-applies}
 use Rattle.definitions.proofs.ShapeLaws.{fails, sum-filled, scan-length}
 use Rattle.definitions.proofs.PartnerLaws.{gs, gs-up}
 use Rattle.definitions.proofs.SetDownLaws.{placement-once}
-use Rattle.definitions.proofs.GeometryLaws.{piece-whole, W, whole}
+use Rattle.definitions.proofs.GeometryLaws.{piece-whole, W, whole, numbered-cells, in-box}
 use Rattle.rows.specs.Rows.{spread}
 use Rattle.rows.specs.Systems.{owned, systemOf, kindBy}
 use Rattle.rows.specs.Answering.{copiesBy}
@@ -151,6 +152,12 @@ module _ (l : Call) (ok : refusal l ≡ 0) where
           let e = spread-cells (q .cells) (W l ok .cellsAscend q m) (λ n k. let a = W l ok .onBoard q m n k in let b = few-cells in omega arith) in
           (λ i. record { kind = q .kind; p = q .p; j = q .j; cells = e i })
 
+  -- ---- each cell has a place in the board's box
+  scanned-cell : (n : ℕ) → n < length (compile (trayOf l) .cells) → List·Memᴰ n (map (scanNumber (compile (trayOf l) .cells)) (box (compile (trayOf l) .board .sides)))
+  scanned-cell n h =
+      let u : Cell = getD (C .cells) n (record { x = 0; y = 0; z = 0 }) in
+      Memᴰ·cast (sym (numbered-cells l ok .number-cell n h)) (Memᴰ·map (scanNumber (C .cells)) (box-of (C .board .sides) u (in-box l ok u (numbered-cells l ok .cell-in n h))))
+
   -- ---- the system
   pub lawful : ((k : ℕ) → k < length (compile (trayOf l) .kinds) → length (copiesBy (owned (trayOf l)) k) ≡ getD (limits (compile (trayOf l))) k 0) → Lawful (systemOf (trayOf l))
   unfolding systemOf limits
@@ -161,6 +168,7 @@ module _ (l : Call) (ok : refusal l ≡ 0) where
         fewKinds = (let e = many in let h = few-kinds in omega arith);
         aPartnerEach = length-map (C .kinds) (λ (d : Kind). d .partner) ∙ sym many;
         fewCopies = few-copies;
+        scanned = scanned-cell;
         inOrder = W l ok .inOrder;
         row = λ q m. record {
           ofKind = (let e = many in let h = W l ok .ofKinds q m in omega arith);

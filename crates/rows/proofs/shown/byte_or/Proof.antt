@@ -1,0 +1,19 @@
+-- `byte_or` meets its contract. Assumes nothing.
+use mathlib.Core.Path.{sym}
+use denote.Ref.{now}
+use lib.ListN.{List·getD-eq-default}
+use borrow.Author.Needs.{needs}
+use Rattle.rows.proofs.shown.byte_or.Statement.{statement}
+use Rattle.rows.proofs.shown.byte_or.Tie as tie
+
+shared-slice-read-result : tie.Need-shared-slice-read-result
+shared-slice-read-result c = search needs
+
+returns : tie.Need-returns
+returns c = search needs
+
+returns-2 : tie.Need-returns-2
+returns-2 c = sym (List·getD-eq-default (now (c .before .args .last)) 0 (c .if1 .left))
+
+pub byte-or-spec : {M : Type 1} → statement M
+byte-or-spec = tie.close (tie.spec shared-slice-read-result returns returns-2)
