@@ -138,7 +138,7 @@ lt-or-ge a b = go (decLt a b)
     go (no h) = inr (omega arith)
 
 -- two tests that hold together
-same-test : (a b c d : ℕ) → (a < b → c < d) → (b ≤ a → d ≤ c) → ltb a b ≡ ltb c d
+pub same-test : (a b c d : ℕ) → (a < b → c < d) → (b ≤ a → d ≤ c) → ltb a b ≡ ltb c d
 same-test a b c d f g =
     ⊎-elim (λ (h : a < b). lt-ltb a b h ∙ sym (lt-ltb c d (f h))) (λ (h : b ≤ a). le-ltb a b h ∙ sym (le-ltb c d (g h))) (lt-or-ge a b)
 

@@ -1,6 +1,6 @@
 -- A packing's answer on the page: an answer has two bytes for each place, so that capacity of them fit. Assumes nothing.
 use Prim.Native.Nat.{ℕ, suc, _+_, _*_, _≤_, _<_}
-use mathlib.Core.Bool.{Bool, true, false, cond}
+use mathlib.Core.Bool.{Bool, true, false, cond, not}
 use mathlib.Core.List.{List, [], _∷_, map, List·Memᴰ, List·Memᴰ·head, List·Memᴰ·tail, Memᴰ·of-map}
 use mathlib.Core.Path.{_≡_, refl, sym, ap, ap₂, _∙_, subst}
 use native.Mathlib.Nat.{suc-mul, mul-le-mul-right}
@@ -8,13 +8,13 @@ use native.Mathlib.Omega.{arith}
 use lib.Dec.{T, ltb, lt→ltb, ltb→lt}
 use lib.ListN.{length, take}
 use lib.Seq.{paste, length-take-le}
-use Rattle.definitions.specs.Lists.{all, ascending}
+use Rattle.definitions.specs.Lists.{all, ascending, same}
 use Rattle.definitions.specs.Placements.{Placement}
 use Rattle.definitions.specs.Packing.{ahead, used}
 use Rattle.definitions.specs.Kept.{Identify}
 use Rattle.definitions.specs.Emission.{Emitted, emit}
 use Rattle.definitions.specs.Answers.{Taken}
-use Rattle.definitions.proofs.EmissionLaws.{emit-written}
+use Rattle.definitions.proofs.EmissionLaws.{emit-waited, emit-written}
 use Rattle.definitions.proofs.ListLaws.{all-at, all-of}
 use Rattle.rows.specs.declared.Dims.{Dims}
 use Rattle.rows.specs.Rows.{rowAt}
@@ -30,6 +30,12 @@ use Rattle.kept.proofs.NormalLaws.{in-kinds, rows-ascend}
 pub room : (w capacity n m : ℕ) → w < capacity → capacity * n ≤ m → w * n + n ≤ m
 room w capacity n m h k = let a = mul-le-mul-right n (let i : suc w ≤ capacity = omega arith in i) in let b = suc-mul w n in omega arith
 
+-- the entry that is waited for, or another
+pub met-or-passed : (s : Emitted) (capacity : ℕ) (entry : List ℕ) → s .further ≡ false → s .waiting ≡ true → (met : Bool) → met ≡ same entry (s .last)
+    → record { last = s .last; waiting = not met; skip = s .skip; written = s .written; further = false; answers = s .answers } ≡ emit capacity entry s
+met-or-passed s capacity entry e f met is =
+    ap (λ (b : Bool). record { last = s .last; waiting = not b; skip = s .skip; written = s .written; further = false; answers = s .answers }) is ∙ sym (emit-waited capacity entry s e f)
+
 answer-bytes : (ts : List Taken) (scans : List ℕ) → length (answersOver ts scans) ≡ 2 * length scans
 unfolding answersOver
 answer-bytes ts [] = refl
@@ -39,14 +45,14 @@ module _ (ts : List Taken) (scans : List ℕ) (places : ℕ) (h : places ≤ len
   pub answer-length : length (answersOver ts (take places scans)) ≡ 2 * places
   answer-length = answer-bytes ts (take places scans) ∙ ap (λ (n : ℕ). 2 * n) (length-take-le places scans h)
 
-  pub emit-answer-written : (capacity : ℕ) (s : Emitted) → s .further ≡ false → s .skip ≤ 0 → s .written < capacity → (after : List ℕ)
+  pub emit-answer-written : (capacity : ℕ) (s : Emitted) → s .waiting ≡ false → s .further ≡ false → s .skip ≤ 0 → s .written < capacity → (after : List ℕ)
       → after ≡ paste (s .answers) (s .written * (2 * places)) (answersOver ts (take places scans)) (2 * places)
-      → record { skip = 0; written = s .written + 1; further = false; answers = after } ≡ emit capacity (answersOver ts (take places scans)) s
-  emit-answer-written capacity s e z k after is =
+      → record { last = s .last; waiting = false; skip = 0; written = s .written + 1; further = false; answers = after } ≡ emit capacity (answersOver ts (take places scans)) s
+  emit-answer-written capacity s f e z k after is =
       let entry = answersOver ts (take places scans) in
-      ap (λ (l : List ℕ). record { skip = 0; written = s .written + 1; further = false; answers = l })
+      ap (λ (l : List ℕ). record { last = s .last; waiting = false; skip = 0; written = s .written + 1; further = false; answers = l })
       (is ∙ ap (λ (n : ℕ). paste (s .answers) (s .written * n) entry n) (sym answer-length))
-      ∙ sym (emit-written capacity entry s e z k)
+      ∙ sym (emit-written capacity entry s f e z k)
 
 -- ---- a packing by its rows in any order
 module _ (d : Dims) (work images scans kinds pieces heads : List ℕ) (ready : Ready d work heads images scans kinds pieces) (path : List ℕ) (n : ℕ) (o : OfRows d path n)

@@ -10,3 +10,4 @@ pub mod ClearingLaws
 pub mod ReadyLaws
 pub mod PreparedLaws
 pub mod CallLaws
+pub mod BehindLaws

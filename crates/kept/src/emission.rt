@@ -34,7 +34,7 @@ fn emit_answer(
     answers: &mut [u8],
     e: Emission,
 ) -> Emission
-    requires { ⌜ Held d (now work) (now pieces) (now rows) n × (d .places ≤ length (now scans)) × (capacity * (2 * d .places) ≤ length (now answers)) ⌝ }
+    requires { ⌜ Held d (now work) (now pieces) (now rows) n × (d .places ≤ length (now scans)) × (d .places ≤ 512) × (capacity * (2 * d .places) ≤ length (now answers)) ⌝ }
     ensures { λ r. ⌜ emittedOf r (now (last .entry)) (now (answers .exit)) ≡ emit capacity (answersOver (takenBy (ownedIn (now (pieces .entry)) (d .pieces)) (d .kinds) (pathIn (now (work .entry)) (now (rows .entry)) n)) (take (d .places) (now (scans .entry)))) (emittedOf e (now (last .entry)) (now (answers .entry))) ⌝ }
 {
     let skip = e.skip;

@@ -1,0 +1,81 @@
+-- A call for what lies behind an entry: behind entry k of its list its outcome is document 01's with skip k + 1. Assumes nothing.
+use Prim.Native.Nat.{ℕ, zero, suc, _+_, _≤_, _<_}
+use mathlib.Core.Bool.{Bool, true, false, cond}
+use mathlib.Core.List.{List, [], _∷_, map, List·Memᴰ, List·Memᴰ·head, List·Memᴰ·tail}
+use mathlib.Core.Path.{_≡_, refl, sym, ap, _∙_, subst}
+use native.Mathlib.Omega.{arith}
+use lib.Dec.{T, eqb, ltb}
+use lib.ListN.{length, getD, take, drop, length-drop}
+use Rattle.definitions.specs.Lists.{Apart, joined, same}
+use Rattle.definitions.specs.Demands.{demand3}
+use Rattle.definitions.specs.Emission.{behind}
+use Rattle.definitions.specs.Page.{Page, page}
+use Rattle.definitions.specs.Orders.{listed}
+use Rattle.definitions.specs.Answers.{answer}
+use Rattle.definitions.specs.Placements.{compile}
+use Rattle.definitions.specs.Outcomes.{Outcome, accepted, answersOf, capacity, cleared, outcome, overStart, pageOf, refused}
+use Rattle.definitions.specs.Refusals.{Call, identifyOf, isKnuth, refusal, table, trayOf}
+use Rattle.definitions.proofs.DemandLaws.{demand3-holds}
+use Rattle.definitions.proofs.EmissionLaws.{same-test}
+use Rattle.definitions.proofs.ListLaws.{eqb-of, holds, is-true, same→eq, same-refl}
+use Rattle.definitions.proofs.RefusalLaws.{outcome-accepted}
+use Rattle.kept.specs.Calls.{acceptedBehind, outcomeBehind, pageFrom}
+
+entry-in : (l : List (List ℕ)) (k : ℕ) → k < length l → List·Memᴰ (getD l k []) l
+entry-in [] k h = absurd (omega arith)
+entry-in (x ∷ l) zero h = List·Memᴰ·head refl
+entry-in (x ∷ l) (suc k) h = List·Memᴰ·tail (entry-in l k (omega arith))
+
+-- no entry stands twice: what lies behind the first that equals entry k lies behind entry k
+pub behind-drop : (last : List ℕ) (l : List (List ℕ)) → Apart l → (k : ℕ) → k < length l → getD l k [] ≡ last → behind last l ≡ drop (suc k) l
+behind-drop last [] apart k h e = absurd (omega arith)
+behind-drop last (x ∷ l) apart zero h e = ap (λ (b : Bool). cond b l (behind last l)) (is-true (same x last) (subst (λ (y : List ℕ). T (same x y)) e (same-refl x)))
+behind-drop last (x ∷ l) apart (suc k) h e = go (same x last) refl (behind-drop last l (apart .1) k (omega arith) e)
+  where
+    go : (b : Bool) → same x last ≡ b → behind last l ≡ drop (suc k) l → cond b l (behind last l) ≡ drop (suc k) l
+    go true f r = absurd (apart .0 (subst (λ (y : List ℕ). List·Memᴰ y l) (e ∙ sym (same→eq x last (holds (same x last) f))) (entry-in l k (omega arith))))
+    go false f r = r
+
+-- a page from the start of what lies behind entry k is the page of the list from entry k + 1 on
+page-later : (l : List (List ℕ)) (k room : ℕ) → page (drop (suc k) l) 0 room ≡ page l (suc k) room
+unfolding page
+page-later l k room =
+    let entries = take room (drop (suc k) l) in
+    let e = length-drop (suc k) l in
+    (λ i. record { entries = entries; written = length entries; further = same-test (0 + length entries) (length (drop (suc k) l)) (suc k + length entries) (length l) (λ h. omega arith) (λ h. omega arith) i })
+
+-- the same call with another skip
+abbrev pub skipping : ℕ → Call → Call
+skipping skip l = record { pieces = l .pieces; board = l .board; bytes = l .bytes; config = l .config; skip = skip; answers = l .answers; work = l .work; links = l .links }
+
+-- entry k of a call's list
+abbrev pub entryOf : Call → ℕ → List ℕ
+entryOf l k = getD (answersOf (trayOf l) (identifyOf (l .config)) (l .config .solver)) k []
+
+module _ (l : Call) (ok : refusal l ≡ 0) where
+  abbrev list : List (List ℕ)
+  list = answersOf (trayOf l) (identifyOf (l .config)) (l .config .solver)
+
+  apart : Apart list
+  unfolding answersOf demand3
+  apart = demand3-holds l ok .noneTwice
+
+  still : (skip : ℕ) → refusal (skipping skip l) ≡ 0
+  unfolding refusal table trayOf
+  still skip = ok
+
+  pub outcome-behind : (k : ℕ) → k < length (answersOf (trayOf l) (identifyOf (l .config)) (l .config .solver)) → outcomeBehind (entryOf l k) (skipping 0 l) ≡ outcome (skipping (suc k) l)
+  unfolding outcomeBehind acceptedBehind accepted pageFrom pageOf trayOf capacity
+  outcome-behind k h =
+      let later : page (behind (entryOf l k) list) 0 (capacity l) ≡ page list (suc k) (capacity l) = ap (λ (m : List (List ℕ)). page m 0 (capacity l)) (behind-drop (entryOf l k) list apart k h refl) ∙ page-later list k (capacity l) in
+      ap (λ (b : Bool). cond b (acceptedBehind (entryOf l k) (skipping 0 l)) (refused (refusal (skipping 0 l)) (skipping 0 l))) (is-true (eqb (refusal (skipping 0 l)) 0) (eqb-of (still 0)))
+      ∙ ap (λ (g : Page).
+      record {
+        number = 0;
+        written = g .written;
+        further = g .further;
+        answers = overStart (joined (g .entries)) (l .answers);
+        work = cleared 8192 (l .work);
+        links = cond (isKnuth (l .config .solver)) (cleared 32768 (l .links)) (l .links);
+      }) later
+      ∙ sym (outcome-accepted (skipping (suc k) l) (still (suc k)))
