@@ -3,9 +3,12 @@
 # trays, with the original and with the model. Exit status 1 on any difference.
 #   known.sh        about a minute
 #   known.sh long   also Conway's 5 by 5 by 5, about a minute more
+# The built pack (../target/bin/pack), where there is one, is held to the same.
 cd "$(dirname "$0")" || exit 1
 cargo build --release --offline --quiet || exit 1
 oracle=target/release/oracle
+pack=../target/bin/pack
+[ -x $pack ] || pack=
 failed=0
 got=$(mktemp) || exit 1
 trap 'rm -f "$got"' EXIT
@@ -17,10 +20,11 @@ differs() {
 
 # Trays with a listing beside them: the model prints it byte for byte, and so
 # does the original, save where it is known to panic.
-for listing in trays/*.listing; do
+for listing in trays/*.listing ../trays/*.listing; do
     tray=${listing%.listing}.tray
     python3 model.py <"$tray" >"$got"
     cmp -s "$got" "$listing" || differs "$tray (model)"
+    [ -z "$pack" ] || $pack <"$tray" | cmp -s - "$listing" || differs "$tray (pack)"
     "$oracle" <"$tray" >"$got"
     case $tray in
     trays/no_copies_knuth.tray | trays/spare_handed_*.tray)
@@ -33,13 +37,15 @@ done
 # under TRAY ENGINE IDENTIFIED: the tray with that first line
 under() {
     printf 'config\t%s\t%s\n' "$2" "$3"
-    tail -n +2 "trays/$1.tray"
+    tail -n +2 "../trays/$1.tray"
 }
 
-# last TRAY ENGINE IDENTIFIED EXPECTED: the original's last line
+# last TRAY ENGINE IDENTIFIED EXPECTED: the last line
 last() {
-    line=$(under "$1" "$2" "$3" | "$oracle" | tail -n 1)
-    [ "$line" = "$(printf "$4")" ] || differs "$1 $2 $3: $line"
+    for program in $oracle $pack; do
+        line=$(under "$1" "$2" "$3" | "$program" | tail -n 1)
+        [ "$line" = "$(printf "$4")" ] || differs "$1 $2 $3 ($program): $line"
+    done
 }
 
 # counts TRAY NONE TURNED MIRRORED: how many packings, with both engines
@@ -53,7 +59,7 @@ counts() {
 
 # limits TRAY PLACEMENTS LINKS
 limits() {
-    numbers=$(python3 model.py limits <"trays/$1.tray")
+    numbers=$(python3 model.py limits <"../trays/$1.tray")
     [ "$numbers" = "$(printf 'placements\t%s\nlinks\t%s' "$2" "$3")" ] || differs "$1: $numbers"
 }
 
@@ -62,6 +68,7 @@ counts tetracubes 11120 1390 695
 counts slothouber_graatsma 8 1 1
 counts dominoes 6728 930 930
 counts t_tetrominoes 84 15 15
+counts pentominoes 856 107 107
 limits soma 688 3330
 limits tetracubes 666 3370
 limits slothouber_graatsma 63 263
@@ -75,8 +82,10 @@ for tray in soma tetracubes t_tetrominoes; do
     for identified in none turned mirrored; do
         for engine in fast knuth; do
             under $tray $engine $identified | python3 model.py >"$got"
-            under $tray $engine $identified | "$oracle" | cmp -s - "$got" ||
-                differs "$tray $engine $identified (model)"
+            for program in $oracle $pack; do
+                under $tray $engine $identified | "$program" | cmp -s - "$got" ||
+                    differs "$tray $engine $identified ($program)"
+            done
         done
     done
 done
@@ -89,7 +98,7 @@ fi
 
 # page SKIP CAPACITY EXPECTED: a page of the listing's two entries, by the model
 page() {
-    lines=$(python3 model.py page "$1" "$2" <trays/listing.tray)
+    lines=$(python3 model.py page "$1" "$2" <../trays/listing.tray)
     [ "$lines" = "$(printf "$3")" ] || differs "page $1 $2: $lines"
 }
 

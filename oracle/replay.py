@@ -187,8 +187,8 @@ def words(name, numbers):
 # ------------------------------------------------------- the stored calls
 
 def tray(path, engine=None, turned=0, mirrored=0):
-    """A tray of trays/ as a call."""
-    _, _, board, pieces = model.parse((Path(__file__).parent / "trays" / path).read_bytes())
+    """A tray of ../trays as a call."""
+    _, _, board, pieces = model.parse((Path(__file__).parent.parent / "trays" / path).read_bytes())
     return lent([(1, board)] + pieces, engine or FAST, turned, mirrored)
 
 
