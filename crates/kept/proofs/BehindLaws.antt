@@ -4,7 +4,7 @@ use mathlib.Core.Bool.{Bool, true, false, cond}
 use mathlib.Core.List.{List, [], _∷_, map, List·Memᴰ, List·Memᴰ·head, List·Memᴰ·tail}
 use mathlib.Core.Path.{_≡_, refl, sym, ap, _∙_, subst}
 use native.Mathlib.Omega.{arith}
-use lib.Dec.{T, eqb, ltb}
+use lib.Dec.{T, eqb, eqb→eq}
 use lib.ListN.{length, getD, take, drop, length-drop}
 use Rattle.definitions.specs.Lists.{Apart, joined, same}
 use Rattle.definitions.specs.Demands.{demand3}
@@ -17,7 +17,7 @@ use Rattle.definitions.specs.Outcomes.{Outcome, accepted, answersOf, capacity, 
 use Rattle.definitions.specs.Refusals.{Call, identifyOf, isKnuth, refusal, table, trayOf}
 use Rattle.definitions.proofs.DemandLaws.{demand3-holds}
 use Rattle.definitions.proofs.EmissionLaws.{same-test}
-use Rattle.definitions.proofs.ListLaws.{eqb-of, holds, is-true, same→eq, same-refl}
+use Rattle.definitions.proofs.ListLaws.{eqb-of, holds, is-false, is-true, same→eq, same-refl}
 use Rattle.definitions.proofs.RefusalLaws.{outcome-accepted}
 use Rattle.kept.specs.Calls.{acceptedBehind, outcomeBehind, pageFrom}
 
@@ -52,6 +52,15 @@ skipping skip l = record { pieces = l .pieces; board = l .board; bytes = l .byte
 abbrev pub entryOf : Call → ℕ → List ℕ
 entryOf l k = getD (answersOf (trayOf l) (identifyOf (l .config)) (l .config .solver)) k []
 
+-- a refusal is a refusal
+pub behind-refused : (last : List ℕ) (l : Call) → (refusal l ≡ 0 → ⊥) → outcomeBehind last l ≡ refused (refusal l) l
+unfolding outcomeBehind
+behind-refused last l d = ap (λ (b : Bool). cond b (acceptedBehind last l) (refused (refusal l) l)) (is-false (eqb (refusal l) 0) (λ t. d (eqb→eq (refusal l) 0 t)))
+
+pub behind-accepted : (last : List ℕ) (l : Call) → refusal l ≡ 0 → outcomeBehind last l ≡ acceptedBehind last l
+unfolding outcomeBehind
+behind-accepted last l ok = ap (λ (b : Bool). cond b (acceptedBehind last l) (refused (refusal l) l)) (is-true (eqb (refusal l) 0) (eqb-of ok))
+
 module _ (l : Call) (ok : refusal l ≡ 0) where
   abbrev list : List (List ℕ)
   list = answersOf (trayOf l) (identifyOf (l .config)) (l .config .solver)
@@ -65,10 +74,10 @@ module _ (l : Call) (ok : refusal l ≡ 0) where
   still skip = ok
 
   pub outcome-behind : (k : ℕ) → k < length (answersOf (trayOf l) (identifyOf (l .config)) (l .config .solver)) → outcomeBehind (entryOf l k) (skipping 0 l) ≡ outcome (skipping (suc k) l)
-  unfolding outcomeBehind acceptedBehind accepted pageFrom pageOf trayOf capacity
+  unfolding acceptedBehind accepted pageFrom pageOf trayOf capacity
   outcome-behind k h =
       let later : page (behind (entryOf l k) list) 0 (capacity l) ≡ page list (suc k) (capacity l) = ap (λ (m : List (List ℕ)). page m 0 (capacity l)) (behind-drop (entryOf l k) list apart k h refl) ∙ page-later list k (capacity l) in
-      ap (λ (b : Bool). cond b (acceptedBehind (entryOf l k) (skipping 0 l)) (refused (refusal (skipping 0 l)) (skipping 0 l))) (is-true (eqb (refusal (skipping 0 l)) 0) (eqb-of (still 0)))
+      behind-accepted (entryOf l k) (skipping 0 l) (still 0)
       ∙ ap (λ (g : Page).
       record {
         number = 0;

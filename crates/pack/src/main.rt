@@ -4,6 +4,7 @@ ghost use mathlib.Core.Path.{_≡_};
 ghost use Prim.Native.Nat.{_+_, _*_, _≤_};
 ghost use lib.Dec.{T};
 ghost use lib.ListN.{length};
+ghost use mathlib.Core.Bool.{false};
 ghost use mathlib.Core.Logic.{_⊎_};
 ghost use Rattle.definitions.specs.Files.{isFile};
 ghost use Rattle.definitions.specs.Grid.{volume};
@@ -68,6 +69,7 @@ fn print_entries(answers: &[u8], places: usize, n: usize, count: u64) -> bool
 // The entries of a page, behind `count` entries. Entry numbers have 64 bits: were they used up, the listing would stop there.
 fn print_page(answers: &[u8], places: usize, written: usize, count: u64) -> Progress
     requires { ⌜ (places ≤ 512) × (written * (2 * places) ≤ length (now answers)) ⌝ }
+    ensures { λ r. ⌜ (r .more ≡ false) ⊎ (r .count ≡ count + written) ⌝ }
 {
     let room = 18446744073709551615 - count;
     let n = written as u64;
@@ -118,7 +120,9 @@ fn list_rest(
     answers: &mut [u8],
     work: &mut [u64],
     links: &mut [u16],
-) {
+)
+    requires { ⌜ (places ≤ 512) × (2 * places ≤ length (now answers)) × ((places ≡ 0) ⊎ (places ≡ volume (sidesOf board))) ⌝ }
+{
     let size = 2 * places;
     let mut last = [0u8; 1024];
     let mut count = 1;

@@ -21,7 +21,8 @@ use Rattle.placements.specs.Stages.{lentRows, callRows, countRows}
 use Rattle.placements.proofs.AcceptedLaws.{accepted-call}
 use Rattle.placements.proofs.CountingLaws.{refused-some}
 use Rattle.placements.proofs.StageLaws.{refusal-stages}
-use Rattle.kept.specs.Calls.{callOf}
+use Rattle.kept.specs.Calls.{callOf, outcomeBehind}
+use Rattle.kept.proofs.BehindLaws.{behind-refused}
 use Rattle.solver.specs.Lent.{RefusedFirst, callWith}
 
 -- of two rows, where the second applies the first that applies is some
@@ -55,6 +56,14 @@ module _ (t : Table) (board : Record) (bytes : List ℕ) (config : Config) (skip
       let e : numberOf (h .why) ≡ refusal its = h .first ∙ sym refusal-is in
       ap (λ (l : Listing). outcomeOf l answers work links) (h .is) ∙ ap (λ (n : ℕ). refused n its) e
       ∙ sym (outcome-refused its (λ z. refused-some (h .why) (e ∙ z)))
+
+  pub refused-behind : (last : List ℕ) (r : Listing) → RefusedFirst r t board bytes config (length work) (length links)
+      → outcomeOf r answers work links ≡ outcomeBehind last (callWith (recordsOf t) board bytes config skip answers work links)
+  unfolding outcomeOf refused callWith
+  refused-behind last r h =
+      let e : numberOf (h .why) ≡ refusal its = h .first ∙ sym refusal-is in
+      ap (λ (l : Listing). outcomeOf l answers work links) (h .is) ∙ ap (λ (n : ℕ). refused n its) e
+      ∙ sym (behind-refused last its (λ z. refused-some (h .why) (e ∙ z)))
 
   -- the call of the engine that the configuration names
   pub engine-call : (engine : SolverKind) → config .solver ≡ engine
