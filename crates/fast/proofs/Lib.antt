@@ -1,5 +1,6 @@
 pub mod ChoiceLaws
 pub mod SearchingLaws
+pub mod UnmetLaws
 pub mod TurnLaws
 pub mod FastListLaws
 pub mod PageLaws

@@ -1,12 +1,12 @@
 -- Kind 0 first: what the loops over maps, kinds and rows find is what the definitions say. Assumes nothing.
 use Prim.Native.Nat.{ℕ, suc, _+_, _-_, _*_, _≤_, _<_}
-use mathlib.Core.Bool.{Bool, true, false, cond, not, _&&_, _||_}
+use mathlib.Core.Bool.{Bool, true, false, cond, not, _&&_, _||_, true≢false}
 use mathlib.Core.List.{List, [], _∷_, _++_, map, List·Memᴰ, List·Memᴰ·head, List·Memᴰ·tail, List·Memᴰ·not-nil, List·Memᴰ·append-cases, List·Memᴰ·eq-of-singleton, Memᴰ·cast}
-use mathlib.Core.Logic.{_⊎_, inl, inr}
+use mathlib.Core.Logic.{_⊎_, inl, inr, ⊎-elim}
 use mathlib.Core.Path.{_≡_, refl, sym, ap, ap₂, _∙_, subst}
 use native.Mathlib.Numerals.{add-one}
 use native.Mathlib.Omega.{arith}
-use borrow.Author.Tests.{ltb-true, lt-ltb, le-ltb, le-leb, lt-leb, eq-eqb, ne-eqb, eqb-true, eqb-false}
+use borrow.Author.Tests.{ltb-true, lt-ltb, le-ltb, le-leb, lt-leb, eq-eqb, ne-eqb, eqb-true, eqb-false, not-true, not-false}
 use lib.Dec.{ltb, leb, eqb, lt→ltb}
 use lib.ListN.{length, getD, take, drop, set, length-set, length-append}
 use lib.Seq.{take-suc-set, take-set-lt, getD-take, getD-set-same, getD-set-other, set-set, set-getD}
@@ -14,7 +14,7 @@ use Rattle.definitions.specs.Lists.{all, any, below, from, keep, consIf, each, 
 use Rattle.definitions.specs.Placements.{Placement}
 use Rattle.definitions.specs.Packing.{ahead}
 use Rattle.definitions.specs.Kept.{Identify}
-use Rattle.definitions.specs.Orders.{State, choose, search, fastChoices}
+use Rattle.definitions.specs.Orders.{State, possible, choose, search, fastChoices}
 use Rattle.definitions.specs.Refusals.{identifies}
 use Rattle.definitions.specs.Emission.{Emitted, emits}
 use Rattle.definitions.proofs.ListLaws.{and-both, is-true, holds, from-at, below-at, below-of, keep-at, keep-of, keep-same, keep-keep, keep-shorter, member-at, member-of, apart-append}
@@ -22,21 +22,24 @@ use Rattle.definitions.proofs.SearchLaws.{getD-pos}
 use Rattle.definitions.proofs.EmissionLaws.{emits-append, emits-done}
 use Rattle.masks.specs.Masks.{has, either, nothing}
 use Rattle.masks.specs.declared.Mask.{Mask}
-use Rattle.masks.proofs.MaskLaws.{hit2-zero}
+use Rattle.masks.proofs.MaskLaws.{hit2-zero, apart-of}
 use Rattle.placements.proofs.FittingLaws.{both-ways}
 use Rattle.rows.specs.Rows.{cellsOf, maskAt, rowAt, rowsIn}
-use Rattle.rows.specs.Systems.{System, systemIn, imagesIn, kindBy, movedBy, rowWith}
+use Rattle.rows.specs.Systems.{System, systemIn, imagesIn, ownedIn, kindBy, movedBy, rowWith}
 use Rattle.rows.specs.Answering.{answerBy}
 use Rattle.rows.specs.Lawful.{LawfulRow}
+use Rattle.rows.specs.Shown.{Shown, showsRow}
 use Rattle.kept.specs.Normal.{rowOf, ofKind, imageOf, normal}
 use Rattle.kept.specs.Ready.{Ready, OfRows}
 use Rattle.kept.specs.Entries.{entries, numbersOf, putAll}
-use Rattle.fast.specs.Searching.{Searching, fastBelow, stateBy, uncovered}
+use Rattle.fast.specs.Searching.{Searching, fastBelow, fits, stateBy, uncovered}
 use Rattle.fast.specs.Pruned.{movedBefore, alwaysMirrorableBy, prunedBy, firstRows, fastFirst}
 use Rattle.rows.specs.declared.Dims.{Dims}
 use Rattle.rows.proofs.PairLaws.{getD-from}
 use Rattle.rows.proofs.AnsweringLaws.{keep-none}
-use Rattle.kept.proofs.ReadyLaws.{kinds-many, row-is, row-in, rows-kinds, image-is}
+use Rattle.kept.proofs.ReadyLaws.{kinds-many, rows-many, few-cells, row-is, row-in, row-cells, rows-kinds, image-is}
+use Rattle.fast.proofs.SearchingLaws.{fits-possible}
+use Rattle.fast.proofs.UnmetLaws.{untried, unmet}
 
 -- ---- numbers from k to below n
 pub from-next : (k n : ℕ) → k < n → from k (n - k) ≡ k ∷ from (k + 1) (n - (k + 1))
@@ -251,7 +254,7 @@ module _ (s : System) (i : Identify) (t : State) (n : ℕ) where
           ap (emits capacity (firstFrom s i t n (r + 1))) g ∙ sym (emits-append capacity (fastBelow s i (choose t (rowOf s r))) (firstFrom s i t n (r + 1)) x)
           ∙ ap (λ (l : List (List ℕ)). emits capacity l x) (sym (first-next h e f)) ∙ k
 
-      pub first-passed : r < n → rowOf s r .kind ≡ 0 → prunedBy s i r ≡ true → emits capacity (firstFrom s i t n r) x ≡ z → emits capacity (firstFrom s i t n (r + 1)) x ≡ z
+      first-passed : r < n → rowOf s r .kind ≡ 0 → prunedBy s i r ≡ true → emits capacity (firstFrom s i t n r) x ≡ z → emits capacity (firstFrom s i t n (r + 1)) x ≡ z
       first-passed h e f k = ap (λ (l : List (List ℕ)). emits capacity l x) (sym (first-past h e f)) ∙ k
 
       pub first-full : x .further ≡ true → emits capacity (firstFrom s i t n r) x ≡ z → x ≡ z
@@ -414,6 +417,12 @@ module _ (d : Dims) (work heads images scans kinds pieces : List ℕ) (ready : R
   at-row : rowOf sys r ≡ rowAt work r
   at-row = row-is d work images scans kinds pieces r h
 
+  pub first-small : rowAt work r .p < 128
+  first-small =
+      let few = few-cells d work images scans kinds pieces (ready .lawful) in
+      let l = row-cells d work images scans kinds pieces (ready .lawful) r h (rowAt work r .p) (ready .lawful .row (rowAt work r) (row-in d work images scans kinds pieces r h) .coversP) in
+      omega arith
+
   -- behind a row of another kind there is none of kind 0
   pub later-kinds : 0 < rowAt work r .kind → (q : ℕ) → r ≤ q → q < d .rows → 0 < rowOf (systemIn d work images scans kinds pieces) q .kind
   later-kinds k q l m =
@@ -431,6 +440,36 @@ module _ (d : Dims) (work heads images scans kinds pieces : List ℕ) (ready : R
     row-mask : rowOf sys r .cells ≡ cellsOf (maskAt work r)
     unfolding rowAt
     row-mask = ap (λ (q : Placement). q .cells) at-row
+
+    -- it is pruned, or the entry that is waited for does not show it
+    module _ (left₀ : List ℕ) (all : Searching (systemIn d work images scans kinds pieces) left₀ nothingCovered []) (some : 0 < getD left₀ 0 0) where
+      abbrev begun : State
+      begun = stateBy sys left₀ nothingCovered []
+
+      in-rows : r < length (sys .rows)
+      in-rows = let e = rows-many d work images scans kinds pieces in omega arith
+
+      can-start : possible begun (rowOf sys r) ≡ true
+      unfolding fits
+      can-start =
+          sym (fits-possible sys (ready .lawful) left₀ nothingCovered (maskAt work r) [] r in-rows row-mask)
+          ∙ ap₂ _&&_ (apart-of 128 (has (maskAt work r)) (has nothingCovered) (λ k l a b. true≢false (sym b ∙ nothing-has k)))
+          (lt-ltb 0 (getD left₀ (rowOf sys r .kind) 0) (subst (λ (k : ℕ). 0 < getD left₀ k 0) (sym first-kind) some))
+
+      module _ (last shown : List ℕ) (sh : Shown (d .cells) (take (d .places) scans) last shown) (i : Identify) (capacity : ℕ) (x z : Emitted) (is : x .last ≡ last) where
+        hides : showsRow (ownedIn pieces (d .pieces)) shown (rowAt work r) ≡ false → x .waiting ≡ true → emits capacity (fastBelow sys i (choose begun (rowOf sys r))) x ≡ x
+        unfolding systemIn
+        hides v w =
+            unmet sys (ready .lawful) left₀ nothingCovered [] tt all r in-rows can-start last shown sh
+            (ap (λ (q : Placement). showsRow (ownedIn pieces (d .pieces)) shown q) at-row ∙ v) i capacity x w is
+
+        pub first-untried : (not (prunedBy (systemIn d work images scans kinds pieces) i r) && (not (x .waiting) || showsRow (ownedIn pieces (d .pieces)) shown (rowAt work r))) ≡ false
+            → emits capacity (firstFrom (systemIn d work images scans kinds pieces) i (stateBy (systemIn d work images scans kinds pieces) left₀ nothingCovered []) (d .rows) r) x ≡ z
+            → emits capacity (firstFrom (systemIn d work images scans kinds pieces) i (stateBy (systemIn d work images scans kinds pieces) left₀ nothingCovered []) (d .rows) (r + 1)) x ≡ z
+        first-untried f k =
+            ⊎-elim (λ a. first-passed sys i begun (d .rows) r capacity x z h first-kind (not-false (prunedBy sys i r) a) k)
+            (λ a. first-emitted sys i begun (d .rows) r capacity x z x h first-kind (not-true (prunedBy sys i r) (a .0)) (sym (hides (a .2) (a .1))) k)
+            (untried (not (prunedBy sys i r)) (x .waiting) (showsRow (ownedIn pieces (d .pieces)) shown (rowAt work r)) f)
 
     module _ (path : List ℕ) (long : length path ≡ 128) where
       one-row : take 1 (set path 0 r) ≡ r ∷ []

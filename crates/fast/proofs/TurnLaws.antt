@@ -1,7 +1,8 @@
 -- The laws of Fast's search over the slices of a row system: the leaf, the loop over the rows of a cell, a call, and what it puts back. Assumes nothing.
 use Prim.Native.Nat.{ℕ, zero, suc, _+_, _-_, _*_, _≤_, _<_}
-use mathlib.Core.Bool.{Bool, true, false, not, _&&_}
+use mathlib.Core.Bool.{Bool, true, false, not, _&&_, _||_}
 use mathlib.Core.List.{List, [], _∷_, _++_, map}
+use mathlib.Core.Logic.{⊎-elim}
 use mathlib.Core.Path.{_≡_, refl, sym, ap, ap₂, _∙_, subst}
 use native.Mathlib.Numerals.{add-one}
 use native.Mathlib.Omega.{arith}
@@ -18,9 +19,10 @@ use Rattle.definitions.proofs.ListLaws.{and-left, and-right, and-both, holds, l
 use Rattle.definitions.proofs.EmissionLaws.{emits-append}
 use Rattle.masks.specs.Masks.{has, either, apart, FirstOpen}
 use Rattle.masks.specs.declared.Mask.{Mask}
-use Rattle.rows.specs.Systems.{System, systemIn}
+use Rattle.rows.specs.Systems.{System, systemIn, ownedIn}
 use Rattle.rows.specs.Rows.{maskAt, rowAt, rowsIn, cellsOf}
 use Rattle.rows.specs.Chains.{nextAt}
+use Rattle.rows.specs.Shown.{Shown, showsRow}
 use Rattle.kept.specs.Normal.{rowOf, noRow}
 use Rattle.kept.specs.Ready.{Ready, OfRows, Fillable}
 use Rattle.kept.specs.Emission.{emitKept}
@@ -29,6 +31,7 @@ use Rattle.rows.specs.declared.Dims.{Dims}
 use Rattle.fast.proofs.ChoiceLaws.{choicesFrom, leaf-lists, all-choices, choices-end, choices-skip, choices-take, choices-pass, chain-at, chain-after}
 use Rattle.kept.proofs.LeafLaws.{row-in, packing-emits}
 use Rattle.fast.proofs.SearchingLaws.{first-uncovered, none-uncovered, some-uncovered, fits-possible, child-state, child-less, child-searching, fillable}
+use Rattle.fast.proofs.UnmetLaws.{untried, unmet}
 
 getD-from : {A : Type 0} (f : ℕ → A) (d : A) (i n k : ℕ) → k < n → getD (map f (from i n)) k d ≡ f (i + k)
 getD-from f d i zero k h = absurd (omega arith)
@@ -183,6 +186,9 @@ module _ {d : Dims} {work heads images scans kinds pieces left path : List ℕ} 
     pub kind-in : rowAt work r .kind < length left
     kind-in = let a = x .ready .lawful .row (rowOf the-system r) (row-in the-system r row-in-rows) .ofKind in let b = kind-is in let w = x .searching .enough in omega arith
 
+    pub first-small : rowAt work r .p < 128
+    first-small = let b = cell-below in omega arith
+
     pub next-after : r < getD work (8 * r + 5) 0
     next-after = let a = chain-after (the-system .rows) c (suc r) in let b = next in omega arith
 
@@ -199,10 +205,37 @@ module _ {d : Dims} {work heads images scans kinds pieces left path : List ℕ} 
         ap (fits left covered (maskAt work r)) (sym kind-is)
         ∙ fits-possible the-system (x .ready .lawful) left covered (maskAt work r) (take n path) r row-in-rows (row-cells (x .ready) r row)
 
-    pub turn-misses : fits left covered (maskAt work r) (rowAt work r .kind) ≡ false → (i : Identify) (capacity : ℕ) (e whole : Emitted)
-        → emits capacity (choicesFrom the-system i the-state r) e ≡ whole → emits capacity (choicesFrom the-system i the-state (getD work (8 * r + 5) 0)) e ≡ whole
-    turn-misses f i capacity e whole g =
-        sym (ap (λ (L : List (List ℕ)). emits capacity L e) (choices-pass the-system i the-state c first r row-in-rows at-row (sym test-is ∙ f) ∙ ap (choicesFrom the-system i the-state) (sym next))) ∙ g
+    -- ---- it does not fit, or the entry that is waited for does not show it
+    misses : fits left covered (maskAt work r) (rowAt work r .kind) ≡ false → (i : Identify) (capacity : ℕ) (e : Emitted)
+        → emits capacity (choicesFrom the-system i the-state (getD work (8 * r + 5) 0)) e ≡ emits capacity (choicesFrom the-system i the-state r) e
+    misses f i capacity e =
+        sym (ap (λ (L : List (List ℕ)). emits capacity L e) (choices-pass the-system i the-state c first r row-in-rows at-row (sym test-is ∙ f) ∙ ap (choicesFrom the-system i the-state) (sym next)))
+
+    takes : fits left covered (maskAt work r) (rowAt work r .kind) ≡ true → (i : Identify)
+        → choicesFrom the-system i the-state r ≡ fastBelow the-system i (choose the-state (rowOf the-system r)) ++ choicesFrom the-system i the-state (getD work (8 * r + 5) 0)
+    takes f i =
+        choices-take the-system i the-state c first r row-in-rows at-row (sym test-is ∙ f)
+        ∙ ap (λ (k : ℕ). fastBelow the-system i (choose the-state (rowOf the-system r)) ++ choicesFrom the-system i the-state k) (sym next)
+
+    module _ (last shown : List ℕ) (sh : Shown (d .cells) (take (d .places) scans) last shown) where
+      hides : fits left covered (maskAt work r) (rowAt work r .kind) ≡ true → showsRow (ownedIn pieces (d .pieces)) shown (rowAt work r) ≡ false
+          → (i : Identify) (capacity : ℕ) (e : Emitted) → e .waiting ≡ true → e .last ≡ last
+          → emits capacity (choicesFrom the-system i the-state (getD work (8 * r + 5) 0)) e ≡ emits capacity (choicesFrom the-system i the-state r) e
+      unfolding systemIn
+      hides f v i capacity e w is =
+          let rest = choicesFrom the-system i the-state (getD work (8 * r + 5) 0) in
+          let here = fastBelow the-system i (choose the-state (rowOf the-system r)) in
+          ap (emits capacity rest)
+          (sym (unmet the-system (x .ready .lawful) left covered (take n path) (all-rows (x .ready) (x .ofRows) (x .searching)) (x .searching) r row-in-rows (sym test-is ∙ f) last shown sh
+          (ap (λ (q : Placement). showsRow (ownedIn pieces (d .pieces)) shown q) (row-is (x .ready) r row) ∙ v) i capacity e w is))
+          ∙ sym (emits-append capacity here rest e) ∙ ap (λ (L : List (List ℕ)). emits capacity L e) (sym (takes f i))
+
+      pub turn-passes : (i : Identify) (capacity : ℕ) (e whole : Emitted) → e .last ≡ last
+          → (fits left covered (maskAt work r) (rowAt work r .kind) && (not (e .waiting) || showsRow (ownedIn pieces (d .pieces)) shown (rowAt work r))) ≡ false
+          → emits capacity (choicesFrom the-system i the-state r) e ≡ whole → emits capacity (choicesFrom the-system i the-state (getD work (8 * r + 5) 0)) e ≡ whole
+      turn-passes i capacity e whole is f g =
+          ⊎-elim (λ a. misses a i capacity e) (λ a. hides (a .0) (a .2) i capacity e (a .1) is)
+          (untried (fits left covered (maskAt work r) (rowAt work r .kind)) (e .waiting) (showsRow (ownedIn pieces (d .pieces)) shown (rowAt work r)) f) ∙ g
 
     -- ---- it fits, and the search goes on below it
     module _ (fit : fits left covered (maskAt work r) (rowAt work r .kind) ≡ true) where
@@ -255,9 +288,7 @@ module _ {d : Dims} {work heads images scans kinds pieces left path : List ℕ} 
               ∙ child-state the-system (x .ready .lawful) left covered (maskAt work r) (take n path) r row-in-rows (row-cells (x .ready) r row) more union in
               ap (emits capacity (choicesFrom the-system i the-state (getD work (8 * r + 5) 0))) (g ∙ ap (λ (y : State). emits capacity (fastBelow the-system i y) e) s)
               ∙ sym (emits-append capacity (fastBelow the-system i (choose the-state (rowOf the-system r))) (choicesFrom the-system i the-state (getD work (8 * r + 5) 0)) e)
-              ∙ sym (ap (λ (L : List (List ℕ)). emits capacity L e)
-              (choices-take the-system i the-state c first r row-in-rows at-row (sym test-is ∙ fit)
-              ∙ ap (λ (k : ℕ). fastBelow the-system i (choose the-state (rowOf the-system r)) ++ choicesFrom the-system i the-state k) (sym next)))
+              ∙ ap (λ (L : List (List ℕ)). emits capacity L e) (sym (takes fit i))
               ∙ w
 
 -- ---- the test of a row

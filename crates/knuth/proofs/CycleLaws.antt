@@ -46,7 +46,7 @@ path-kept path n r after e =
 
 -- ---- packings on the page
 module _ (s : System) (i : Identify) (capacity : ℕ) where
-  put-append : (xss yss : List (List ℕ)) (e : Emitted) → emitAll s i capacity (xss ++ yss) e ≡ emitAll s i capacity yss (emitAll s i capacity xss e)
+  pub put-append : (xss yss : List (List ℕ)) (e : Emitted) → emitAll s i capacity (xss ++ yss) e ≡ emitAll s i capacity yss (emitAll s i capacity xss e)
   unfolding emitAll
   put-append [] yss e = refl
   put-append (xs ∷ xss) yss e = put-append xss yss (emitKept s i capacity xs e)
@@ -103,7 +103,7 @@ module _ (s : System) (i : Identify) (capacity : ℕ) {w : World} {unc : ℕ →
     found g = packings (w .t) (s .size) g (select (w .t) (w .liv) cp k) (spend (w .t) cp k) (left - (w .t .hi k - w .t .lo k - 1))
 
     -- those with the row of k, then those from the next node on
-    next-rows : (m₃ : List ℕ) → m₃ ≡ m → (k′ : ℕ) → k′ ≡ getD m₃ (4096 + k) 0 → (g : ℕ)
+    pub next-rows : (m₃ : List ℕ) → m₃ ≡ m → (k′ : ℕ) → k′ ≡ getD m₃ (4096 + k) 0 → (g : ℕ)
         → knuthRows s rs g w cp left c k ≡ foundRows s (rs ++ (tableOf s .row k ∷ [])) (found g) ++ knuthRows s rs g w cp left c k′
     unfolding knuthRows
     next-rows m₃ back k′ ek g =

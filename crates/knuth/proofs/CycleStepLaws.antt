@@ -1,6 +1,6 @@
 -- Each step of the search over slices: what it may call, and what it leaves on the page once its calls have met their contracts. Assumes nothing.
-use Prim.Native.Nat.{ℕ, zero, suc, _+_, _-_, _≤_, _<_}
-use mathlib.Core.Bool.{Bool, true}
+use Prim.Native.Nat.{ℕ, zero, suc, _+_, _-_, _*_, _≤_, _<_}
+use mathlib.Core.Bool.{Bool, true, false, not, _||_, true≢false}
 use mathlib.Core.List.{List, [], _∷_, _++_, List·Memᴰ, List·Memᴰ·append-cases, List·Memᴰ·eq-of-singleton}
 use mathlib.Core.Path.{_≡_, refl, sym, ap, _∙_, subst}
 use mathlib.Core.Logic.{⊎-elim}
@@ -12,11 +12,14 @@ use Rattle.definitions.specs.Kept.{Identify}
 use Rattle.definitions.specs.Emission.{Emitted}
 use Rattle.definitions.proofs.ListLaws.{all-at, all-of, length-below}
 use Rattle.rows.specs.Rows.{rowsIn, rowAt}
-use Rattle.rows.specs.Systems.{System, systemIn}
+use Rattle.rows.specs.Systems.{System, systemIn, ownedIn}
+use Rattle.rows.specs.Shown.{Shown, showsRow}
 use Rattle.rows.specs.Lawful.{Lawful}
 use Rattle.rows.specs.declared.Dims.{Dims}
 use Rattle.kept.specs.Emission.{emitKept}
+use Rattle.kept.specs.Normal.{rowOf}
 use Rattle.kept.specs.Ready.{Fillable, OfRows}
+use Rattle.kept.proofs.ReadyLaws.{row-is as row-stands, row-in as row-here, row-cells, few-cells}
 use Rattle.links.specs.Cover.{World, cnt, worldTo}
 use Rattle.links.specs.Search.{Seek, At, selected, spend, start, pivot}
 use Rattle.links.proofs.Search.{choose-at, sel-unc, try-live, try-sub, try-seek, try-at}
@@ -24,6 +27,7 @@ use Rattle.knuth.specs.Tables.{tableOf}
 use Rattle.knuth.specs.Listing.{Chosen, Choosable, Tryable, emitAll, knuthBelow, knuthRows}
 use Rattle.knuth.proofs.ChosenLaws.{all-fill, row-number, row-small, chosen-next, room-next}
 use Rattle.knuth.proofs.CycleLaws.{path-longer, leaf, none, below-rows, no-rows, stops, goes-on}
+use Rattle.knuth.proofs.UnmetLaws.{passed-over}
 
 module _ (d : Dims) (work images scans kinds pieces : List ℕ) where
   abbrev S : System
@@ -48,6 +52,10 @@ module _ (d : Dims) (work images scans kinds pieces : List ℕ) where
   to-at : {w : World} {c k : ℕ} → At w (d .cells) c k → At w (S .size) c k
   unfolding systemIn
   to-at q = q
+
+  to-shown : {last shown : List ℕ} → Shown (d .cells) (take (d .places) scans) last shown → Shown (S .size) (S .scans) last shown
+  unfolding systemIn
+  to-shown q = q
 
   -- ---- choosing a column
   pub leaf-fills : {m : List ℕ} {left : ℕ} {rs : List ℕ} → Choosable S m left rs → Fillable S rs
@@ -90,6 +98,53 @@ module _ (d : Dims) (work images scans kinds pieces : List ℕ) where
     abbrev live : p .w .liv k ≡ true
     live = try-live (p .seek) (p .stand) kc
 
+    module _ (r : ℕ) (er : r ≡ getD m (28672 + k) 0) where
+      row-is : r ≡ tableOf S .row k
+      row-is = er ∙ row-number S (p .seek) (p .chosen .isTable) k live
+
+      row-in : r < length (S .rows)
+      row-in = subst (λ (i : ℕ). i < length (S .rows)) (sym row-is) (row-small S (p .seek) (p .chosen) live)
+
+      row-below : r < d .rows
+      row-below = let a = row-in in let b = rows-are in omega arith
+
+      pub row-bound : r < 1024
+      row-bound = let a = row-in in let b = law .fewRows in omega arith
+
+      -- the row's words, and its first cell
+      pub row-words : 8 * d .rows ≤ length work → 8 * r + 8 ≤ length work
+      row-words h = let a = row-below in omega arith
+
+      pub row-first : rowAt work r .p < 128
+      row-first =
+          let a = row-cells d work images scans kinds pieces law r row-below (rowAt work r .p) (law .row (rowAt work r) (row-here d work images scans kinds pieces r row-below) .coversP) in
+          let b = few-cells d work images scans kinds pieces law in
+          omega arith
+
+      -- the row is passed over: the rest of the column from the next node on
+      module _ (shown : List ℕ) (before : Emitted) (sh : Shown (d .cells) (take (d .places) scans) (before .last) shown) (b : Bool)
+          (is : b ≡ not (before .waiting) || showsRow (ownedIn pieces (d .pieces)) shown (rowAt work r)) (passed : b ≡ false) where
+        waits : before .waiting ≡ true
+        waits = go (before .waiting) (showsRow (ownedIn pieces (d .pieces)) shown (rowAt work r)) (sym is ∙ passed)
+          where
+            go : (a o : Bool) → not a || o ≡ false → a ≡ true
+            go true o e = refl
+            go false o e = absurd (true≢false e)
+
+        hidden : showsRow (S .pieces) shown (rowOf S (tableOf S .row k)) ≡ false
+        unfolding systemIn
+        hidden =
+            ap (λ (i : ℕ). showsRow (ownedIn pieces (d .pieces)) shown (rowOf S i)) (sym row-is)
+            ∙ ap (showsRow (ownedIn pieces (d .pieces)) shown) (row-stands d work images scans kinds pieces r row-below)
+            ∙ sym (ap (λ (a : Bool). not a || showsRow (ownedIn pieces (d .pieces)) shown (rowAt work r)) waits) ∙ sym is ∙ passed
+
+        pub found-passed : (i : Identify) (capacity : ℕ) {w : World} {unc : ℕ → Bool} {cp : ℕ → ℕ} → Seek w unc cp (d .cells) left m → At w (d .cells) c k → w .t ≡ tableOf S → (k′ : ℕ) → k′ ≡ getD m (4096 + k) 0 → (end : Emitted)
+            → ((w : World) (unc : ℕ → Bool) (cp : ℕ → ℕ) (g : ℕ) → Seek w unc cp (d .cells) left m → At w (d .cells) c k′ → w .t ≡ tableOf S → left ≤ g → end ≡ emitAll S i capacity (knuthRows S (take n path) g w cp left c k′) before)
+            → (g : ℕ) → left ≤ g → end ≡ emitAll S i capacity (knuthRows S (take n path) g w cp left c k) before
+        found-passed i capacity {w} {unc} {cp} q st isT k′ ek end rest g h =
+            rest w unc cp g q (try-at q st kc m refl k′ ek) isT h
+            ∙ sym (passed-over S law (to-seek q) isT (to-at st) (p .seek) (p .stand) (p .chosen) kc i capacity before waits shown (to-shown sh) hidden m refl k′ ek g)
+
     module _ (cells : ℕ) (en : cells ≡ getD m (16384 + k) 0 - getD m (12288 + k) 0 - 1) where
       pub path-room : n + 1 ≤ 128
       path-room =
@@ -100,17 +155,11 @@ module _ (d : Dims) (work images scans kinds pieces : List ℕ) where
           omega arith
 
       module _ (r : ℕ) (er : r ≡ getD m (28672 + k) 0) where
-        row-is : r ≡ tableOf S .row k
-        row-is = er ∙ row-number S (p .seek) (p .chosen .isTable) k live
-
-        row-in : r < length (S .rows)
-        row-in = subst (λ (i : ℕ). i < length (S .rows)) (sym row-is) (row-small S (p .seek) (p .chosen) live)
-
-        pub row-bound : r < 1024
-        row-bound = let a = row-in in let b = law .fewRows in omega arith
-
         longer : take (n + 1) (set path n r) ≡ take n path ++ (r ∷ [])
         longer = let a = path-room in path-longer path n r (omega arith)
+
+        is-longer : take (n + 1) (set path n r) ≡ take n path ++ (tableOf S .row k ∷ [])
+        is-longer = longer ∙ ap (λ (i : ℕ). take n path ++ (i ∷ [])) (row-is r er)
 
         pub path-rows : OfRows d (set path n r) (n + 1)
         path-rows =
@@ -124,7 +173,7 @@ module _ (d : Dims) (work images scans kinds pieces : List ℕ) where
             one : (x : ℕ) → List·Memᴰ x (take n path ++ (r ∷ [])) → T (ltb x (d .rows))
             one x i =
                 ⊎-elim (λ (j : List·Memᴰ x (take n path)). all-at (λ r. ltb r (d .rows)) (take n path) (isRows .areRows) j)
-                (λ (j : List·Memᴰ x (r ∷ [])). let e = List·Memᴰ·eq-of-singleton j in let a = row-in in let b = rows-are in lt→ltb x (d .rows) (omega arith))
+                (λ (j : List·Memᴰ x (r ∷ [])). let e = List·Memᴰ·eq-of-singleton j in let a = row-below r er in lt→ltb x (d .rows) (omega arith))
                 (List·Memᴰ·append-cases (take n path) i)
 
         module _ (m₁ : List ℕ) (g₁ : (w : World) (unc : ℕ → Bool) (cp : ℕ → ℕ) (cells left : ℕ) → Seek w unc cp cells left m → w .liv k ≡ true → m₁ ≡ selected w cp k m) where
@@ -136,16 +185,13 @@ module _ (d : Dims) (work images scans kinds pieces : List ℕ) where
                 cp = spend (p .w .t) (p .cp) k;
                 seek = try-seek (p .seek) (p .stand) kc cells en m₁ g₁;
                 chosen = subst (λ (l : List ℕ). Chosen S (worldTo (p .w) (start (p .w .t) (p .cp) k) (p .w .t .hi k - start (p .w .t) (p .cp) k)) (spend (p .w .t) (p .cp) k) (left - cells) l)
-                    (sym (longer ∙ ap (λ (i : ℕ). take n path ++ (i ∷ [])) row-is))
-                    (chosen-next S (p .seek) (p .chosen) live cells (try-sub (p .seek) (p .stand) kc cells en));
+                    (sym is-longer)
+                    (chosen-next S (p .seek) (p .chosen) live law cells (try-sub (p .seek) (p .stand) kc cells en));
               }
 
           module _ (i : Identify) (capacity : ℕ) {w : World} {unc : ℕ → Bool} {cp : ℕ → ℕ} (q : Seek w unc cp (d .cells) left m) (st : At w (d .cells) c k) (isT : w .t ≡ tableOf S) (before after : Emitted)
               (f : (w : World) (unc : ℕ → Bool) (cp : ℕ → ℕ) (g : ℕ) → Seek w unc cp (d .cells) (left - cells) m₁ → w .t ≡ tableOf S → left - cells < g
               → after ≡ emitAll S i capacity (knuthBelow S (take (n + 1) (set path n r)) g w cp (left - cells)) before) (g : ℕ) (h : left ≤ g) where
-            is-longer : take (n + 1) (set path n r) ≡ take n path ++ (tableOf S .row k ∷ [])
-            is-longer = longer ∙ ap (λ (i : ℕ). take n path ++ (i ∷ [])) row-is
-
             pub found-stop : after .further ≡ true → after ≡ emitAll S i capacity (knuthRows S (take n path) g w cp left c k) before
             found-stop done =
                 stops S i capacity (to-seek q) (take n path) (to-at st) kc cells en m₁ g₁ (take (n + 1) (set path n r)) is-longer isT before after (λ w unc cp g u. f w unc cp g (of-seek u)) done g h

@@ -63,12 +63,12 @@ module _ (s : System) where
       omega arith
 
 -- ---- where a list of nodes comes from
-pick-at : {ks : List ℕ} (a b : Bool) (L : List (List ℕ)) → List·Memᴰ ks (pick a ([] ∷ []) (pick b [] L)) → (ks ≡ []) ⊎ List·Memᴰ ks L
+pub pick-at : {ks : List ℕ} (a b : Bool) (L : List (List ℕ)) → List·Memᴰ ks (pick a ([] ∷ []) (pick b [] L)) → (ks ≡ []) ⊎ List·Memᴰ ks L
 pick-at true b L m = inl (List·Memᴰ·eq-of-singleton m)
 pick-at false true L m = absurd (List·Memᴰ·not-nil m)
 pick-at false false L m = inr m
 
-list-at : (f : ℕ → List (List ℕ)) (p : ℕ → Bool) (n i : ℕ) {ks : List ℕ} → List·Memᴰ ks (listFrom f p n i) → (k : ℕ) × (p k ≡ true) × List·Memᴰ ks (f k)
+pub list-at : (f : ℕ → List (List ℕ)) (p : ℕ → Bool) (n i : ℕ) {ks : List ℕ} → List·Memᴰ ks (listFrom f p n i) → (k : ℕ) × (p k ≡ true) × List·Memᴰ ks (f k)
 unfolding listFrom
 list-at f p zero i m = absurd (List·Memᴰ·not-nil m)
 list-at f p (suc n) i {ks} m = go (p i) refl (List·Memᴰ·append-cases (pick (p i) (f i) []) m) (λ (j : List·Memᴰ ks (listFrom f p n (suc i))). list-at f p n (suc i) j)

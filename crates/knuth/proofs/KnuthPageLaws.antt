@@ -1,26 +1,29 @@
 -- A page of Knuth: a tray has as many links as document 01 counts, a search begins with every row possible and none chosen, and what it lists is the list of
 -- which a call's page is a stretch. Assumes nothing.
 use Prim.Native.Nat.{ℕ, _+_, _≤_}
-use mathlib.Core.Bool.{Bool}
+use mathlib.Core.Bool.{Bool, true, false, cond}
 use mathlib.Core.List.{List, [], _++_, List·Memᴰ·not-nil}
 use mathlib.Core.Path.{_≡_, refl, sym, ap, _∙_, subst}
 use native.Mathlib.Omega.{arith}
 use borrow.Author.Tests.{ltb-false}
+use lib.Dec.{eqb, eqb→eq}
 use lib.ListN.{length, getD, drop, replicate, length-map, length-drop}
 use lib.Seq.{ext-getD, getD-drop}
+use Rattle.definitions.specs.Lists.{joined}
 use Rattle.definitions.specs.Kinds.{Tray, Kind}
 use Rattle.definitions.specs.Placements.{Compiled, compile}
 use Rattle.definitions.specs.Packing.{limits}
 use Rattle.definitions.specs.Kept.{Identify}
 use Rattle.definitions.specs.Emission.{Emitted, emits}
 use Rattle.definitions.specs.Orders.{start, search, knuthChoices, knuthList, packings, listed}
-use Rattle.definitions.specs.Outcomes.{answersOf, capacity, pageOf, cleared, refused, accepted, outcome, outcomeOf, numberOf}
+use Rattle.definitions.specs.Outcomes.{Outcome, answersOf, capacity, pageOf, cleared, overStart, refused, accepted, outcome, outcomeOf, numberOf}
 use Rattle.definitions.specs.Refusals.{Call, trayOf, identifyOf, isKnuth, placementCount, rowsOf, linkCount, firstThatApplies, refusal, table}
 use Rattle.definitions.specs.declared.Record.{Record}
 use Rattle.definitions.specs.declared.Refusal.{Refusal}
 use Rattle.definitions.specs.declared.Listing.the-variants as listing
 use Rattle.definitions.specs.declared.Config.{Config}
 use Rattle.definitions.specs.declared.SolverKind.the-variants.{KnuthAlgorithm}
+use Rattle.definitions.proofs.ListLaws.{eqb-of, is-true, is-false}
 use Rattle.definitions.proofs.RefusalLaws.{none-applies, outcome-accepted, outcome-refused}
 use Rattle.definitions.proofs.GeometryLaws.{W}
 use Rattle.definitions.proofs.EngineLaws.{knuth-exact}
@@ -36,7 +39,7 @@ use Rattle.rows.specs.Lawful.{Lawful}
 use Rattle.rows.proofs.BuildSystemLaws.{fastCall}
 use Rattle.kept.specs.Normal.{ofKind}
 use Rattle.kept.specs.Entries.{entries}
-use Rattle.kept.specs.Calls.{callOf, PageIs}
+use Rattle.kept.specs.Calls.{callOf, pageFrom, PageIs, acceptedBehind, outcomeBehind}
 use Rattle.kept.proofs.EntryLaws.{entries-same}
 use Rattle.kept.proofs.PreparedLaws.{passes}
 use Rattle.links.specs.Search.{Seek}
@@ -99,7 +102,7 @@ module _ (t : Table) (board : Record) (bytes : List ℕ) (ok : Accepted9 t board
               isTable = refl;
               apart = tt;
               taken = λ k h. (let e = b .stock k h in omega arith);
-              fresh = λ x l m. List·Memᴰ·not-nil m;
+              clear = λ x l r m. absurd (List·Memᴰ·not-nil m);
               room = omega arith;
             };
           }
@@ -116,7 +119,32 @@ module _ (t : Table) (board : Record) (bytes : List ℕ) (ok : Accepted9 t board
             ∙ ap (λ (s : System). emits capacity (entries s i (search (knuthChoices (s .rows)) (s .size) (startOf s))) e) is
             ∙ ap (λ (l : List (List ℕ)). emits capacity l e) (all-listed i)
 
--- ---- the outcome of a call
+-- ---- the outcome of a call, for its list or for what lies behind an entry
+abbrev pub outcomeFrom : List ℕ → Bool → Call → Outcome
+outcomeFrom last false l = outcome l
+outcomeFrom last true l = outcomeBehind last l
+
+abbrev acceptedFrom : List ℕ → Bool → Call → Outcome
+acceptedFrom last waiting l =
+    record {
+      number = 0;
+      written = pageFrom last waiting l .written;
+      further = pageFrom last waiting l .further;
+      answers = overStart (joined (pageFrom last waiting l .entries)) (l .answers);
+      work = cleared 8192 (l .work);
+      links = cond (isKnuth (l .config .solver)) (cleared 32768 (l .links)) (l .links);
+    }
+
+from-accepted : (last : List ℕ) (waiting : Bool) (l : Call) → refusal l ≡ 0 → outcomeFrom last waiting l ≡ acceptedFrom last waiting l
+unfolding outcomeBehind acceptedBehind accepted pageOf pageFrom
+from-accepted last false l e = outcome-accepted l e
+from-accepted last true l e = ap (λ (b : Bool). cond b (acceptedBehind last l) (refused (refusal l) l)) (is-true (eqb (refusal l) 0) (eqb-of e))
+
+from-refused : (last : List ℕ) (waiting : Bool) (l : Call) → (refusal l ≡ 0 → ⊥) → outcomeFrom last waiting l ≡ refused (refusal l) l
+unfolding outcomeBehind
+from-refused last false l d = outcome-refused l d
+from-refused last true l d = ap (λ (b : Bool). cond b (acceptedBehind last l) (refused (refusal l) l)) (is-false (eqb (refusal l) 0) (λ u. d (eqb→eq (refusal l) 0 u)))
+
 module _ (t : Table) (board : Record) (bytes : List ℕ) (turned mirrored : Bool) (skip : ℕ) (answers work links : List ℕ) where
   abbrev pub knuthConfig : Config
   knuthConfig = record { «identify_transformed_answers» = turned; «identify_mirrored_answers» = mirrored; solver = KnuthAlgorithm }
@@ -132,10 +160,10 @@ module _ (t : Table) (board : Record) (bytes : List ℕ) (turned mirrored : Bool
   refusal-is = refusal-stages (callOf KnuthAlgorithm t board bytes turned mirrored skip answers work links)
 
   -- a page does not depend on the links that are lent
-  pub any-links : (written : ℕ) (further : Bool) (after : List ℕ) → PageIs (callOf KnuthAlgorithm t board bytes turned mirrored skip answers work []) written further after
-      → PageIs (callOf KnuthAlgorithm t board bytes turned mirrored skip answers work links) written further after
-  unfolding pageOf callOf trayOf identifyOf capacity
-  any-links written further after p = record { writtenIs = p .writtenIs; furtherIs = p .furtherIs; answersAre = p .answersAre }
+  pub any-links : (last : List ℕ) (waiting : Bool) (written : ℕ) (further : Bool) (after : List ℕ) → PageIs last waiting (callOf KnuthAlgorithm t board bytes turned mirrored skip answers work []) written further after
+      → PageIs last waiting (callOf KnuthAlgorithm t board bytes turned mirrored skip answers work links) written further after
+  unfolding pageFrom callOf trayOf identifyOf capacity
+  any-links last waiting written further after p = record { writtenIs = p .writtenIs; furtherIs = p .furtherIs; answersAre = p .answersAre }
 
   -- an accepted call's links are long enough, and its tray's links few
   pub accepted-links : knuthNumber ≡ 0 → 32768 ≤ length links
@@ -146,17 +174,20 @@ module _ (t : Table) (board : Record) (bytes : List ℕ) (turned mirrored : Bool
   unfolding table callOf isKnuth trayOf
   accepted-count e = ltb-false 4096 (linkCount (compile (trayIn (recordsOf t) board bytes))) (none-applies its (refusal-is ∙ e) 14)
 
-  pub refused-outcome : (why : Refusal) → numberOf why ≡ knuthNumber → outcomeOf (listing.Refused why) answers work links ≡ outcome (callOf KnuthAlgorithm t board bytes turned mirrored skip answers work links)
+  -- refused or accepted, from the start of the list or from behind an entry
+  pub refused-outcome : (last : List ℕ) (waiting : Bool) (why : Refusal) → numberOf why ≡ knuthNumber
+      → outcomeOf (listing.Refused why) answers work links ≡ outcomeFrom last waiting (callOf KnuthAlgorithm t board bytes turned mirrored skip answers work links)
   unfolding outcomeOf refused callOf
-  refused-outcome why e =
-      ap (λ (n : ℕ). refused n its) (e ∙ sym refusal-is) ∙ sym (outcome-refused its (λ z. refused-some why (e ∙ sym refusal-is ∙ z)))
+  refused-outcome last waiting why e =
+      ap (λ (n : ℕ). refused n its) (e ∙ sym refusal-is) ∙ sym (from-refused last waiting its (λ z. refused-some why (e ∙ sym refusal-is ∙ z)))
 
-  pub accepted-outcome : knuthNumber ≡ 0 → (written : ℕ) (further : Bool) (after work₁ work₂ links₁ links₂ : List ℕ) → PageIs (callOf KnuthAlgorithm t board bytes turned mirrored skip answers work links) written further after
+  pub accepted-outcome : knuthNumber ≡ 0 → (last : List ℕ) (waiting : Bool) (written : ℕ) (further : Bool) (after work₁ work₂ links₁ links₂ : List ℕ)
+      → PageIs last waiting (callOf KnuthAlgorithm t board bytes turned mirrored skip answers work links) written further after
       → drop 8192 work₁ ≡ drop 8192 work → work₂ ≡ cleared 8192 work₁ → drop 32768 links₁ ≡ drop 32768 links → links₂ ≡ cleared 32768 links₁
-      → outcomeOf (listing.Page written further) after work₂ links₂ ≡ outcome (callOf KnuthAlgorithm t board bytes turned mirrored skip answers work links)
-  unfolding outcomeOf accepted pageOf callOf trayOf identifyOf capacity cleared isKnuth
-  accepted-outcome e written further after work₁ work₂ links₁ links₂ p behind ends behind′ ends′ =
+      → outcomeOf (listing.Page written further) after work₂ links₂ ≡ outcomeFrom last waiting (callOf KnuthAlgorithm t board bytes turned mirrored skip answers work links)
+  unfolding outcomeOf callOf cleared isKnuth
+  accepted-outcome e last waiting written further after work₁ work₂ links₁ links₂ p behind ends behind′ ends′ =
       let rest : work₂ ≡ replicate 8192 0 ++ drop 8192 work = ends ∙ ap (λ (l : List ℕ). replicate 8192 0 ++ l) behind in
       let rest′ : links₂ ≡ replicate 32768 0 ++ drop 32768 links = ends′ ∙ ap (λ (l : List ℕ). replicate 32768 0 ++ l) behind′ in
       (λ i. record { number = 0; written = p .writtenIs i; further = p .furtherIs i; answers = p .answersAre i; work = rest i; links = rest′ i })
-      ∙ sym (outcome-accepted its (refusal-is ∙ e))
+      ∙ sym (from-accepted last waiting its (refusal-is ∙ e))

@@ -4,6 +4,7 @@ pub mod KnuthStateLaws
 pub mod KnuthListLaws
 pub mod ChosenLaws
 pub mod CycleLaws
+pub mod UnmetLaws
 pub mod CycleStepLaws
 pub mod LaidLaws
 pub mod BuildingLaws

@@ -8,7 +8,7 @@ use Rattle.definitions.specs.Lists.{Apart}
 use Rattle.definitions.specs.Kept.{Identify}
 use Rattle.definitions.specs.Emission.{Emitted}
 use Rattle.rows.specs.Systems.{System}
-use Rattle.kept.specs.Normal.{ofKind}
+use Rattle.kept.specs.Normal.{ofKind, rowOf}
 use Rattle.kept.specs.Emission.{emitKept}
 use Rattle.links.specs.Links.{Table, LawfulTable}
 use Rattle.links.specs.Cover.{World, pick}
@@ -34,12 +34,13 @@ knuthBelow s rs g w cp left = foundRows s rs (packings (w .t) (s .size) g (w .li
 unfoldable pub knuthRows : System → List ℕ → ℕ → World → (ℕ → ℕ) → ℕ → ℕ → ℕ → List (List ℕ)
 knuthRows s rs g w cp left c k = foundRows s rs (pick (eqb k c) [] (rowsFrom (w .t) (packings (w .t) (s .size) g) (w .liv) cp left c k))
 
--- the rows chosen differ, their copies are taken, no row still possible is among them, and there is a place in the path for each uncovered cell
+-- the rows chosen differ, their copies are taken, no row still possible shares a cell with one of them, and there is a place in the path for each uncovered
+-- cell
 pub record Chosen (s : System) (w : World) (cp : ℕ → ℕ) (left : ℕ) (rs : List ℕ) : Type 0 where
   pub isTable : w .t ≡ tableOf s
   pub apart : Apart rs
   pub taken : (k : ℕ) → k < length (s .copies) → cp (s .size + k) + length (ofKind s k rs) ≡ getD (s .copies) k 0
-  pub fresh : (x : ℕ) → w .liv x ≡ true → List·Memᴰ (tableOf s .row x) rs → ⊥
+  pub clear : (x : ℕ) → w .liv x ≡ true → (r : ℕ) → List·Memᴰ r rs → (n : ℕ) → List·Memᴰ n (rowOf s r .cells) → List·Memᴰ n (rowOf s (tableOf s .row x) .cells) → ⊥
   pub room : length rs + left ≤ s .size
 
 -- links in which some world stands: what `choose` asks, and `try_rows` at node k of column c

@@ -30,16 +30,20 @@ use Rattle.fast.specs.Searching.{Searching, stateBy, fastBelow}
 use Rattle.fast.specs.Pruned.{fastFirst, cellsOfAll}
 use Rattle.fast.proofs.FastPageLaws.{searching, lists-plain, lists-first, first-chosen, plain-turned, plain-left, plain-cells}
 use Rattle.kept.proofs.PreparedLaws.{box-some, box-few, kinds-few, ready}
+use Rattle.kept.proofs.ReadyLaws.{few-cells}
 use Rattle.kept.proofs.CallLaws.{page-is}
 use Rattle.fast.proofs.page.list.Statement.{statement}
 use Rattle.fast.proofs.page.list.Tie as tie
 
 -- ---- from a place of the code back to an earlier one
 abbrev to-start : tie.After-build-system → tie.Start
-to-start b = b .before .before .before .before .before .before .before .before .before .before
+to-start b = b .before .before .before .before .before .before .before .before .before .before .before
 
 abbrev to-system : tie.After-all-left → tie.After-build-system
 to-system a = a .before .before .before .before .before .before .before .before .before .before
+
+abbrev to-left : tie.After-show-cells → tie.After-all-left
+to-left s = s .before .before .before .before
 
 -- ---- the system and the copies left
 system-ready : (b : tie.After-build-system) → (let q = b .build-system in
@@ -93,19 +97,24 @@ module _ (a : tie.After-all-left) where
       left (a .all-left .kept .1 .1 .0) (a .all-left .ensures) covered none i e
 
   -- what is emitted is the page
-  listed : (x : Emission) (after : List ℕ) (list : List (List ℕ)) → emittedOf x after ≡ emits room list (begin (z .args .skip) (now (z .args .answers)))
+  listed : (x : Emission) (after : List ℕ) (list : List (List ℕ))
+      → emittedOf x (now (z .args .last)) after ≡ emits room list (begin (now (z .args .last)) (z .args .waiting) (z .args .skip) (now (z .args .answers)))
       → list ≡ answersOf (trayIn (recordsOf (z .args .t)) (z .args .board) (now (z .args .bytes))) i Fast
-      → PageIs (callOf Fast (z .args .t) (z .args .board) (now (z .args .bytes)) (z .args .turned) (z .args .mirrored) (z .args .skip) (now (z .args .answers)) (now (z .args .work)) []) (x .written) (x .further) after
+      → PageIs (now (z .args .last)) (z .args .waiting) (callOf Fast (z .args .t) (z .args .board) (now (z .args .bytes)) (z .args .turned) (z .args .mirrored) (z .args .skip) (now (z .args .answers)) (now (z .args .work)) []) (x .written) (x .further) after
   listed x after list e f =
       page-is Fast (z .args .t) (z .args .board) (now (z .args .bytes)) (z .args .turned) (z .args .mirrored) (z .args .skip) (now (z .args .answers)) (now (z .args .work))
-      (to-system a .build-system .result .places) (to-system a .build-system .ensures .3) (emittedOf x after)
-      (e ∙ ap (λ (l : List (List ℕ)). emits room l (begin (z .args .skip) (now (z .args .answers)))) f)
+      (now (z .args .last)) (z .args .waiting) (to-system a .build-system .result .places) (to-system a .build-system .ensures .3) (emittedOf x (now (z .args .last)) after)
+      (e ∙ ap (λ (l : List (List ℕ)). emits room l (begin (now (z .args .last)) (z .args .waiting) (z .args .skip) (now (z .args .answers)))) f)
+
+-- ---- what the answer that may be waited for shows
+shown-long : (s : tie.After-show-cells) → length (s .show-cells .last .1 .1 .1 .0) ≡ 256
+shown-long s = s .show-cells .kept .1 .1 .1 .0
 
 -- kind 0 is not placed first where one of the three tests fails
 not-first : (c : tie.Joined1)
-    → (let a = c .before .before .before in kind0First (compile (trayIn (recordsOf (z a .args .t)) (z a .args .board) (now (z a .args .bytes)))) (identifies (z a .args .turned) (z a .args .mirrored)) ≡ false)
+    → (let a = to-left (c .before .before .before) in kind0First (compile (trayIn (recordsOf (z a .args .t)) (z a .args .board) (now (z a .args .bytes)))) (identifies (z a .args .turned) (z a .args .mirrored)) ≡ false)
 not-first c =
-    let a = c .before .before .before in
+    let a = to-left (c .before .before .before) in
     let y = z a in
     ⊎-elim
     (λ w. plain-cells (y .args .t) (y .args .board) (now (y .args .bytes)) (y .pre .0) (y .pre .1) (now (y .args .work)) (y .pre .2) _ _ _ _ _ _ (to-system a .build-system .ensures .0)
@@ -146,15 +155,27 @@ all-left-requires c κs =
     let b = c .before .before .before .before .before .before .before .before .before in
     (system-ready b .kindsFit, few b)
 
+slice-aggregate-show-cells : tie.Need-slice-aggregate-show-cells
+slice-aggregate-show-cells c = search needs
+
+slice-aggregate-show-cells-2 : tie.Need-slice-aggregate-show-cells-2
+slice-aggregate-show-cells-2 c = search needs
+
+show-cells-requires : tie.Need-show-cells-requires
+show-cells-requires c κs =
+    let b = to-system (c .before .before .before) in
+    let r = system-ready b in
+    (few-cells (b .build-system .result) _ _ _ _ _ (r .lawful), refl, r .scansFit, r .fewPlaces)
+
 mul-capacity : tie.Need-mul-capacity
 mul-capacity c =
-    let b = to-system (c .before .before) in
+    let b = to-system (to-left (c .before .before)) in
     let z = to-start b in
     omega (arith, b .build-system .ensures .3, box-few (z .args .t) (z .args .board) (now (z .args .bytes)) (z .pre .0))
 
 div-capacity : tie.Need-div-capacity
 div-capacity c =
-    let b = to-system (c .before .before) in
+    let b = to-system (to-left (c .before .before)) in
     let z = to-start b in
     omega (arith, b .build-system .ensures .3, box-some (z .args .t) (z .args .board) (now (z .args .bytes)) (z .pre .0))
 
@@ -162,7 +183,7 @@ array-read-if2 : tie.Need-array-read-if2
 array-read-if2 c = search needs
 
 cells-of-all-requires : tie.Need-cells-of-all-requires
-cells-of-all-requires c κs = search needs
+cells-of-all-requires c κs = to-start (to-system (to-left (c .before .before .before .before))) .pre .0
 
 slice-aggregate-search-first : tie.Need-slice-aggregate-search-first
 slice-aggregate-search-first c = search needs
@@ -185,28 +206,32 @@ slice-aggregate-search-first-6 c = search needs
 slice-aggregate-search-first-7 : tie.Need-slice-aggregate-search-first-7
 slice-aggregate-search-first-7 c = search needs
 
+slice-aggregate-search-first-8 : tie.Need-slice-aggregate-search-first-8
+slice-aggregate-search-first-8 c = search needs
+
 search-first-requires : tie.Need-search-first-requires
 search-first-requires c κs =
-    let third = c .before .before .before .before .before .before .before .before .before in
-    let a = third .before .before .before .before .before .before .before in
+    let third = c .before .before .before .before .before .before .before .before .before .before in
+    let s = third .before .before .before .before .before .before .before in
+    let a = to-left s in
     let one : getD (left a) 0 0 ≡ 1 = third .before .before .before .if2 .taken in
-    ((system-ready (to-system a), refl, div-mul-le-self (length (now (z a .args .answers))) (2 * to-system a .build-system .result .places), omega arith), start-searching a (record { low = 0; high = 0 }) hit2-zero)
+    ((system-ready (to-system a), refl, shown-long s, s .show-cells .ensures, div-mul-le-self (length (now (z a .args .answers))) (2 * to-system a .build-system .result .places), omega arith), start-searching a (record { low = 0; high = 0 }) hit2-zero)
 
 same-length : tie.Need-same-length
 same-length c = search needs
 
 same-length-2 : tie.Need-same-length-2
 same-length-2 c =
-    let third = c .before .before .before .before .before .before .before .before .before .before .before .before .before .before in
-    to-system (third .before .before .before .before .before .before .before) .build-system .kept .1 .1 .1 .0
+    let third = c .before .before .before .before .before .before .before .before .before .before .before .before .before .before .before in
+    to-system (to-left (third .before .before .before .before .before .before .before)) .build-system .kept .1 .1 .1 .0
 
 returns : tie.Need-returns
 returns c =
     let q = c .before .before .before .before in
-    let third = q .before .before .before .before .before .before .before .before .before .before in
+    let third = q .before .before .before .before .before .before .before .before .before .before .before in
     let cells = third .before .before .cells-of-all in
-    let a = third .before .before .before .before .before .before .before in (
-      listed a (q .search-first .result) (q .search-first .last .1 .1 .1 .1 .1 .1 .1 .1 .1 .1 .1 .1 .0) _ (q .search-first .ensures .0)
+    let a = to-left (third .before .before .before .before .before .before .before) in (
+      listed a (q .search-first .result) (q .search-first .last .1 .1 .1 .1 .1 .1 .1 .1 .1 .1 .1 .1 .1 .1 .0) _ (q .search-first .ensures .0)
           (first-list a (third .before .before .before .before .if1 .taken) (third .before .before .before .if2 .taken) (cells .result) (cells .ensures) (third .if3 .taken)),
       to-system a .build-system .ensures .2,
     )
@@ -235,12 +260,16 @@ slice-aggregate-search-7 c = search needs
 empty-requires : tie.Need-empty-requires
 empty-requires c κs = search needs
 
+slice-aggregate-search-8 : tie.Need-slice-aggregate-search-8
+slice-aggregate-search-8 c = search needs
+
 search-requires : tie.Need-search-requires
 search-requires c κs =
-    let joined = c .before .before .before .before .before .before .before .before .before .before in
-    let a = joined .before .before .before in (
-      (system-ready (to-system a), record { within = omega arith; few = omega arith; areRows = tt }, refl, div-mul-le-self (length (now (z a .args .answers))) (2 * to-system a .build-system .result .places)),
-      start-searching a (c .before .empty .result) (c .before .empty .ensures),
+    let joined = c .before .before .before .before .before .before .before .before .before .before .before in
+    let s = joined .before .before .before in
+    let a = to-left s in (
+      (system-ready (to-system a), record { within = omega arith; few = omega arith; areRows = tt }, refl, shown-long s, s .show-cells .ensures, div-mul-le-self (length (now (z a .args .answers))) (2 * to-system a .build-system .result .places)),
+      start-searching a (c .before .before .empty .result) (c .before .before .empty .ensures),
     )
 
 same-length-3 : tie.Need-same-length-3
@@ -248,16 +277,16 @@ same-length-3 c = search needs
 
 same-length-4 : tie.Need-same-length-4
 same-length-4 c =
-    let joined = c .before .before .before .before .before .before .before .before .before .before .before .before .before .before .before in
-    to-system (joined .before .before .before) .build-system .kept .1 .1 .1 .0
+    let joined = c .before .before .before .before .before .before .before .before .before .before .before .before .before .before .before .before in
+    to-system (to-left (joined .before .before .before)) .build-system .kept .1 .1 .1 .0
 
 returns-2 : tie.Need-returns-2
 returns-2 c =
     let q = c .before .before .before .before in
-    let joined = q .before .before .before .before .before .before .before .before .before .before .before in
-    let a = joined .before .before .before in (
-      listed a (q .search .result) (q .search .last .1 .1 .1 .1 .1 .1 .1 .1 .1 .1 .1 .1 .1 .1 .0) _ (q .search .ensures .0)
-          (plain-list a (not-first joined) (q .before .before .empty .result) (q .before .before .empty .ensures)),
+    let joined = q .before .before .before .before .before .before .before .before .before .before .before .before in
+    let a = to-left (joined .before .before .before) in (
+      listed a (q .search .result) (q .search .last .1 .1 .1 .1 .1 .1 .1 .1 .1 .1 .1 .1 .1 .1 .1 .1 .0) _ (q .search .ensures .0)
+          (plain-list a (not-first joined) (q .before .before .before .empty .result) (q .before .before .before .empty .ensures)),
       to-system a .build-system .ensures .2,
     )
 
@@ -274,6 +303,9 @@ list-spec =
     slice-aggregate-all-left
     slice-aggregate-all-left-2
     all-left-requires
+    slice-aggregate-show-cells
+    slice-aggregate-show-cells-2
+    show-cells-requires
     mul-capacity
     div-capacity
     array-read-if2
@@ -285,6 +317,7 @@ list-spec =
     slice-aggregate-search-first-5
     slice-aggregate-search-first-6
     slice-aggregate-search-first-7
+    slice-aggregate-search-first-8
     search-first-requires
     same-length
     same-length-2
@@ -297,6 +330,7 @@ list-spec =
     slice-aggregate-search-6
     slice-aggregate-search-7
     empty-requires
+    slice-aggregate-search-8
     search-requires
     same-length-3
     same-length-4

@@ -7,7 +7,7 @@ use mathlib.Core.Logic.{⊎-elim}
 use mathlib.Core.Path.{_≡_, refl, sym, ap, ap₂, _∙_}
 use native.Mathlib.Omega.{arith}
 use borrow.Author.Needs.{needs}
-use borrow.Author.Tests.{not-true, not-false}
+use borrow.Author.Tests.{not-true}
 use denote.Ref.{now}
 use lib.ListN.{length, getD, set, length-set}
 use lib.Seq.{getD-set-same}
@@ -22,20 +22,21 @@ use Rattle.rows.specs.Rows.{rowAt}
 use Rattle.fast.specs.Searching.{fastBelow, stateBy}
 use Rattle.fast.specs.Pruned.{prunedBy}
 use Rattle.kept.proofs.ReadyLaws.{rows-many, few-rows}
-use Rattle.fast.proofs.PrunedLaws.{nothingCovered, firstFrom, first-start, first-emitted, first-passed, first-full, first-over, first-left, copy-back, later-kinds, first-kind, first-path, first-state, first-searching}
+use Rattle.fast.proofs.UnmetLaws.{tried}
+use Rattle.fast.proofs.PrunedLaws.{nothingCovered, firstFrom, first-start, first-emitted, first-untried, first-full, first-over, first-left, copy-back, later-kinds, first-kind, first-path, first-state, first-searching}
 use Rattle.fast.proofs.pruning.search_first.Statement.{statement}
 use Rattle.fast.proofs.pruning.search_first.Tie as tie
 
 abbrev Inv-loop : tie.InvT-loop
-Inv-loop d work heads images scans kinds pieces turned mirrored left₀ path₀ capacity answers₀ s₀ r₀ left path answers s r =
+Inv-loop d work heads images scans kinds pieces turned mirrored left₀ path₀ last shown capacity answers₀ s₀ r₀ left path answers s r =
     let sys = systemIn d work images scans kinds pieces in
     let i = identifies turned mirrored in
     let t = stateBy sys left₀ nothingCovered [] in
     (left ≡ left₀) × (length path ≡ length path₀) × (length answers ≡ length answers₀) × (r ≤ d .rows)
-    × (emits capacity (firstFrom sys i t (d .rows) r) (emittedOf s answers) ≡ emits capacity (firstFrom sys i t (d .rows) 0) (emittedOf s₀ answers₀))
+    × (emits capacity (firstFrom sys i t (d .rows) r) (emittedOf s last answers) ≡ emits capacity (firstFrom sys i t (d .rows) 0) (emittedOf s₀ last answers₀))
 
 abbrev μ-loop : tie.MeasureT-loop
-μ-loop d work heads images scans kinds pieces turned mirrored left₀ path₀ capacity answers₀ s₀ r₀ left path answers s r =
+μ-loop d work heads images scans kinds pieces turned mirrored left₀ path₀ last shown capacity answers₀ s₀ r₀ left path answers s r =
     d .rows - r
 
 -- the place where the loop is tested, and the function's entry
@@ -43,7 +44,7 @@ abbrev turn : tie.After-search Inv-loop μ-loop → tie.At-loop Inv-loop μ-loop
 turn c = c .before .before .before .before .before .before .before .before .before .before .before .before
 
 abbrev entry : tie.At-loop Inv-loop μ-loop → tie.Start Inv-loop μ-loop
-entry c = c .before .before .before .before .before .before .before .before .before .before
+entry c = c .before .before .before .before .before .before .before .before .before .before .before .before
 
 kind-zero : (c : tie.Else2 Inv-loop μ-loop) → rowAt (now (entry (c .before .before .before .before) .args .work)) (c .before .before .before .before .loop .r) .kind ≡ 0
 kind-zero c = let l = c .if2 .left in omega (arith, c .before .kind-at .ensures)
@@ -54,7 +55,7 @@ put-back c =
     let z = entry (turn c) in
     let a = z .args in
     let l = turn c .loop in
-    copy-back (l .left) (now (a .left)) (c .search .last .1 .1 .1 .1 .1 .1 .1 .1 .1 .0) (l .inv .0) (z .pre .0 .3) (c .search .ensures .1 .0)
+    copy-back (l .left) (now (a .left)) (c .search .last .1 .1 .1 .1 .1 .1 .1 .1 .1 .0) (l .inv .0) (z .pre .0 .5) (c .search .ensures .1 .0)
 
 left-long : (c : tie.After-search Inv-loop μ-loop) → 0 < length (c .search .last .1 .1 .1 .1 .1 .1 .1 .1 .1 .0)
 left-long c =
@@ -62,7 +63,7 @@ left-long c =
     let a = z .args in
     let l = turn c .loop in
     let e : length (l .left) ≡ length (now (a .left)) = ap (λ (x : List ℕ). length x) (l .inv .0) in
-    let k = getD-pos (now (a .left)) 0 (z .pre .0 .3) in
+    let k = getD-pos (now (a .left)) 0 (z .pre .0 .5) in
     omega (arith, c .search .kept .1 .1 .1 .1 .1 .1 .1 .1 .1 .0, length-set (l .left) 0 (getD (l .left) 0 0 - 1))
 
 left-was : (c : tie.After-search Inv-loop μ-loop) → getD (c .search .last .1 .1 .1 .1 .1 .1 .1 .1 .1 .0) 0 0 + 1 ≡ getD (now (entry (turn c) .args .left)) 0 0
@@ -76,20 +77,20 @@ path-long c =
     let l = turn c .loop in
     c .search .kept .1 .1 .1 .1 .1 .1 .1 .1 .1 .1 .0 ∙ length-set (l .path) 0 (l .r) ∙ l .inv .1
 
-answers-long : (c : tie.After-search Inv-loop μ-loop) → length (c .search .last .1 .1 .1 .1 .1 .1 .1 .1 .1 .1 .1 .1 .1 .1 .0) ≡ length (now (entry (turn c) .args .answers))
+answers-long : (c : tie.After-search Inv-loop μ-loop) → length (c .search .last .1 .1 .1 .1 .1 .1 .1 .1 .1 .1 .1 .1 .1 .1 .1 .1 .0) ≡ length (now (entry (turn c) .args .answers))
 answers-long c =
     let z = entry (turn c) in
     let a = z .args in
     let l = turn c .loop in
-    c .search .kept .1 .1 .1 .1 .1 .1 .1 .1 .1 .1 .1 .1 .1 .1 .0 ∙ l .inv .2
+    c .search .kept .1 .1 .1 .1 .1 .1 .1 .1 .1 .1 .1 .1 .1 .1 .1 .1 .0 ∙ l .inv .2
 
 emitted : (c : tie.After-search Inv-loop μ-loop)
     → let a = entry (turn c) .args in
     let sys = systemIn (a .d) (now (a .work)) (now (a .images)) (now (a .scans)) (now (a .kinds)) (now (a .pieces)) in
     let i = identifies (a .turned) (a .mirrored) in
     let t = stateBy sys (now (a .left)) nothingCovered [] in
-    emits (a .capacity) (firstFrom sys i t (a .d .rows) (turn c .loop .r + 1)) (emittedOf (c .search .result) (c .search .last .1 .1 .1 .1 .1 .1 .1 .1 .1 .1 .1 .1 .1 .1 .0))
-    ≡ emits (a .capacity) (firstFrom sys i t (a .d .rows) 0) (emittedOf (a .e) (now (a .answers)))
+    emits (a .capacity) (firstFrom sys i t (a .d .rows) (turn c .loop .r + 1)) (emittedOf (c .search .result) (now (a .last)) (c .search .last .1 .1 .1 .1 .1 .1 .1 .1 .1 .1 .1 .1 .1 .1 .1 .1 .0))
+    ≡ emits (a .capacity) (firstFrom sys i t (a .d .rows) 0) (emittedOf (a .e) (now (a .last)) (now (a .answers)))
 emitted c =
     let z = entry (turn c) in
     let a = z .args in
@@ -100,10 +101,10 @@ emitted c =
     let h : l .r < a .d .rows = c .before .before .before .before .before .before .before .before .before .before .if1 .taken in
     let k = kind-zero (c .before .before .before .before .before .before .before .before) in
     let long : length (l .path) ≡ 128 = l .inv .1 ∙ z .pre .0 .1 in
-    let pruned : prunedBy sys i (l .r) ≡ false = sym (c .before .before .before .before .before .before .before .is-pruned .ensures) ∙ not-true (c .before .before .before .before .before .before .before .is-pruned .result) (c .before .before .before .before .before .before .if3 .taken) in
-    let x = emittedOf (l .s) (l .answers) in
-    first-emitted sys i t (a .d .rows) (l .r) (a .capacity) x (emits (a .capacity) (firstFrom sys i t (a .d .rows) 0) (emittedOf (a .e) (now (a .answers))))
-    (emittedOf (c .search .result) (c .search .last .1 .1 .1 .1 .1 .1 .1 .1 .1 .1 .1 .1 .1 .1 .0)) h (first-kind (a .d) (now (a .work)) (now (a .heads)) (now (a .images)) (now (a .scans)) (now (a .kinds)) (now (a .pieces)) (z .pre .0 .0) (l .r) h k) pruned
+    let pruned : prunedBy sys i (l .r) ≡ false = not-true (prunedBy sys i (l .r)) (tried _ _ (sym (c .before .before .before .before .before .before .before .is-first .ensures) ∙ c .before .before .before .before .before .before .if3 .taken)) in
+    let x = emittedOf (l .s) (now (a .last)) (l .answers) in
+    first-emitted sys i t (a .d .rows) (l .r) (a .capacity) x (emits (a .capacity) (firstFrom sys i t (a .d .rows) 0) (emittedOf (a .e) (now (a .last)) (now (a .answers))))
+    (emittedOf (c .search .result) (now (a .last)) (c .search .last .1 .1 .1 .1 .1 .1 .1 .1 .1 .1 .1 .1 .1 .1 .1 .1 .0)) h (first-kind (a .d) (now (a .work)) (now (a .heads)) (now (a .images)) (now (a .scans)) (now (a .kinds)) (now (a .pieces)) (z .pre .0 .0) (l .r) h k) pruned
     (c .search .ensures .0
     ∙ ap (λ (u : State). emits (a .capacity) (fastBelow sys i u) x)
     (first-state (a .d) (now (a .work)) (now (a .heads)) (now (a .images)) (now (a .scans)) (now (a .kinds)) (now (a .pieces)) (z .pre .0 .0) (l .r) h k (l .path) long (now (a .left)) (l .left) (c .before .before .before .before .mask-at .result) (l .inv .0) (c .before .before .before .before .mask-at .ensures)))
@@ -126,7 +127,7 @@ same-length-3 c = search needs
 
 returns : tie.Need-returns Inv-loop μ-loop
 returns c =
-    let z = c .before .before .before .before .before .before .before .before .before .before .before .before .before .before in
+    let z = c .before .before .before .before .before .before .before .before .before .before .before .before .before .before .before .before in
     let a = z .args in
     let l = c .before .before .before .before .loop in
     let sys = systemIn (a .d) (now (a .work)) (now (a .images)) (now (a .scans)) (now (a .kinds)) (now (a .pieces)) in
@@ -134,70 +135,72 @@ returns c =
     let t = stateBy sys (now (a .left)) nothingCovered [] in
     let h : l .r < a .d .rows = c .before .before .if1 .taken in
     let k : 0 < rowAt (now (a .work)) (l .r) .kind = omega (arith, c .before .kind-at .ensures, c .if2 .taken) in
-    (first-left sys i t (a .d .rows) (l .r) (a .capacity) (emittedOf (l .s) (l .answers)) (emits (a .capacity) (firstFrom sys i t (a .d .rows) 0) (emittedOf (a .e) (now (a .answers)))) (later-kinds (a .d) (now (a .work)) (now (a .heads)) (now (a .images)) (now (a .scans)) (now (a .kinds)) (now (a .pieces)) (z .pre .0 .0) (l .r) h k) (l .inv .4) ∙ ap (λ (L : List (List ℕ)). emits (a .capacity) L (emittedOf (a .e) (now (a .answers)))) (first-start sys i t (a .d .rows) (rows-many (a .d) (now (a .work)) (now (a .images)) (now (a .scans)) (now (a .kinds)) (now (a .pieces)))), l .inv .0)
+    (first-left sys i t (a .d .rows) (l .r) (a .capacity) (emittedOf (l .s) (now (a .last)) (l .answers)) (emits (a .capacity) (firstFrom sys i t (a .d .rows) 0) (emittedOf (a .e) (now (a .last)) (now (a .answers)))) (later-kinds (a .d) (now (a .work)) (now (a .heads)) (now (a .images)) (now (a .scans)) (now (a .kinds)) (now (a .pieces)) (z .pre .0 .0) (l .r) h k) (l .inv .4) ∙ ap (λ (L : List (List ℕ)). emits (a .capacity) L (emittedOf (a .e) (now (a .last)) (now (a .answers)))) (first-start sys i t (a .d .rows) (rows-many (a .d) (now (a .work)) (now (a .images)) (now (a .scans)) (now (a .kinds)) (now (a .pieces)))), l .inv .0)
 
-is-pruned-requires : tie.Need-is-pruned-requires Inv-loop μ-loop
-is-pruned-requires c κs = (c .before .before .before .before .before .before .before .before .before .before .before .before .before .before .pre .0 .0, c .before .before .if1 .taken)
+is-first-requires : tie.Need-is-first-requires Inv-loop μ-loop
+is-first-requires c κs =
+    let z = c .before .before .before .before .before .before .before .before .before .before .before .before .before .before .before .before in
+    (z .pre .0 .0, c .before .before .if1 .taken, z .pre .0 .2)
 
 slice-read-left : tie.Need-slice-read-left Inv-loop μ-loop
 slice-read-left c =
-    let z = c .before .before .before .before .before .before .before .before .before .before .before .before .before .before .before .before .before in
+    let z = c .before .before .before .before .before .before .before .before .before .before .before .before .before .before .before .before .before .before .before in
     let l = c .before .before .before .before .before .before .before .loop in
     let e : length (l .left) ≡ length (now (z .args .left)) = ap (λ (x : List ℕ). length x) (l .inv .0) in
-    let k = getD-pos (now (z .args .left)) 0 (z .pre .0 .3) in
+    let k = getD-pos (now (z .args .left)) 0 (z .pre .0 .5) in
     omega arith
 
 sub-left : tie.Need-sub-left Inv-loop μ-loop
 sub-left c =
-    let z = c .before .before .before .before .before .before .before .before .before .before .before .before .before .before .before .before .before in
-    omega (arith, ap (λ (x : List ℕ). getD x 0 0) (c .before .before .before .before .before .before .before .loop .inv .0), z .pre .0 .3)
+    let z = c .before .before .before .before .before .before .before .before .before .before .before .before .before .before .before .before .before .before .before in
+    omega (arith, ap (λ (x : List ℕ). getD x 0 0) (c .before .before .before .before .before .before .before .loop .inv .0), z .pre .0 .5)
 
 slice-write-left : tie.Need-slice-write-left Inv-loop μ-loop
 slice-write-left c =
-    let z = c .before .before .before .before .before .before .before .before .before .before .before .before .before .before .before .before .before in
+    let z = c .before .before .before .before .before .before .before .before .before .before .before .before .before .before .before .before .before .before .before in
     let l = c .before .before .before .before .before .before .before .loop in
     let e : length (l .left) ≡ length (now (z .args .left)) = ap (λ (x : List ℕ). length x) (l .inv .0) in
-    let k = getD-pos (now (z .args .left)) 0 (z .pre .0 .3) in
+    let k = getD-pos (now (z .args .left)) 0 (z .pre .0 .5) in
     omega arith
 
 cast-path : tie.Need-cast-path Inv-loop μ-loop
 cast-path c =
-    let z = c .before .before .before .before .before .before .before .before .before .before .before .before .before .before .before .before .before in
+    let z = c .before .before .before .before .before .before .before .before .before .before .before .before .before .before .before .before .before .before .before in
     let a = z .args in
     let l = c .before .before .before .before .before .before .before .loop in
     omega (arith, few-rows (a .d) (now (a .work)) (now (a .images)) (now (a .scans)) (now (a .kinds)) (now (a .pieces)) (z .pre .0 .0 .lawful), c .before .before .before .before .before .if1 .taken)
 
 slice-write-path : tie.Need-slice-write-path Inv-loop μ-loop
 slice-write-path c =
-    let z = c .before .before .before .before .before .before .before .before .before .before .before .before .before .before .before .before .before in
+    let z = c .before .before .before .before .before .before .before .before .before .before .before .before .before .before .before .before .before .before .before in
     let a = z .args in
     let l = c .before .before .before .before .before .before .before .loop in
     omega (arith, l .inv .1, z .pre .0 .1)
 
 mask-at-requires : tie.Need-mask-at-requires Inv-loop μ-loop
 mask-at-requires c κs =
-    let z = c .before .before .before .before .before .before .before .before .before .before .before .before .before .before .before .before .before in
+    let z = c .before .before .before .before .before .before .before .before .before .before .before .before .before .before .before .before .before .before .before in
     let a = z .args in
     let l = c .before .before .before .before .before .before .before .loop in
     omega (arith, z .pre .0 .0 .rowsFit, c .before .before .before .before .before .if1 .taken)
 
 search-requires : tie.Need-search-requires Inv-loop μ-loop
 search-requires c κs =
-    let z = c .before .before .before .before .before .before .before .before .before .before .before .before .before .before .before .before .before .before .before .before .before in
+    let z = c .before .before .before .before .before .before .before .before .before .before .before .before .before .before .before .before .before .before .before .before .before .before .before in
     let a = z .args in
     let l = c .before .before .before .before .before .before .before .before .before .before .before .loop in
     let h : l .r < a .d .rows = c .before .before .before .before .before .before .before .before .before .if1 .taken in
     let k = kind-zero (c .before .before .before .before .before .before .before) in
     let long : length (l .path) ≡ 128 = l .inv .1 ∙ z .pre .0 .1 in (
-      (z .pre .0 .0, first-path (a .d) (now (a .work)) (now (a .heads)) (now (a .images)) (now (a .scans)) (now (a .kinds)) (now (a .pieces)) (z .pre .0 .0) (l .r) h k (l .path) long, length-set (l .path) 0 (l .r) ∙ long, omega (arith, l .inv .2, z .pre .0 .2)),
-      first-searching (a .d) (now (a .work)) (now (a .heads)) (now (a .images)) (now (a .scans)) (now (a .kinds)) (now (a .pieces)) (z .pre .0 .0) (l .r) h k (l .path) long (now (a .left)) (l .left) (c .before .before .before .mask-at .result) (l .inv .0) (c .before .before .before .mask-at .ensures) (z .pre .1) (z .pre .0 .3),
+      (z .pre .0 .0, first-path (a .d) (now (a .work)) (now (a .heads)) (now (a .images)) (now (a .scans)) (now (a .kinds)) (now (a .pieces)) (z .pre .0 .0) (l .r) h k (l .path) long, length-set (l .path) 0 (l .r) ∙ long, z .pre .0 .2, z .pre .0 .3, omega (arith, l .inv .2, z .pre .0 .4)),
+      first-searching (a .d) (now (a .work)) (now (a .heads)) (now (a .images)) (now (a .scans)) (now (a .kinds)) (now (a .pieces)) (z .pre .0 .0) (l .r) h k (l .path) long (now (a .left)) (l .left) (c .before .before .before .mask-at .result) (l .inv .0) (c .before .before .before .mask-at .ensures) (z .pre .1) (z .pre .0 .5),
     )
 
 slice-read-left-2 : tie.Need-slice-read-left-2 Inv-loop μ-loop
 slice-read-left-2 c = left-long (c .before .before .before .before .before .before .before)
 
 add-left : tie.Need-add-left Inv-loop μ-loop
-add-left c = omega (arith, left-was (c .before .before .before .before .before .before .before), c .before .before .before .before .before .before .before .before .before .before .before .before .before .before .before .before .before .before .before .before .before .before .slice-known .given 0)
+add-left c = omega (arith, left-was (c .before .before .before .before .before .before .before), c .before .before .before .before .before .before .before .before .before .before .before .before .before .before .before .before .before .before .before .before .before .before .before .before .slice-known .given 0)
 
 slice-write-left-2 : tie.Need-slice-write-left-2 Inv-loop μ-loop
 slice-write-left-2 c = left-long (c .before .before .before .before .before .before .before)
@@ -213,15 +216,15 @@ same-length-6 c = answers-long (c .before .before .before .before .before .befor
 
 returns-2 : tie.Need-returns-2 Inv-loop μ-loop
 returns-2 c =
-    let z = c .before .before .before .before .before .before .before .before .before .before .before .before .before .before .before .before .before .before .before .before .before .before .before .before .before .before .before .before .before .before in
+    let z = c .before .before .before .before .before .before .before .before .before .before .before .before .before .before .before .before .before .before .before .before .before .before .before .before .before .before .before .before .before .before .before .before in
     let a = z .args in
     let l = c .before .before .before .before .before .before .before .before .before .before .before .before .before .before .before .before .before .before .before .before .loop in
     let w = c .before .before .before .before .before .before .before .before in
     let sys = systemIn (a .d) (now (a .work)) (now (a .images)) (now (a .scans)) (now (a .kinds)) (now (a .pieces)) in
     let i = identifies (a .turned) (a .mirrored) in
     let t = stateBy sys (now (a .left)) nothingCovered [] in
-    let y = emittedOf (w .search .result) (w .search .last .1 .1 .1 .1 .1 .1 .1 .1 .1 .1 .1 .1 .1 .1 .0) in
-    (first-full sys i t (a .d .rows) (l .r + 1) (a .capacity) y (emits (a .capacity) (firstFrom sys i t (a .d .rows) 0) (emittedOf (a .e) (now (a .answers)))) (c .if4 .taken) (emitted w) ∙ ap (λ (L : List (List ℕ)). emits (a .capacity) L (emittedOf (a .e) (now (a .answers)))) (first-start sys i t (a .d .rows) (rows-many (a .d) (now (a .work)) (now (a .images)) (now (a .scans)) (now (a .kinds)) (now (a .pieces)))), put-back w)
+    let y = emittedOf (w .search .result) (now (a .last)) (w .search .last .1 .1 .1 .1 .1 .1 .1 .1 .1 .1 .1 .1 .1 .1 .1 .1 .0) in
+    (first-full sys i t (a .d .rows) (l .r + 1) (a .capacity) y (emits (a .capacity) (firstFrom sys i t (a .d .rows) 0) (emittedOf (a .e) (now (a .last)) (now (a .answers)))) (c .if4 .taken) (emitted w) ∙ ap (λ (L : List (List ℕ)). emits (a .capacity) L (emittedOf (a .e) (now (a .last)) (now (a .answers)))) (first-start sys i t (a .d .rows) (rows-many (a .d) (now (a .work)) (now (a .images)) (now (a .scans)) (now (a .kinds)) (now (a .pieces)))), put-back w)
 
 add-r : tie.Need-add-r Inv-loop μ-loop
 add-r c = omega arith
@@ -231,7 +234,7 @@ loop-less c = omega arith
 
 loop-again : tie.Need-loop-again Inv-loop μ-loop
 loop-again c =
-    let z = c .before .before .before .before .before .before .before .before .before .before .before .before .before .before .before .before in
+    let z = c .before .before .before .before .before .before .before .before .before .before .before .before .before .before .before .before .before .before in
     let a = z .args in
     let l = c .before .before .before .before .before .before .loop in
     let sys = systemIn (a .d) (now (a .work)) (now (a .images)) (now (a .scans)) (now (a .kinds)) (now (a .pieces)) in
@@ -264,16 +267,17 @@ loop-again c =
       ap (λ (p : List ℕ). length p) (w .16) ∙ path-long x,
       ap (λ (p : List ℕ). length p) (w .17) ∙ answers-long x,
       omega arith,
-      ap₂ (λ (u : Emission) (v : List ℕ). emits (a .capacity) (firstFrom sys i t (a .d .rows) (l .r + 1)) (emittedOf u v)) (w .18) (w .17) ∙ emitted x,
+      ap₂ (λ (u : Emission) (v : List ℕ). emits (a .capacity) (firstFrom sys i t (a .d .rows) (l .r + 1)) (emittedOf u (now (a .last)) v)) (w .18) (w .17) ∙ emitted x,
     ))
     (λ w. (
       w .1 ∙ l .inv .0,
       ap (λ (p : List ℕ). length p) (w .2) ∙ l .inv .1,
       ap (λ (p : List ℕ). length p) (w .3) ∙ l .inv .2,
       omega arith,
-      ap₂ (λ (u : Emission) (v : List ℕ). emits (a .capacity) (firstFrom sys i t (a .d .rows) (l .r + 1)) (emittedOf u v)) (w .4) (w .3)
-          ∙ first-passed sys i t (a .d .rows) (l .r) (a .capacity) (emittedOf (l .s) (l .answers)) (emits (a .capacity) (firstFrom sys i t (a .d .rows) 0) (emittedOf (a .e) (now (a .answers)))) h
-          (first-kind (a .d) (now (a .work)) (now (a .heads)) (now (a .images)) (now (a .scans)) (now (a .kinds)) (now (a .pieces)) (z .pre .0 .0) (l .r) h (kind-zero (c .before .before))) (sym (c .before .is-pruned .ensures) ∙ not-false (c .before .is-pruned .result) (w .0 .left)) (l .inv .4),
+      ap₂ (λ (u : Emission) (v : List ℕ). emits (a .capacity) (firstFrom sys i t (a .d .rows) (l .r + 1)) (emittedOf u (now (a .last)) v)) (w .4) (w .3)
+          ∙ first-untried (a .d) (now (a .work)) (now (a .heads)) (now (a .images)) (now (a .scans)) (now (a .kinds)) (now (a .pieces)) (z .pre .0 .0) (l .r) h (kind-zero (c .before .before))
+          (now (a .left)) (z .pre .1) (z .pre .0 .5) (now (a .last)) (now (a .shown)) (z .pre .0 .3) i (a .capacity) (emittedOf (l .s) (now (a .last)) (l .answers)) (emits (a .capacity) (firstFrom sys i t (a .d .rows) 0) (emittedOf (a .e) (now (a .last)) (now (a .answers)))) refl
+          (sym (c .before .is-first .ensures) ∙ w .0 .left) (l .inv .4),
     ))
     (c .if3 .came)
 
@@ -288,13 +292,13 @@ same-length-9 c = search needs
 
 returns-3 : tie.Need-returns-3 Inv-loop μ-loop
 returns-3 c =
-    let z = c .before .before .before .before .before .before .before .before .before .before .before .before in
+    let z = c .before .before .before .before .before .before .before .before .before .before .before .before .before .before in
     let a = z .args in
     let l = c .before .before .loop in
     let sys = systemIn (a .d) (now (a .work)) (now (a .images)) (now (a .scans)) (now (a .kinds)) (now (a .pieces)) in
     let i = identifies (a .turned) (a .mirrored) in
     let t = stateBy sys (now (a .left)) nothingCovered [] in
-    (first-over sys i t (a .d .rows) (l .r) (a .capacity) (emittedOf (l .s) (l .answers)) (emits (a .capacity) (firstFrom sys i t (a .d .rows) 0) (emittedOf (a .e) (now (a .answers)))) (c .if1 .left) (l .inv .4) ∙ ap (λ (L : List (List ℕ)). emits (a .capacity) L (emittedOf (a .e) (now (a .answers)))) (first-start sys i t (a .d .rows) (rows-many (a .d) (now (a .work)) (now (a .images)) (now (a .scans)) (now (a .kinds)) (now (a .pieces)))), l .inv .0)
+    (first-over sys i t (a .d .rows) (l .r) (a .capacity) (emittedOf (l .s) (now (a .last)) (l .answers)) (emits (a .capacity) (firstFrom sys i t (a .d .rows) 0) (emittedOf (a .e) (now (a .last)) (now (a .answers)))) (c .if1 .left) (l .inv .4) ∙ ap (λ (L : List (List ℕ)). emits (a .capacity) L (emittedOf (a .e) (now (a .last)) (now (a .answers)))) (first-start sys i t (a .d .rows) (rows-many (a .d) (now (a .work)) (now (a .images)) (now (a .scans)) (now (a .kinds)) (now (a .pieces)))), l .inv .0)
 
 pub search-first-spec : {M : Type 1} → statement M
 search-first-spec =
@@ -308,7 +312,7 @@ search-first-spec =
     same-length-2
     same-length-3
     returns
-    is-pruned-requires
+    is-first-requires
     slice-read-left
     sub-left
     slice-write-left

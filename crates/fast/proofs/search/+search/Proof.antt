@@ -1,6 +1,7 @@
 -- The proof of the cycle of calls {search}: a turn of the loop is a choice of the definition's search, and what is left of the choices makes the whole. The measure
 -- is the number of uncovered cells. Assumes nothing.
 use Prim.Native.Nat.{_+_, _-_, _*_, _≤_}
+use mathlib.Core.Bool.{not, _&&_, _||_}
 use mathlib.Core.Path.{_≡_, refl, sym, ap, ap₂, _∙_, subst}
 use mathlib.Core.List.{List}
 use mathlib.Core.Logic.{⊎-elim}
@@ -11,11 +12,13 @@ use Rattle.definitions.specs.Emission.{emits}
 use Rattle.definitions.specs.Refusals.{identifies}
 use Rattle.definitions.proofs.EmissionLaws.{emits-done}
 use Rattle.rows.specs.Rows.{maskAt, rowAt}
-use Rattle.rows.specs.Systems.{systemIn}
+use Rattle.rows.specs.Shown.{showsRow}
+use Rattle.rows.specs.Systems.{ownedIn, systemIn}
 use Rattle.kept.specs.Emission.{emittedOf}
 use Rattle.fast.specs.Searching.{uncovered, stateBy, fastBelow, fits}
 use Rattle.fast.proofs.ChoiceLaws.{choicesFrom}
-use Rattle.fast.proofs.TurnLaws.{Opened, Placing, leaf-fillable, leaf-emits, loop-ends, cell-below, words-in, row-small, loop-starts, starts-at, kind-in, next-after, next-at, turn-misses, path-back, place-in, place-left, place-path, back-in, back-count, back-left, place-falls, place-searching, place-rows, place-turns}
+use Rattle.fast.proofs.UnmetLaws.{tried}
+use Rattle.fast.proofs.TurnLaws.{Opened, Placing, leaf-fillable, leaf-emits, loop-ends, cell-below, words-in, row-small, loop-starts, starts-at, kind-in, first-small, next-after, next-at, turn-passes, path-back, place-in, place-left, place-path, back-in, back-count, back-left, place-falls, place-searching, place-rows, place-turns}
 use Prim.Native.Nat.{ℕ, _<_}
 use borrow.Fn.Kinds.{In}
 use borrow.Fn.PlainCycle.{Measures, is, falls, and}
@@ -25,21 +28,21 @@ use Rattle.fast.proofs.search.+search.Lts-search as search-lts
 use Rattle.masks.proofs.Mask.next_open.Reads as next-open-reads
 use Rattle.masks.proofs.Mask.union.Reads as union-reads
 use Rattle.kept.proofs.emission.emit_kept.Reads as emit-kept-reads
-use Rattle.fast.proofs.search.can_place.Reads as can-place-reads
+use Rattle.fast.proofs.search.is_tried.Reads as is-tried-reads
 use Rattle.rows.proofs.table.kind_at.Reads as kind-at-reads
 use Rattle.rows.proofs.table.mask_at.Reads as mask-at-reads
 use Rattle.rows.proofs.table.next_at.Reads as next-at-reads
 use Rattle.fast.proofs.search.+search.{statement}
 use Rattle.fast.proofs.search.+search.Tie.{close}
 
-abbrev μ-search : Measures 9 search-kinds.ps ℕ
+abbrev μ-search : Measures 11 search-kinds.ps ℕ
 μ-search κs a = length (uncovered (a .0 .cells) (a .1 .1 .1 .1 .1 .1 .1 .1 .1 .1 .1 .1 .0))
 
-abbrev search-at : ℕ → In 9 search-kinds.ps
-search-at t = and 9 search-kinds.ps (is 9 search-kinds.ps μ-search t) search′.Pre
+abbrev search-at : ℕ → In 11 search-kinds.ps
+search-at t = and 11 search-kinds.ps (is 11 search-kinds.ps μ-search t) search′.Pre
 
-abbrev search-below : ℕ → In 9 search-kinds.ps
-search-below t = and 9 search-kinds.ps (falls 9 search-kinds.ps _<_ μ-search t) search′.Pre
+abbrev search-below : ℕ → In 11 search-kinds.ps
+search-below t = and 11 search-kinds.ps (falls 11 search-kinds.ps _<_ μ-search t) search′.Pre
 
 -- what is known of the functions that it calls
 abbrev known : ℕ → search-lts.Claims
@@ -48,8 +51,8 @@ known t = (
   next-open-reads.Learnt,
   emit-kept-reads.Asked,
   emit-kept-reads.Learnt,
-  can-place-reads.Asked,
-  can-place-reads.Learnt,
+  is-tried-reads.Asked,
+  is-tried-reads.Learnt,
   kind-at-reads.Asked,
   kind-at-reads.Learnt,
   mask-at-reads.Asked,
@@ -63,31 +66,31 @@ known t = (
 )
 
 abbrev search-Inv-loop : search-lts.InvT-loop
-search-Inv-loop d work heads images scans kinds pieces turned mirrored left₀ path₀ n covered capacity answers₀ c s₀ r₀ left path answers s r =
+search-Inv-loop d work heads images scans kinds pieces turned mirrored left₀ path₀ n covered last shown capacity answers₀ c s₀ r₀ left path answers s r =
     let S = systemIn d work images scans kinds pieces in
     let i = identifies turned mirrored in
     let t = stateBy S left₀ covered (take n path₀) in
     (left ≡ left₀) × (take n path ≡ take n path₀) × (length path ≡ 128) × (length answers ≡ length answers₀) × (r < d .rows → rowAt work r .p ≡ c)
-    × (emits capacity (choicesFrom S i t r) (emittedOf s answers) ≡ emits capacity (fastBelow S i t) (emittedOf s₀ answers₀))
+    × (emits capacity (choicesFrom S i t r) (emittedOf s last answers) ≡ emits capacity (fastBelow S i t) (emittedOf s₀ last answers₀))
 
 abbrev search-μ-loop : search-lts.MeasureT-loop
-search-μ-loop d work heads images scans kinds pieces turned mirrored left₀ path₀ n covered capacity answers₀ c s₀ r₀ left path answers s r =
+search-μ-loop d work heads images scans kinds pieces turned mirrored left₀ path₀ n covered last shown capacity answers₀ c s₀ r₀ left path answers s r =
     d .rows - r
 
 -- the first cell that is left is open
 opened : (t : ℕ) (c : search-lts.Else1 (known t) (search-at t) search′.Post search-Inv-loop search-μ-loop)
     → let at-open = c .before .before in
-    let a = at-open .before .before .before .before .before .before .before .before .before .before .args in
+    let a = at-open .before .before .before .before .before .before .before .before .before .before .before .before .args in
     Opened (a .d) (a .work .now) (a .heads .now) (a .images .now) (a .scans .now) (a .kinds .now) (a .pieces .now) (a .left .now) (a .path .now) (a .n) (a .covered) (at-open .next-open .result)
 opened t c =
     let at-open = c .before .before in
-    let pre = at-open .before .before .before .before .before .before .before .before .before .before .pre .1 in
+    let pre = at-open .before .before .before .before .before .before .before .before .before .before .before .before .pre .1 in
     record { ready = pre .0 .0; ofRows = pre .0 .1; searching = pre .1; first = at-open .next-open .ensures; inside = c .if1 .left }
 
 -- a row that fits is placed
 placing : (t : ℕ) (c : search-lts.After-kind-at (known t) (search-at t) search′.Post search-Inv-loop search-μ-loop)
     → let l = c .before .before .before .before .before .before in
-    let a = l .before .before .before .before .before .before .before .before .before .before .before .before .before .before .args in
+    let a = l .before .before .before .before .before .before .before .before .before .before .before .before .before .before .before .before .args in
     Placing (a .d) (a .work .now) (a .left .now) (a .path .now) (l .loop .left) (l .loop .path) (a .n) (a .covered) (l .before .before .before .before .next-open .result) (l .loop .r) (c .kind-at .result)
 placing t c =
     let l = c .before .before .before .before .before .before in
@@ -97,7 +100,7 @@ placing t c =
       long = l .loop .inv .2;
       row = c .before .before .before .before .if2 .taken;
       at = l .loop .inv .4 (c .before .before .before .before .if2 .taken);
-      fit = sym (c .before .before .can-place .ensures) ∙ c .before .if3 .taken;
+      fit = tried _ _ (sym (c .before .before .is-tried .ensures) ∙ c .before .if3 .taken);
       kind = c .kind-at .ensures;
     }
 
@@ -105,27 +108,27 @@ placing t c =
 left-by : (t : ℕ) (c : search-lts.After-search (known t) (search-at t) search′.Post search-Inv-loop search-μ-loop)
     → let at-kind = c .before .before .before .before .before .before .before in
     let l = at-kind .before .before .before .before .before .before in
-    let a = l .before .before .before .before .before .before .before .before .before .before .before .before .before .before .args in
+    let a = l .before .before .before .before .before .before .before .before .before .before .before .before .before .before .before .before .args in
     let S = systemIn (a .d) (a .work .now) (a .images .now) (a .scans .now) (a .kinds .now) (a .pieces .now) in
     let i = identifies (a .turned) (a .mirrored) in
     let s = stateBy S (a .left .now) (a .covered) (take (a .n) (a .path .now)) in
     let k = at-kind .kind-at .result in
     let left = c .search .last .1 .1 .1 .1 .1 .1 .1 .1 .1 .0 in
     let path = c .search .last .1 .1 .1 .1 .1 .1 .1 .1 .1 .1 .0 in
-    let answers = c .search .last .1 .1 .1 .1 .1 .1 .1 .1 .1 .1 .1 .1 .1 .1 .0 in
+    let answers = c .search .last .1 .1 .1 .1 .1 .1 .1 .1 .1 .1 .1 .1 .1 .1 .1 .1 .0 in
     (set left k (getD left k 0 + 1) ≡ a .left .now) × (take (a .n) path ≡ take (a .n) (a .path .now)) × (length path ≡ 128) × (length answers ≡ length (a .answers .now))
-    × (emits (a .capacity) (choicesFrom S i s (getD (a .work .now) (8 * l .loop .r + 5) 0)) (emittedOf (c .search .result) answers) ≡ emits (a .capacity) (fastBelow S i s) (emittedOf (a .e) (a .answers .now)))
+    × (emits (a .capacity) (choicesFrom S i s (getD (a .work .now) (8 * l .loop .r + 5) 0)) (emittedOf (c .search .result) (a .last .now) answers) ≡ emits (a .capacity) (fastBelow S i s) (emittedOf (a .e) (a .last .now) (a .answers .now)))
 left-by t c =
     let at-kind = c .before .before .before .before .before .before .before in
     let l = at-kind .before .before .before .before .before .before in
-    let a = l .before .before .before .before .before .before .before .before .before .before .before .before .before .before .args in
+    let a = l .before .before .before .before .before .before .before .before .before .before .before .before .before .before .before .before .args in
     let x = opened t (l .before .before) in
     let y = placing t at-kind in (
       back-left x y _ (c .search .ensures .1 .0),
       path-back (l .loop .path) _ (a .n) (l .loop .r) (c .search .ensures .1 .1) ∙ l .loop .inv .1,
       c .search .kept .1 .1 .1 .1 .1 .1 .1 .1 .1 .1 .0 ∙ length-set (l .loop .path) (a .n) (l .loop .r) ∙ l .loop .inv .2,
-      c .search .kept .1 .1 .1 .1 .1 .1 .1 .1 .1 .1 .1 .1 .1 .1 .0 ∙ l .loop .inv .3,
-      place-turns x y (c .before .before .before .before .union .result) (c .before .before .before .before .before .mask-at .result) (c .before .before .before .before .before .mask-at .ensures) (c .before .before .before .before .union .ensures) (identifies (a .turned) (a .mirrored)) (a .capacity) (emittedOf (l .loop .s) (l .loop .answers)) _ _ (c .search .ensures .0) (l .loop .inv .5),
+      c .search .kept .1 .1 .1 .1 .1 .1 .1 .1 .1 .1 .1 .1 .1 .1 .1 .1 .0 ∙ l .loop .inv .3,
+      place-turns x y (c .before .before .before .before .union .result) (c .before .before .before .before .before .mask-at .result) (c .before .before .before .before .before .mask-at .ensures) (c .before .before .before .before .union .ensures) (identifies (a .turned) (a .mirrored)) (a .capacity) (emittedOf (l .loop .s) (a .last .now) (l .loop .answers)) _ _ (c .search .ensures .0) (l .loop .inv .5),
     )
 
 search-next-open-requires : (t : ℕ) → search-lts.Need-next-open-requires (known t) (search-at t) search′.Post search-Inv-loop search-μ-loop
@@ -133,8 +136,8 @@ search-next-open-requires t c κs = search needs
 
 search-emit-kept-requires : (t : ℕ) → search-lts.Need-emit-kept-requires (known t) (search-at t) search′.Post search-Inv-loop search-μ-loop
 search-emit-kept-requires t c κs =
-    let pre = c .before .before .before .before .before .before .before .before .before .before .before .before .before .before .pre .1 in
-    (pre .0 .0, pre .0 .1, leaf-fillable (pre .0 .0) (pre .0 .1) (pre .1), pre .0 .3)
+    let pre = c .before .before .before .before .before .before .before .before .before .before .before .before .before .before .before .before .pre .1 in
+    (pre .0 .0, pre .0 .1, leaf-fillable (pre .0 .0) (pre .0 .1) (pre .1), pre .0 .5)
 
 search-same-length : (t : ℕ) → search-lts.Need-same-length (known t) (search-at t) search′.Post search-Inv-loop search-μ-loop
 search-same-length t c = search needs
@@ -145,11 +148,11 @@ search-same-length-2 t c = search needs
 search-returns : (t : ℕ) → search-lts.Need-returns (known t) (search-at t) search′.Post search-Inv-loop search-μ-loop
 search-returns t c =
     let at-open = c .before .before .before .before .before .before .before in
-    let at-start = at-open .before .before .before .before .before .before .before .before .before .before in
+    let at-start = at-open .before .before .before .before .before .before .before .before .before .before .before .before in
     let a = at-start .args in
     let pre = at-start .pre .1 in (
       c .before .before .emit-kept .ensures
-          ∙ leaf-emits (pre .0 .0) (pre .0 .1) (pre .1) (identifies (a .turned) (a .mirrored)) (a .capacity) (at-open .next-open .result) (emittedOf (a .e) (a .answers .now))
+          ∙ leaf-emits (pre .0 .0) (pre .0 .1) (pre .1) (identifies (a .turned) (a .mirrored)) (a .capacity) (at-open .next-open .result) (emittedOf (a .e) (a .last .now) (a .answers .now))
           (at-open .next-open .ensures) (c .before .before .before .before .before .if1 .taken),
       (refl, refl),
     )
@@ -161,20 +164,28 @@ search-shared-slice-read-r : (t : ℕ) → search-lts.Need-shared-slice-read-r (
 search-shared-slice-read-r t c = let x = opened t (c .before) in let b = cell-below x in let l = x .ready .headsFit in omega arith
 
 search-cast-r : (t : ℕ) → search-lts.Need-cast-r (known t) (search-at t) search′.Post search-Inv-loop search-μ-loop
-search-cast-r t c = omega (arith, c .shared-slice-known7 .given (c .before .before .before .next-open .result))
+search-cast-r t c = omega (arith, c .shared-slice-known9 .given (c .before .before .before .next-open .result))
 
 search-loop-holds : (t : ℕ) → search-lts.Need-loop-holds (known t) (search-at t) search′.Post search-Inv-loop search-μ-loop
 search-loop-holds t c =
     let x = opened t (c .before) in
-    let a = c .before .before .before .before .before .before .before .before .before .before .before .before .before .args in
-    (refl, refl, c .before .before .before .before .before .before .before .before .before .before .before .before .before .pre .1 .0 .2, refl, starts-at x _ refl, loop-starts x (identifies (a .turned) (a .mirrored)) (a .capacity) _ (emittedOf (a .e) (a .answers .now)) refl)
+    let a = c .before .before .before .before .before .before .before .before .before .before .before .before .before .before .before .args in
+    (refl, refl, c .before .before .before .before .before .before .before .before .before .before .before .before .before .before .before .pre .1 .0 .2, refl, starts-at x _ refl, loop-starts x (identifies (a .turned) (a .mirrored)) (a .capacity) _ (emittedOf (a .e) (a .last .now) (a .answers .now)) refl)
 
-search-can-place-requires : (t : ℕ) → search-lts.Need-can-place-requires (known t) (search-at t) search′.Post search-Inv-loop search-μ-loop
-search-can-place-requires t c κs =
+search-is-tried-requires : (t : ℕ) → search-lts.Need-is-tried-requires (known t) (search-at t) search′.Post search-Inv-loop search-μ-loop
+search-is-tried-requires t c κs =
     let l = c .before .before .before in
+    let at-start = l .before .before .before .before .before .before .before .before .before .before .before .before .before .before .before .before in
     let x = opened t (l .before .before) in
     let row = c .before .if2 .taken in
-    (words-in x (l .loop .r) row, subst (λ (m : List ℕ). rowAt (l .before .before .before .before .before .before .before .before .before .before .before .before .before .before .args .work .now) (l .loop .r) .kind < length m) (sym (l .loop .inv .0)) (kind-in x (l .loop .r) row (l .loop .inv .4 row)))
+    let at = l .loop .inv .4 row in (
+      words-in x (l .loop .r) row,
+      subst (λ (m : List ℕ). rowAt (at-start .args .work .now) (l .loop .r) .kind < length m) (sym (l .loop .inv .0)) (kind-in x (l .loop .r) row at),
+      first-small x (l .loop .r) row at,
+      at-start .pre .1 .0 .3,
+      x .ready .fewPieces,
+      x .ready .piecesFit,
+    )
 
 search-kind-at-requires : (t : ℕ) → search-lts.Need-kind-at-requires (known t) (search-at t) search′.Post search-Inv-loop search-μ-loop
 search-kind-at-requires t c κs = words-in (opened t (c .before .before .before .before .before .before .before)) (c .before .before .before .before .before .loop .r) (c .before .before .before .if2 .taken)
@@ -210,7 +221,7 @@ search-search-requires : (t : ℕ) → search-lts.Need-search-requires (known t)
 search-search-requires t c κs =
     let at-kind = c .before .before .before .before .before .before in
     let l = at-kind .before .before .before .before .before .before in
-    let at-start = l .before .before .before .before .before .before .before .before .before .before .before .before .before .before in
+    let at-start = l .before .before .before .before .before .before .before .before .before .before .before .before .before .before .before .before in
     let a = at-start .args in
     let x = opened t (l .before .before) in
     let y = placing t at-kind in
@@ -224,7 +235,9 @@ search-search-requires t c κs =
           x .ready,
           place-rows x y more mask is union,
           length-set (l .loop .path) (a .n) (l .loop .r) ∙ l .loop .inv .2,
-          subst (λ (m : ℕ). a .capacity * (2 * a .d .places) ≤ m) (sym (l .loop .inv .3)) (at-start .pre .1 .0 .3),
+          at-start .pre .1 .0 .3,
+          at-start .pre .1 .0 .4,
+          subst (λ (m : ℕ). a .capacity * (2 * a .d .places) ≤ m) (sym (l .loop .inv .3)) (at-start .pre .1 .0 .5),
         ),
         place-searching x y more mask is union,
       ),
@@ -246,7 +259,7 @@ search-same-length-3 : (t : ℕ) → search-lts.Need-same-length-3 (known t) (se
 search-same-length-3 t c = ap (λ (m : List ℕ). length m) (left-by t (c .before .before .before .before .before .before .before .before) .0)
 
 search-same-length-4 : (t : ℕ) → search-lts.Need-same-length-4 (known t) (search-at t) search′.Post search-Inv-loop search-μ-loop
-search-same-length-4 t c = left-by t (c .before .before .before .before .before .before .before .before) .2 ∙ sym (c .before .before .before .before .before .before .before .before .before .before .before .before .before .before .before .before .before .before .before .before .before .before .before .before .before .before .before .before .before .before .before .before .before .before .before .pre .1 .0 .2)
+search-same-length-4 t c = left-by t (c .before .before .before .before .before .before .before .before) .2 ∙ sym (c .before .before .before .before .before .before .before .before .before .before .before .before .before .before .before .before .before .before .before .before .before .before .before .before .before .before .before .before .before .before .before .before .before .before .before .before .before .pre .1 .0 .2)
 
 search-same-length-5 : (t : ℕ) → search-lts.Need-same-length-5 (known t) (search-at t) search′.Post search-Inv-loop search-μ-loop
 search-same-length-5 t c = left-by t (c .before .before .before .before .before .before .before .before) .3
@@ -269,17 +282,18 @@ search-loop-less t c =
 
 search-loop-again : (t : ℕ) → search-lts.Need-loop-again (known t) (search-at t) search′.Post search-Inv-loop search-μ-loop
 search-loop-again t c =
-    let at-can = c .before .before in
-    let l = at-can .before .before .before .before in
-    let a = l .before .before .before .before .before .before .before .before .before .before .before .before .before .before .args in
+    let at-tried = c .before .before in
+    let l = at-tried .before .before .before .before in
+    let at-start = l .before .before .before .before .before .before .before .before .before .before .before .before .before .before .before .before in
+    let a = at-start .args in
     let x = opened t (l .before .before) in
-    let row = at-can .before .before .if2 .taken in
+    let row = at-tried .before .before .if2 .taken in
     let at = l .loop .inv .4 row in
     let S = systemIn (a .d) (a .work .now) (a .images .now) (a .scans .now) (a .kinds .now) (a .pieces .now) in
     let i = identifies (a .turned) (a .mirrored) in
     let s = stateBy S (a .left .now) (a .covered) (take (a .n) (a .path .now)) in
     let further = subst (λ (m : ℕ). m < a .d .rows → rowAt (a .work .now) m .p ≡ l .before .before .before .before .next-open .result) (sym (c .next-at .ensures)) (next-at x (l .loop .r) row at) in
-    let from = ap (λ (m : ℕ). emits (a .capacity) (choicesFrom S i s m) (emittedOf (c .before .if3 .s) (c .before .if3 .answers))) (c .next-at .ensures) in
+    let from = ap (λ (m : ℕ). emits (a .capacity) (choicesFrom S i s m) (emittedOf (c .before .if3 .s) (a .last .now) (c .before .if3 .answers))) (c .next-at .ensures) in
     ⊎-elim
     (λ v.
     let g = left-by t (record {
@@ -288,7 +302,7 @@ search-loop-again t c =
           before = record {
             before = record {
               before = record {
-                before = record { before = record { before = record { before = at-can; if3 = v .0 }; kind-at = v .1 }; slice-known5 = v .2 };
+                before = record { before = record { before = record { before = at-tried; if3 = v .0 }; kind-at = v .1 }; slice-known5 = v .2 };
                 mask-at = v .3;
               };
               union = v .4;
@@ -306,7 +320,7 @@ search-loop-again t c =
       ap (λ (m : List ℕ). length m) (v .18) ∙ g .2,
       ap (λ (m : List ℕ). length m) (v .19) ∙ g .3,
       further,
-      from ∙ ap₂ (λ e z. emits (a .capacity) (choicesFrom S i s (getD (a .work .now) (8 * l .loop .r + 5) 0)) (emittedOf e z)) (v .20) (v .19) ∙ g .4,
+      from ∙ ap₂ (λ e z. emits (a .capacity) (choicesFrom S i s (getD (a .work .now) (8 * l .loop .r + 5) 0)) (emittedOf e (a .last .now) z)) (v .20) (v .19) ∙ g .4,
     ))
     (λ v. (
       v .1 ∙ l .loop .inv .0,
@@ -315,10 +329,11 @@ search-loop-again t c =
       ap (λ (m : List ℕ). length m) (v .3) ∙ l .loop .inv .3,
       further,
       from
-          ∙ ap₂ (λ e z. emits (a .capacity) (choicesFrom S i s (getD (a .work .now) (8 * l .loop .r + 5) 0)) (emittedOf e z)) (v .4) (v .3)
-          ∙ turn-misses x (l .loop .r) row at
-          (ap (λ (m : List ℕ). fits m (a .covered) (maskAt (a .work .now) (l .loop .r)) (rowAt (a .work .now) (l .loop .r) .kind)) (sym (l .loop .inv .0)) ∙ sym (at-can .can-place .ensures) ∙ v .0 .left)
-          i (a .capacity) _ _ (l .loop .inv .5),
+          ∙ ap₂ (λ e z. emits (a .capacity) (choicesFrom S i s (getD (a .work .now) (8 * l .loop .r + 5) 0)) (emittedOf e (a .last .now) z)) (v .4) (v .3)
+          ∙ turn-passes x (l .loop .r) row at (a .last .now) (a .shown .now) (at-start .pre .1 .0 .4) i (a .capacity) _ _ refl
+          (ap (λ (m : List ℕ). fits m (a .covered) (maskAt (a .work .now) (l .loop .r)) (rowAt (a .work .now) (l .loop .r) .kind) && (not (l .loop .s .waiting) || showsRow (ownedIn (a .pieces .now) (a .d .pieces)) (a .shown .now) (rowAt (a .work .now) (l .loop .r)))) (sym (l .loop .inv .0))
+          ∙ sym (at-tried .is-tried .ensures) ∙ v .0 .left)
+          (l .loop .inv .5),
     ))
     (c .before .if3 .came)
 
@@ -326,7 +341,7 @@ search-same-length-6 : (t : ℕ) → search-lts.Need-same-length-6 (known t) (se
 search-same-length-6 t c = ap (λ (m : List ℕ). length m) (c .before .before .loop .inv .0)
 
 search-same-length-7 : (t : ℕ) → search-lts.Need-same-length-7 (known t) (search-at t) search′.Post search-Inv-loop search-μ-loop
-search-same-length-7 t c = c .before .before .loop .inv .2 ∙ sym (c .before .before .before .before .before .before .before .before .before .before .before .before .before .before .before .before .pre .1 .0 .2)
+search-same-length-7 t c = c .before .before .loop .inv .2 ∙ sym (c .before .before .before .before .before .before .before .before .before .before .before .before .before .before .before .before .before .before .pre .1 .0 .2)
 
 search-same-length-8 : (t : ℕ) → search-lts.Need-same-length-8 (known t) (search-at t) search′.Post search-Inv-loop search-μ-loop
 search-same-length-8 t c = c .before .before .loop .inv .3
@@ -335,7 +350,7 @@ search-returns-3 : (t : ℕ) → search-lts.Need-returns-3 (known t) (search-at 
 search-returns-3 t c =
     let l = c .before .before in
     let x = opened t (l .before .before) in
-    let a = l .before .before .before .before .before .before .before .before .before .before .before .before .before .before .args in (
+    let a = l .before .before .before .before .before .before .before .before .before .before .before .before .before .before .before .before .args in (
       loop-ends (x .ready) (x .ofRows) (x .searching) (identifies (a .turned) (a .mirrored)) (a .capacity) (l .loop .r) _ _ (c .if2 .left) (l .loop .inv .5),
       (l .loop .inv .0, l .loop .inv .1),
     )
@@ -355,7 +370,7 @@ pub +search-spec : {M : Type 1} → statement M
     (search-shared-slice-read-r t)
     (search-cast-r t)
     (search-loop-holds t)
-    (search-can-place-requires t)
+    (search-is-tried-requires t)
     (search-kind-at-requires t)
     (search-slice-read-left t)
     (search-sub-left t)

@@ -1,5 +1,5 @@
 -- `list` meets its contract: the system that is built has as many links as document 01 counts, the links that are built are where a search begins, and
--- what the search emits is the page. Assumes nothing.
+-- what the search emits is the page, from the start of the list or from behind an entry. Assumes nothing.
 use Prim.Native.Nat.{ℕ, _+_, _*_, _/_, _≤_}
 use mathlib.Core.List.{List, []}
 use mathlib.Core.Path.{_≡_, refl, sym, ap, _∙_, subst}
@@ -17,6 +17,7 @@ use Rattle.kept.specs.Ready.{Ready}
 use Rattle.kept.specs.Emission.{emittedOf}
 use Rattle.kept.specs.declared.emission.Emission.{Emission}
 use Rattle.kept.specs.Calls.{callOf, PageIs}
+use Rattle.kept.proofs.ReadyLaws.{few-cells}
 use Rattle.kept.proofs.PreparedLaws.{box-some, box-few, ready}
 use Rattle.kept.proofs.CallLaws.{page-is}
 use Rattle.links.specs.Search.{Seek}
@@ -29,7 +30,7 @@ use Rattle.knuth.proofs.page.list.Tie as tie
 
 -- ---- from a place of the code back to an earlier one
 abbrev to-start : tie.After-build-system → tie.Start
-to-start b = b .before .before .before .before .before .before .before .before .before .before .before
+to-start b = b .before .before .before .before .before .before .before .before .before .before .before .before
 
 abbrev to-system : tie.After-build-links → tie.After-build-system
 to-system a = a .before .before .before .before .before .before .before .before .before .before .before .before .before .before .before
@@ -79,14 +80,14 @@ module _ (a : tie.After-build-links) where
 
   -- what is emitted is the page
   listed : (x : Emission) (after : List ℕ)
-      → emittedOf x after ≡ emitAll S i room (knuthBelow S [] (to-system a .build-system .result .cells + 1) (whole (tableOf S) (begun .law)) (begun .cp) (to-system a .build-system .result .cells)) (begin (z .args .skip) (now (z .args .answers)))
-      → PageIs (callOf KnuthAlgorithm (z .args .t) (z .args .board) (now (z .args .bytes)) (z .args .turned) (z .args .mirrored) (z .args .skip) (now (z .args .answers)) (now (z .args .work)) (now (z .args .links))) (x .written) (x .further) after
+      → emittedOf x (now (z .args .last)) after ≡ emitAll S i room (knuthBelow S [] (to-system a .build-system .result .cells + 1) (whole (tableOf S) (begun .law)) (begun .cp) (to-system a .build-system .result .cells)) (begin (now (z .args .last)) (z .args .waiting) (z .args .skip) (now (z .args .answers)))
+      → PageIs (now (z .args .last)) (z .args .waiting) (callOf KnuthAlgorithm (z .args .t) (z .args .board) (now (z .args .bytes)) (z .args .turned) (z .args .mirrored) (z .args .skip) (now (z .args .answers)) (now (z .args .work)) (now (z .args .links))) (x .written) (x .further) after
   listed x after e =
-      any-links (z .args .t) (z .args .board) (now (z .args .bytes)) (z .args .turned) (z .args .mirrored) (z .args .skip) (now (z .args .answers)) (now (z .args .work)) (now (z .args .links)) (x .written) (x .further) after
+      any-links (z .args .t) (z .args .board) (now (z .args .bytes)) (z .args .turned) (z .args .mirrored) (z .args .skip) (now (z .args .answers)) (now (z .args .work)) (now (z .args .links)) (now (z .args .last)) (z .args .waiting) (x .written) (x .further) after
       (page-is KnuthAlgorithm (z .args .t) (z .args .board) (now (z .args .bytes)) (z .args .turned) (z .args .mirrored) (z .args .skip) (now (z .args .answers)) (now (z .args .work))
-      (to-system a .build-system .result .places) (to-system a .build-system .ensures .3) (emittedOf x after)
+      (now (z .args .last)) (z .args .waiting) (to-system a .build-system .result .places) (to-system a .build-system .ensures .3) (emittedOf x (now (z .args .last)) after)
       (e ∙ lists (z .args .t) (z .args .board) (now (z .args .bytes)) (z .pre .0) (z .pre .1) (now (z .args .work)) (z .pre .3) _ _ _ _ _ _ (to-system a .build-system .ensures .0)
-      links begun (system-ready (to-system a) .lawful) i room (begin (z .args .skip) (now (z .args .answers)))))
+      links begun (system-ready (to-system a) .lawful) i room (begin (now (z .args .last)) (z .args .waiting) (z .args .skip) (now (z .args .answers)))))
 
 slice-aggregate-build-system : tie.Need-slice-aggregate-build-system
 slice-aggregate-build-system c = search needs
@@ -130,15 +131,27 @@ build-links-requires c κs =
       links-few (z .args .t) (z .args .board) (now (z .args .bytes)) (z .pre .0) (z .pre .1) (now (z .args .work)) (z .pre .3) _ _ _ _ _ _ (b .build-system .ensures .0) (z .pre .2),
     )
 
+slice-aggregate-show-cells : tie.Need-slice-aggregate-show-cells
+slice-aggregate-show-cells c = search needs
+
+slice-aggregate-show-cells-2 : tie.Need-slice-aggregate-show-cells-2
+slice-aggregate-show-cells-2 c = search needs
+
+show-cells-requires : tie.Need-show-cells-requires
+show-cells-requires c κs =
+    let b = to-system (c .before .before .before .before) in
+    let r = system-ready b in
+    (few-cells _ _ _ _ _ _ (r .lawful), refl, r .scansFit, r .fewPlaces)
+
 mul-capacity : tie.Need-mul-capacity
 mul-capacity c =
-    let b = to-system (c .before .before .before) in
+    let b = to-system (c .before .before .before .before .before .before .before) in
     let z = to-start b in
     omega (arith, b .build-system .ensures .3, box-few (z .args .t) (z .args .board) (now (z .args .bytes)) (z .pre .0))
 
 div-capacity : tie.Need-div-capacity
 div-capacity c =
-    let b = to-system (c .before .before .before) in
+    let b = to-system (c .before .before .before .before .before .before .before) in
     let z = to-start b in
     omega (arith, b .build-system .ensures .3, box-some (z .args .t) (z .args .board) (now (z .args .bytes)) (z .pre .0))
 
@@ -160,10 +173,14 @@ slice-aggregate-choose-5 c = search needs
 slice-aggregate-choose-6 : tie.Need-slice-aggregate-choose-6
 slice-aggregate-choose-6 c = search needs
 
+slice-aggregate-choose-7 : tie.Need-slice-aggregate-choose-7
+slice-aggregate-choose-7 c = search needs
+
 choose-requires : tie.Need-choose-requires
 choose-requires c κs =
-    let a = c .before .before .before .before .before .before .before .before .before .before .before .before in (
-      (system-ready (to-system a), record { within = omega arith; few = omega arith; areRows = tt }, refl, div-mul-le-self (length (now (z a .args .answers))) (2 * to-system a .build-system .result .places)),
+    let a = c .before .before .before .before .before .before .before .before .before .before .before .before .before .before .before .before .before in
+    let shows = c .before .before .before .before .before .before .before .before .before .before .before .before .show-cells in (
+      (system-ready (to-system a), record { within = omega arith; few = omega arith; areRows = tt }, refl, shows .kept .1 .1 .1 .0, shows .ensures, div-mul-le-self (length (now (z a .args .answers))) (2 * to-system a .build-system .result .places)),
       start-choosable a,
     )
 
@@ -172,17 +189,19 @@ same-length c = search needs
 
 same-length-2 : tie.Need-same-length-2
 same-length-2 c =
-    let a = c .before .before .before .before .before .before .before .before .before .before .before .before .before .before .before .before .before .before in
+    let a = c .before .before .before .before .before .before .before .before .before .before .before .before .before .before .before .before .before .before .before .before .before .before .before in
     to-system a .build-system .kept .1 .1 .1 .0
 
 same-length-3 : tie.Need-same-length-3
-same-length-3 c = search needs
+same-length-3 c =
+    let a = c .before .before .before .before .before .before .before .before .before .before .before .before .before .before .before .before .before .before .before .before .before .before .before in
+    c .before .before .before .before .before .choose .kept .1 .1 .1 .1 .1 .1 .1 .1 .1 .0 ∙ a .build-links .kept .1 .1 .1 .1 .1 .1 .1 .0
 
 returns : tie.Need-returns
 returns c =
     let q = c .before .before .before .before .before in
-    let a = q .before .before .before .before .before .before .before .before .before .before .before .before .before in (
-      listed a (q .choose .result) (q .choose .last .1 .1 .1 .1 .1 .1 .1 .1 .1 .1 .1 .1 .1 .1 .0)
+    let a = q .before .before .before .before .before .before .before .before .before .before .before .before .before .before .before .before .before .before in (
+      listed a (q .choose .result) (q .choose .last .1 .1 .1 .1 .1 .1 .1 .1 .1 .1 .1 .1 .1 .1 .1 .1 .0)
           (q .choose .ensures .1 (whole (tableOf (S a)) (begun a .law)) all (begun a .cp) (to-system a .build-system .result .cells + 1) (start-seek a) refl (omega arith)),
       to-system a .build-system .ensures .2,
       ap (drop 32768) (q .choose .ensures .0 .0) ∙ links-behind a,
@@ -204,6 +223,9 @@ list-spec =
     slice-aggregate-build-links-4
     slice-aggregate-build-links-5
     build-links-requires
+    slice-aggregate-show-cells
+    slice-aggregate-show-cells-2
+    show-cells-requires
     mul-capacity
     div-capacity
     slice-aggregate-choose
@@ -212,6 +234,7 @@ list-spec =
     slice-aggregate-choose-4
     slice-aggregate-choose-5
     slice-aggregate-choose-6
+    slice-aggregate-choose-7
     choose-requires
     same-length
     same-length-2
