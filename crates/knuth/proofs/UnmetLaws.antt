@@ -3,7 +3,7 @@
 use Prim.Native.Nat.{ℕ, zero, suc, _+_, _-_, _≤_, _<_}
 use mathlib.Core.Bool.{Bool, true, false, cond, true≢false}
 use mathlib.Core.List.{List, [], _∷_, _++_, map, List·Memᴰ, List·Memᴰ·head, List·Memᴰ·tail, List·Memᴰ·not-nil, List·Memᴰ·cases-cons, List·Memᴰ·append-cases, List·Memᴰ·eq-of-singleton, Memᴰ·append-left, Memᴰ·append-right, Memᴰ·map, Memᴰ·of-map}
-use mathlib.Core.Logic.{_⊎_, inl, inr, ⊎-elim}
+use mathlib.Core.Logic.{_⊎_, inl, inr}
 use mathlib.Core.Path.{_≡_, refl, sym, ap, _∙_, subst}
 use native.Mathlib.Omega.{arith}
 use borrow.Author.Tests.{eqb-true, eq-eqb, ne-eqb}
@@ -228,7 +228,7 @@ module _ (s : System) (law : Lawful s) {w : World} {unc : ℕ → Bool} {cp : �
         few = let a = used-rows s kind rows in let b = enough in let c = law .copiesEach kind of-kind in omega arith
 
   -- so none of what is found with row r changes the page
-  pub passes-by : (i : Identify) (capacity : ℕ) (e : Emitted) → e .waiting ≡ true → (shown : List ℕ) → Shown (s .size) (s .scans) (e .last) shown → showsRow (s .pieces) shown (rowOf s r) ≡ false → (g : ℕ)
+  passes-by : (i : Identify) (capacity : ℕ) (e : Emitted) → e .waiting ≡ true → (shown : List ℕ) → Shown (s .size) (s .scans) (e .last) shown → showsRow (s .pieces) shown (rowOf s r) ≡ false → (g : ℕ)
       → emitAll s i capacity (foundRows s (rs ++ (r ∷ [])) (found g)) e ≡ e
   passes-by i capacity e waits shown sh hidden g = unmet-all s i capacity e waits (rs ++ (r ∷ [])) (found g) (λ ks j. not-shown g ks j (e .last) shown sh hidden)
 

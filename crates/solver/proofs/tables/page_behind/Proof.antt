@@ -37,12 +37,12 @@ page-behind-requires-2 c κs = search needs
 
 returns : tie.Need-returns
 returns c =
-    let k = c .before .before .before .before .before .before .before .args in
+    let k = c .before .before .before .before .before .before .before .before .args in
     refused-behind (k .t) (k .board) (now (k .bytes)) (k .config) 0 (now (k .answers)) (now (k .work)) (now (k .links)) (now (k .last)) _ (c .refuse .ensures)
 
 returns-2 : tie.Need-returns-2
 returns-2 c =
-    let k = c .before .before .before .before .before .before .before .args in
+    let k = c .before .before .before .before .before .before .before .before .args in
     refused-behind (k .t) (k .board) (now (k .bytes)) (k .config) 0 (now (k .answers)) (now (k .work)) (now (k .links)) (now (k .last)) _ (c .refuse2 .ensures)
 
 same-length : tie.Need-same-length
@@ -55,7 +55,7 @@ returns-3 : tie.Need-returns-3
 returns-3 c =
     let q = c .before .before .before .before in
     let told = q .before .before .before in
-    let k = told .before .before .before .before .before .before .args in
+    let k = told .before .before .before .before .before .before .before .args in
     q .page-behind .ensures (now (k .links)) ∙ ap (outcomeBehind (now (k .last))) (engine-call (k .t) (k .board) (now (k .bytes)) (k .config) 0 (now (k .answers)) (now (k .work)) (now (k .links)) Fast (told .enum-told3 .given .1))
 
 same-length-3 : tie.Need-same-length-3
@@ -71,7 +71,7 @@ returns-4 : tie.Need-returns-4
 returns-4 c =
     let q = c .before .before .before .before .before .before in
     let told = q .before .before .before .before in
-    let k = told .before .before .before .before .before .before .args in
+    let k = told .before .before .before .before .before .before .before .args in
     q .page-behind2 .ensures ∙ ap (outcomeBehind (now (k .last))) (engine-call (k .t) (k .board) (now (k .bytes)) (k .config) 0 (now (k .answers)) (now (k .work)) (now (k .links)) KnuthAlgorithm (told .enum-told4 .given .1))
 
 pub page-behind-spec : {M : Type 1} → statement M
