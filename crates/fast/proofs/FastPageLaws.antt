@@ -1,7 +1,7 @@
 -- A page of Fast: a search begins with all copies left and nothing covered, and what it
 -- lists is the list of which a call's page is a stretch. Assumes nothing.
 use Prim.Native.Nat.{ℕ, _+_, _*_, _≤_}
-use mathlib.Core.Bool.{Bool, true, false, cond, not, _&&_}
+use mathlib.Core.Bool.{Bool, true, false, not, _&&_}
 use mathlib.Core.List.{List, [], _++_, map, List·Memᴰ·not-nil}
 use mathlib.Core.Path.{_≡_, refl, sym, ap, ap₂, _∙_, subst}
 use native.Mathlib.Omega.{arith}
@@ -9,14 +9,14 @@ use borrow.Author.Tests.{eq-eqb, ne-eqb}
 use lib.Dec.{eqb}
 use lib.ListN.{length, getD, take, drop, replicate, length-map}
 use lib.Seq.{getD-take}
-use Rattle.definitions.specs.Lists.{all, below, joined}
+use Rattle.definitions.specs.Lists.{all, below}
 use Rattle.definitions.specs.Kinds.{Tray, Kind}
 use Rattle.definitions.specs.Placements.{Compiled, compile}
 use Rattle.definitions.specs.Packing.{limits}
 use Rattle.definitions.specs.Kept.{Identify}
 use Rattle.definitions.specs.Orders.{State, start, identifiesTurned, kind0First, listed}
 use Rattle.definitions.specs.Page.{Page}
-use Rattle.definitions.specs.Outcomes.{Outcome, answersOf, capacity, pageOf, overStart, cleared, refused, accepted, outcome, outcomeOf, numberOf}
+use Rattle.definitions.specs.Outcomes.{answersOf, capacity, cleared, refused, outcome, outcomeOf, numberOf}
 use Rattle.definitions.specs.Refusals.{Call, trayOf, identifies, identifyOf, isKnuth, placementCount, firstThatApplies, refusal}
 use Rattle.definitions.specs.declared.Record.{Record}
 use Rattle.definitions.specs.declared.Refusal.{Refusal}
@@ -24,7 +24,6 @@ use Rattle.definitions.specs.declared.Listing.the-variants as listing
 use Rattle.definitions.specs.declared.Config.{Config}
 use Rattle.definitions.specs.declared.SolverKind.the-variants.{Fast}
 use Rattle.definitions.proofs.ListLaws.{keep-length, length-below}
-use Rattle.definitions.proofs.RefusalLaws.{outcome-accepted, outcome-refused}
 use Rattle.masks.specs.Masks.{has, nothing}
 use Rattle.masks.specs.declared.Mask.{Mask}
 use Rattle.placements.specs.declared.Table.{Table}
@@ -39,9 +38,10 @@ use Rattle.rows.proofs.BuildSystemLaws.{fastCall}
 use Rattle.kept.specs.Normal.{ofKind}
 use Rattle.fast.specs.Searching.{Searching, uncovered, stateBy, fastBelow}
 use Rattle.fast.specs.Pruned.{fastFirst, cellsOfAll}
-use Rattle.kept.specs.Calls.{callOf, PageIs, acceptedBehind, outcomeBehind, pageFrom}
+use Rattle.kept.specs.Calls.{callOf, PageIs, pageFrom}
 use Rattle.fast.proofs.FastListLaws.{all-cells-same, start-same, fast-plain, fast-first}
 use Rattle.kept.proofs.ReadyLaws.{kinds-many}
+use Rattle.kept.proofs.BehindLaws.{outcomeFrom, from-accepted, from-refused}
 use Rattle.kept.proofs.PreparedLaws.{passes, kind-some, kinds-few}
 
 and-none : (b : Bool) → (b && false) ≡ false
@@ -149,10 +149,6 @@ module _ (t : Table) (board : Record) (bytes : List ℕ) (ok : Accepted9 t board
         lists-first i e = ap₂ (λ (s : System) (x : State). fastFirst s i x) is begins ∙ fast-first call accepted-it i e
 
 -- ---- the outcome of a call, over its list or over what lies behind an entry: Fast reads no links
-abbrev pub outcomeFrom : List ℕ → Bool → Call → Outcome
-outcomeFrom last false l = outcome l
-outcomeFrom last true l = outcomeBehind last l
-
 module _ (t : Table) (board : Record) (bytes : List ℕ) (turned mirrored : Bool) (skip : ℕ) (answers work : List ℕ) where
   abbrev pub fastConfig : Config
   fastConfig = record { «identify_transformed_answers» = turned; «identify_mirrored_answers» = mirrored; solver = Fast }
@@ -171,28 +167,14 @@ module _ (t : Table) (board : Record) (bytes : List ℕ) (turned mirrored : Bool
     module _ (last : List ℕ) (waiting : Bool) where
       pub refused-outcome : (why : Refusal) → numberOf why ≡ fastNumber
           → outcomeOf (listing.Refused why) answers work links ≡ outcomeFrom last waiting (callOf Fast t board bytes turned mirrored skip answers work links)
-      unfolding outcomeOf refused callOf outcomeBehind
-      refused-outcome why e =
-          let d : refusal its ≡ 0 → ⊥ = λ z. refused-some why (e ∙ sym refusal-is ∙ z) in
-          ap (λ (n : ℕ). refused n its) (e ∙ sym refusal-is) ∙ go waiting d
-        where
-          go : (b : Bool) → (refusal its ≡ 0 → ⊥) → refused (refusal its) its ≡ outcomeFrom last b its
-          go false d = sym (outcome-refused its d)
-          go true d = sym (ap (λ (b : Bool). cond b (acceptedBehind last its) (refused (refusal its) its)) (ne-eqb (refusal its) 0 d))
+      unfolding outcomeOf refused callOf
+      refused-outcome why e = ap (λ (n : ℕ). refused n its) (e ∙ sym refusal-is) ∙ sym (from-refused last waiting its (λ z. refused-some why (e ∙ sym refusal-is ∙ z)))
 
       pub accepted-outcome : 0 ≡ fastNumber → (written : ℕ) (further : Bool) (after mid end : List ℕ)
           → PageIs last waiting (callOf Fast t board bytes turned mirrored skip answers work []) written further after → drop 8192 mid ≡ drop 8192 work → end ≡ cleared 8192 mid
           → outcomeOf (listing.Page written further) after end links ≡ outcomeFrom last waiting (callOf Fast t board bytes turned mirrored skip answers work links)
-      unfolding outcomeOf accepted acceptedBehind outcomeBehind pageOf pageFrom callOf trayOf identifyOf capacity cleared isKnuth
+      unfolding outcomeOf pageFrom callOf trayOf identifyOf capacity cleared isKnuth
       accepted-outcome e written further after mid end p behind ends =
           let rest : end ≡ replicate 8192 0 ++ drop 8192 work = ends ∙ ap (λ (l : List ℕ). replicate 8192 0 ++ l) behind in
-          (λ i. record { number = 0; written = p .writtenIs i; further = p .furtherIs i; answers = p .answersAre i; work = rest i; links = links }) ∙ go waiting (refusal-is ∙ sym e)
-        where
-          page : Bool → Page
-          page b = pageFrom last b (callOf Fast t board bytes turned mirrored skip answers work [])
-
-          go : (b : Bool) → refusal its ≡ 0
-              → record { number = 0; written = page b .written; further = page b .further; answers = overStart (joined (page b .entries)) answers; work = replicate 8192 0 ++ drop 8192 work; links = links }
-              ≡ outcomeFrom last b its
-          go false z = sym (outcome-accepted its z)
-          go true z = sym (ap (λ (b : Bool). cond b (acceptedBehind last its) (refused (refusal its) its)) (eq-eqb (refusal its) 0 z))
+          (λ i. record { number = 0; written = p .writtenIs i; further = p .furtherIs i; answers = p .answersAre i; work = rest i; links = links })
+          ∙ sym (from-accepted last waiting its (refusal-is ∙ sym e))

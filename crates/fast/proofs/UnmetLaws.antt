@@ -7,9 +7,9 @@ use mathlib.Core.Logic.{_⊎_, inl, inr}
 use mathlib.Core.Path.{_≡_, refl, sym, ap, _∙_, subst}
 use native.Mathlib.Omega.{arith}
 use lib.Dec.{T, eqb, ltb, eqb→eq, ltb→lt}
-use lib.ListN.{length, getD, take, set}
+use lib.ListN.{length, getD, take, set, length-map}
 use lib.Seq.{getD-take, getD-set-same, getD-set-other}
-use Rattle.definitions.specs.Lists.{all, any, consIf, each, howMany, isEmpty, keep, member, put, same}
+use Rattle.definitions.specs.Lists.{all, any, each, howMany, isEmpty, keep, member, put, same}
 use Rattle.definitions.specs.Placements.{Placement}
 use Rattle.definitions.specs.Packing.{ahead, used}
 use Rattle.definitions.specs.Kept.{Identify}
@@ -17,6 +17,7 @@ use Rattle.definitions.specs.Orders.{State, possible, choose, search, fastChoic
 use Rattle.definitions.specs.Emission.{Emitted, emits}
 use Rattle.definitions.proofs.ListLaws.{and-left, and-right, all-at, each-at, eqb-of, holds, is-false, clash, keep-at, member-at, member-of, put-at, put-head, put-tail, Fresh, ascending-apart, same→eq}
 use Rattle.definitions.proofs.PackingLaws.{ahead-trans, ahead-irrefl}
+use Rattle.definitions.proofs.CountLaws.{howMany-length}
 use Rattle.definitions.proofs.SearchLaws.{getD-pos}
 use Rattle.definitions.proofs.EmissionLaws.{emits-unmet}
 use Rattle.masks.specs.Masks.{has}
@@ -29,6 +30,7 @@ use Rattle.rows.proofs.ShownLaws.{answer-shows}
 use Rattle.kept.specs.Normal.{rowOf, ofKind, sortRows, normal}
 use Rattle.kept.specs.Entries.{entries, numbersOf, putAll}
 use Rattle.kept.proofs.LeafLaws.{row-in, packing-sorted, sort-rows-at}
+use Rattle.kept.proofs.NormalRowLaws.{keep-map}
 use Rattle.kept.proofs.SortingLaws.{sort-keep}
 use Rattle.fast.specs.Searching.{Searching, fastBelow, stateBy}
 use Rattle.fast.proofs.SearchingLaws.{uncovered-at}
@@ -79,14 +81,6 @@ few-chosen t x k limit some h = go (eqb (x .kind) k) refl (put-few (λ (z : Plac
     go false e l =
         let a = getD-set-other (t .left) (x .kind) k (getD (t .left) (x .kind) 0 - 1) 0 (λ i. subst T e (eqb-of (sym i))) in
         omega arith
-
-count-map : (p : Placement → Bool) (f : ℕ → Placement) (rs : List ℕ) → howMany p (map f rs) ≡ length (keep (λ r. p (f r)) rs)
-count-map p f [] = refl
-count-map p f (r ∷ rs) = go (p (f r)) (count-map p f rs)
-  where
-    go : (b : Bool) → howMany p (map f rs) ≡ length (keep (λ r. p (f r)) rs) → cond b 1 0 + howMany p (map f rs) ≡ length (consIf b r (keep (λ r. p (f r)) rs))
-    go true e = omega arith
-    go false e = omega arith
 
 -- ---- a state with q chosen, alone on its cells, and no more of its kind than there are copies
 record Chosen (s : System) (q : Placement) (t : State) : Type 0 where
@@ -187,8 +181,10 @@ module _ (s : System) (law : Lawful s) (left : List ℕ) (covered : Mask) (rs : 
       let k = q .kind in
       let b = law .row q (row-in s r row) .ofKind in
       let a = getD-take (length (s .copies)) left k 0 b in
+      let test : Placement → Bool = λ z. eqb (z .kind) k in
       let u : used (putAll [] (map (rowOf s) rs)) k ≡ length (ofKind s k rs) =
-      ap (λ (P : List Placement). used P k) (packing-sorted s law rs rows (h .apart)) ∙ count-map (λ z. eqb (z .kind) k) (rowOf s) (sortRows rs) ∙ sort-keep (λ j. eqb (rowOf s j .kind) k) rs in
+      ap (λ (P : List Placement). used P k) (packing-sorted s law rs rows (h .apart)) ∙ howMany-length test (map (rowOf s) (sortRows rs)) ∙ ap length (keep-map (rowOf s) test (sortRows rs))
+      ∙ length-map (ofKind s k (sortRows rs)) (rowOf s) ∙ sort-keep (λ j. eqb (rowOf s j .kind) k) rs in
       let e = h .taken k b in
       omega arith
 

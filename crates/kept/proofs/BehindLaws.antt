@@ -1,4 +1,4 @@
--- A call for what lies behind an entry: behind entry k of its list its outcome is document 01's with skip k + 1. Assumes nothing.
+-- The outcome of a call for its list or for what lies behind an entry; behind entry k of its list it is document 01's with skip k + 1. Assumes nothing.
 use Prim.Native.Nat.{ℕ, zero, suc, _+_, _≤_, _<_}
 use mathlib.Core.Bool.{Bool, true, false, cond}
 use mathlib.Core.List.{List, [], _∷_, map, List·Memᴰ, List·Memᴰ·head, List·Memᴰ·tail}
@@ -18,7 +18,7 @@ use Rattle.definitions.specs.Refusals.{Call, identifyOf, isKnuth, refusal, tabl
 use Rattle.definitions.proofs.DemandLaws.{demand3-holds}
 use Rattle.definitions.proofs.EmissionLaws.{same-test}
 use Rattle.definitions.proofs.ListLaws.{eqb-of, holds, is-false, is-true, same→eq, same-refl}
-use Rattle.definitions.proofs.RefusalLaws.{outcome-accepted}
+use Rattle.definitions.proofs.RefusalLaws.{outcome-accepted, outcome-refused}
 use Rattle.kept.specs.Calls.{acceptedBehind, outcomeBehind, pageFrom}
 
 entry-in : (l : List (List ℕ)) (k : ℕ) → k < length l → List·Memᴰ (getD l k []) l
@@ -52,14 +52,31 @@ skipping skip l = record { pieces = l .pieces; board = l .board; bytes = l .byte
 abbrev pub entryOf : Call → ℕ → List ℕ
 entryOf l k = getD (answersOf (trayOf l) (identifyOf (l .config)) (l .config .solver)) k []
 
--- a refusal is a refusal
-pub behind-refused : (last : List ℕ) (l : Call) → (refusal l ≡ 0 → ⊥) → outcomeBehind last l ≡ refused (refusal l) l
-unfolding outcomeBehind
-behind-refused last l d = ap (λ (b : Bool). cond b (acceptedBehind last l) (refused (refusal l) l)) (is-false (eqb (refusal l) 0) (λ t. d (eqb→eq (refusal l) 0 t)))
+-- ---- the outcome of a call, for its list or for what lies behind an entry
+abbrev pub outcomeFrom : List ℕ → Bool → Call → Outcome
+outcomeFrom last false l = outcome l
+outcomeFrom last true l = outcomeBehind last l
 
-pub behind-accepted : (last : List ℕ) (l : Call) → refusal l ≡ 0 → outcomeBehind last l ≡ acceptedBehind last l
+abbrev pub acceptedFrom : List ℕ → Bool → Call → Outcome
+acceptedFrom last waiting l =
+    record {
+      number = 0;
+      written = pageFrom last waiting l .written;
+      further = pageFrom last waiting l .further;
+      answers = overStart (joined (pageFrom last waiting l .entries)) (l .answers);
+      work = cleared 8192 (l .work);
+      links = cond (isKnuth (l .config .solver)) (cleared 32768 (l .links)) (l .links);
+    }
+
+pub from-accepted : (last : List ℕ) (waiting : Bool) (l : Call) → refusal l ≡ 0 → outcomeFrom last waiting l ≡ acceptedFrom last waiting l
+unfolding outcomeBehind acceptedBehind accepted pageOf pageFrom
+from-accepted last false l e = outcome-accepted l e
+from-accepted last true l e = ap (λ (b : Bool). cond b (acceptedBehind last l) (refused (refusal l) l)) (is-true (eqb (refusal l) 0) (eqb-of e))
+
+pub from-refused : (last : List ℕ) (waiting : Bool) (l : Call) → (refusal l ≡ 0 → ⊥) → outcomeFrom last waiting l ≡ refused (refusal l) l
 unfolding outcomeBehind
-behind-accepted last l ok = ap (λ (b : Bool). cond b (acceptedBehind last l) (refused (refusal l) l)) (is-true (eqb (refusal l) 0) (eqb-of ok))
+from-refused last false l d = outcome-refused l d
+from-refused last true l d = ap (λ (b : Bool). cond b (acceptedBehind last l) (refused (refusal l) l)) (is-false (eqb (refusal l) 0) (λ u. d (eqb→eq (refusal l) 0 u)))
 
 module _ (l : Call) (ok : refusal l ≡ 0) where
   abbrev list : List (List ℕ)
@@ -77,7 +94,7 @@ module _ (l : Call) (ok : refusal l ≡ 0) where
   unfolding acceptedBehind accepted pageFrom pageOf trayOf capacity
   outcome-behind k h =
       let later : page (behind (entryOf l k) list) 0 (capacity l) ≡ page list (suc k) (capacity l) = ap (λ (m : List (List ℕ)). page m 0 (capacity l)) (behind-drop (entryOf l k) list apart k h refl) ∙ page-later list k (capacity l) in
-      behind-accepted (entryOf l k) (skipping 0 l) (still 0)
+      from-accepted (entryOf l k) true (skipping 0 l) (still 0)
       ∙ ap (λ (g : Page).
       record {
         number = 0;

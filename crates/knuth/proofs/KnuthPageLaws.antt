@@ -1,30 +1,27 @@
 -- A page of Knuth: a tray has as many links as document 01 counts, a search begins with every row possible and none chosen, and what it lists is the list of
 -- which a call's page is a stretch. Assumes nothing.
 use Prim.Native.Nat.{ℕ, _+_, _≤_}
-use mathlib.Core.Bool.{Bool, true, false, cond}
+use mathlib.Core.Bool.{Bool}
 use mathlib.Core.List.{List, [], _++_, List·Memᴰ·not-nil}
 use mathlib.Core.Path.{_≡_, refl, sym, ap, _∙_, subst}
 use native.Mathlib.Omega.{arith}
 use borrow.Author.Tests.{ltb-false}
-use lib.Dec.{eqb, eqb→eq}
 use lib.ListN.{length, getD, drop, replicate, length-map, length-drop}
 use lib.Seq.{ext-getD, getD-drop}
-use Rattle.definitions.specs.Lists.{joined}
 use Rattle.definitions.specs.Kinds.{Tray, Kind}
 use Rattle.definitions.specs.Placements.{Compiled, compile}
 use Rattle.definitions.specs.Packing.{limits}
 use Rattle.definitions.specs.Kept.{Identify}
 use Rattle.definitions.specs.Emission.{Emitted, emits}
 use Rattle.definitions.specs.Orders.{start, search, knuthChoices, knuthList, packings, listed}
-use Rattle.definitions.specs.Outcomes.{Outcome, answersOf, capacity, pageOf, cleared, overStart, refused, accepted, outcome, outcomeOf, numberOf}
+use Rattle.definitions.specs.Outcomes.{answersOf, capacity, cleared, refused, accepted, outcome, outcomeOf, numberOf}
 use Rattle.definitions.specs.Refusals.{Call, trayOf, identifyOf, isKnuth, placementCount, rowsOf, linkCount, firstThatApplies, refusal, table}
 use Rattle.definitions.specs.declared.Record.{Record}
 use Rattle.definitions.specs.declared.Refusal.{Refusal}
 use Rattle.definitions.specs.declared.Listing.the-variants as listing
 use Rattle.definitions.specs.declared.Config.{Config}
 use Rattle.definitions.specs.declared.SolverKind.the-variants.{KnuthAlgorithm}
-use Rattle.definitions.proofs.ListLaws.{eqb-of, is-true, is-false}
-use Rattle.definitions.proofs.RefusalLaws.{none-applies, outcome-accepted, outcome-refused}
+use Rattle.definitions.proofs.RefusalLaws.{none-applies}
 use Rattle.definitions.proofs.GeometryLaws.{W}
 use Rattle.definitions.proofs.EngineLaws.{knuth-exact}
 use Rattle.placements.specs.declared.Table.{Table}
@@ -39,8 +36,9 @@ use Rattle.rows.specs.Lawful.{Lawful}
 use Rattle.rows.proofs.BuildSystemLaws.{fastCall}
 use Rattle.kept.specs.Normal.{ofKind}
 use Rattle.kept.specs.Entries.{entries}
-use Rattle.kept.specs.Calls.{callOf, pageFrom, PageIs, acceptedBehind, outcomeBehind}
+use Rattle.kept.specs.Calls.{callOf, pageFrom, PageIs}
 use Rattle.kept.proofs.EntryLaws.{entries-same}
+use Rattle.kept.proofs.BehindLaws.{outcomeFrom, from-accepted, from-refused}
 use Rattle.kept.proofs.PreparedLaws.{passes}
 use Rattle.links.specs.Search.{Seek}
 use Rattle.links.specs.Build.{whole, all}
@@ -120,31 +118,6 @@ module _ (t : Table) (board : Record) (bytes : List ℕ) (ok : Accepted9 t board
             ∙ ap (λ (l : List (List ℕ)). emits capacity l e) (all-listed i)
 
 -- ---- the outcome of a call, for its list or for what lies behind an entry
-abbrev pub outcomeFrom : List ℕ → Bool → Call → Outcome
-outcomeFrom last false l = outcome l
-outcomeFrom last true l = outcomeBehind last l
-
-abbrev acceptedFrom : List ℕ → Bool → Call → Outcome
-acceptedFrom last waiting l =
-    record {
-      number = 0;
-      written = pageFrom last waiting l .written;
-      further = pageFrom last waiting l .further;
-      answers = overStart (joined (pageFrom last waiting l .entries)) (l .answers);
-      work = cleared 8192 (l .work);
-      links = cond (isKnuth (l .config .solver)) (cleared 32768 (l .links)) (l .links);
-    }
-
-from-accepted : (last : List ℕ) (waiting : Bool) (l : Call) → refusal l ≡ 0 → outcomeFrom last waiting l ≡ acceptedFrom last waiting l
-unfolding outcomeBehind acceptedBehind accepted pageOf pageFrom
-from-accepted last false l e = outcome-accepted l e
-from-accepted last true l e = ap (λ (b : Bool). cond b (acceptedBehind last l) (refused (refusal l) l)) (is-true (eqb (refusal l) 0) (eqb-of e))
-
-from-refused : (last : List ℕ) (waiting : Bool) (l : Call) → (refusal l ≡ 0 → ⊥) → outcomeFrom last waiting l ≡ refused (refusal l) l
-unfolding outcomeBehind
-from-refused last false l d = outcome-refused l d
-from-refused last true l d = ap (λ (b : Bool). cond b (acceptedBehind last l) (refused (refusal l) l)) (is-false (eqb (refusal l) 0) (λ u. d (eqb→eq (refusal l) 0 u)))
-
 module _ (t : Table) (board : Record) (bytes : List ℕ) (turned mirrored : Bool) (skip : ℕ) (answers work links : List ℕ) where
   abbrev pub knuthConfig : Config
   knuthConfig = record { «identify_transformed_answers» = turned; «identify_mirrored_answers» = mirrored; solver = KnuthAlgorithm }

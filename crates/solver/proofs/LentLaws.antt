@@ -22,7 +22,7 @@ use Rattle.placements.proofs.AcceptedLaws.{accepted-call}
 use Rattle.placements.proofs.CountingLaws.{refused-some}
 use Rattle.placements.proofs.StageLaws.{refusal-stages}
 use Rattle.kept.specs.Calls.{callOf, outcomeBehind}
-use Rattle.kept.proofs.BehindLaws.{behind-refused}
+use Rattle.kept.proofs.BehindLaws.{from-refused}
 use Rattle.solver.specs.Lent.{RefusedFirst, callWith}
 
 -- of two rows, where the second applies the first that applies is some
@@ -63,7 +63,7 @@ module _ (t : Table) (board : Record) (bytes : List ℕ) (config : Config) (skip
   refused-behind last r h =
       let e : numberOf (h .why) ≡ refusal its = h .first ∙ sym refusal-is in
       ap (λ (l : Listing). outcomeOf l answers work links) (h .is) ∙ ap (λ (n : ℕ). refused n its) e
-      ∙ sym (behind-refused last its (λ z. refused-some (h .why) (e ∙ z)))
+      ∙ sym (from-refused last true its (λ z. refused-some (h .why) (e ∙ z)))
 
   -- the call of the engine that the configuration names
   pub engine-call : (engine : SolverKind) → config .solver ≡ engine
