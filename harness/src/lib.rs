@@ -39,6 +39,32 @@ extern "C" {
         links: *mut u16,
         numbers: usize,
     ) -> Answer;
+
+    fn ferghuul_page_behind(
+        pieces: *const Record,
+        piece_count: usize,
+        board: Record,
+        bytes: *const u8,
+        byte_count: usize,
+        engine: u8,
+        turned: bool,
+        mirrored: bool,
+        last: *const u8,
+        last_bytes: usize,
+        answers: *mut u8,
+        answer_bytes: usize,
+        work: *mut u64,
+        words: usize,
+        links: *mut u16,
+        numbers: usize,
+    ) -> Answer;
+}
+
+/// Where a page begins: at an entry, by its number, or behind an entry, by its bytes.
+#[derive(Clone, Copy)]
+pub enum Start<'a> {
+    Skip(u64),
+    Behind(&'a [u8]),
 }
 
 /// What a call lends.
@@ -75,32 +101,57 @@ impl Lent {
         2 * self.board.a * self.board.b * self.board.c
     }
 
-    /// A page of the engine's list, or the refusal.
-    pub fn page(&self, skip: u64, answers: &mut [u8], work: &mut [u64], links: &mut [u16]) -> Answer {
-        let engine = match self.engine {
+    fn engine_number(&self) -> u8 {
+        match self.engine {
             Engine::Auto => 0,
             Engine::Naive => 1,
             Engine::Fast => 2,
             Engine::Knuth => 3,
-        };
-        unsafe {
-            ferghuul_page(
-                self.pieces.as_ptr(),
-                self.pieces.len(),
-                self.board,
-                self.bytes.as_ptr(),
-                self.bytes.len(),
-                engine,
-                self.turned,
-                self.mirrored,
-                skip,
-                answers.as_mut_ptr(),
-                answers.len(),
-                work.as_mut_ptr(),
-                work.len(),
-                links.as_mut_ptr(),
-                links.len(),
-            )
+        }
+    }
+
+    /// A page of the engine's list, or the refusal.
+    pub fn page(&self, start: Start, answers: &mut [u8], work: &mut [u64], links: &mut [u16]) -> Answer {
+        match start {
+            Start::Skip(skip) => unsafe {
+                ferghuul_page(
+                    self.pieces.as_ptr(),
+                    self.pieces.len(),
+                    self.board,
+                    self.bytes.as_ptr(),
+                    self.bytes.len(),
+                    self.engine_number(),
+                    self.turned,
+                    self.mirrored,
+                    skip,
+                    answers.as_mut_ptr(),
+                    answers.len(),
+                    work.as_mut_ptr(),
+                    work.len(),
+                    links.as_mut_ptr(),
+                    links.len(),
+                )
+            },
+            Start::Behind(last) => unsafe {
+                ferghuul_page_behind(
+                    self.pieces.as_ptr(),
+                    self.pieces.len(),
+                    self.board,
+                    self.bytes.as_ptr(),
+                    self.bytes.len(),
+                    self.engine_number(),
+                    self.turned,
+                    self.mirrored,
+                    last.as_ptr(),
+                    last.len(),
+                    answers.as_mut_ptr(),
+                    answers.len(),
+                    work.as_mut_ptr(),
+                    work.len(),
+                    links.as_mut_ptr(),
+                    links.len(),
+                )
+            },
         }
     }
 }

@@ -2,9 +2,9 @@
 use Prim.Native.Nat.{ℕ}
 use mathlib.Core.Bool.{Bool, false}
 use mathlib.Core.List.{List}
-use mathlib.Core.Path.{_≡_, refl, sym, ap, _∙_}
+use mathlib.Core.Path.{_≡_, sym, ap, _∙_}
 use borrow.Author.Tests.{eq-eqb, ne-eqb}
-use Rattle.definitions.specs.Outcomes.{Outcome, outcome, outcomeOf, numberOf}
+use Rattle.definitions.specs.Outcomes.{outcomeOf, numberOf}
 use Rattle.definitions.specs.declared.Refusal.{Refusal}
 use Rattle.definitions.specs.declared.Record.{Record}
 use Rattle.definitions.specs.declared.SolverKind.{SolverKind}
@@ -44,8 +44,8 @@ unfolding engineOf
 engine-other n a b d = simp (ne-eqb n 0 a, ne-eqb n 2 b, ne-eqb n 3 d)
 
 -- a call with the engine that a number stands for is the call with the number's configuration
-pub outcome-config : (ps : List Record) (board : Record) (bytes : List ℕ) (solver : SolverKind) (engine : ℕ) (turned mirrored : Bool) (skip : ℕ) (answers work links : List ℕ) → solver ≡ engineOf engine
-    → outcome (callWith ps board bytes (record { «identify_transformed_answers» = turned; «identify_mirrored_answers» = mirrored; solver = solver }) skip answers work links) ≡ outcome (callWith ps board bytes (configOf engine turned mirrored) skip answers work links)
+pub call-config : (ps : List Record) (board : Record) (bytes : List ℕ) (solver : SolverKind) (engine : ℕ) (turned mirrored : Bool) (skip : ℕ) (answers work links : List ℕ) → solver ≡ engineOf engine
+    → callWith ps board bytes (record { «identify_transformed_answers» = turned; «identify_mirrored_answers» = mirrored; solver = solver }) skip answers work links ≡ callWith ps board bytes (configOf engine turned mirrored) skip answers work links
 unfolding configOf
-outcome-config ps board bytes solver engine turned mirrored skip answers work links e =
-    ap (λ (s : SolverKind). outcome (callWith ps board bytes (record { «identify_transformed_answers» = turned; «identify_mirrored_answers» = mirrored; solver = s }) skip answers work links)) e
+call-config ps board bytes solver engine turned mirrored skip answers work links e =
+    ap (λ (s : SolverKind). callWith ps board bytes (record { «identify_transformed_answers» = turned; «identify_mirrored_answers» = mirrored; solver = s }) skip answers work links) e

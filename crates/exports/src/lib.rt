@@ -3,7 +3,7 @@ ghost use mathlib.Core.Path.{_≡_};
 ghost use Rattle.exports.specs.Numbers.{AnswersInNumbers, configOf, engineOf, numbersOf, outcomeBy};
 ghost use Rattle.definitions.specs.Outcomes.{outcome};
 ghost use Rattle.definitions.specs.declared.SolverKind.the-variants.{Fast, KnuthAlgorithm};
-ghost use Rattle.kept.specs.Calls.{callOf};
+ghost use Rattle.kept.specs.Calls.{callOf, outcomeBehind};
 ghost use Rattle.placements.specs.Tables.{recordsOf};
 ghost use Rattle.solver.specs.Lent.{callWith};
 use definitions::Config;
@@ -145,6 +145,59 @@ pub extern "C" fn ferghuul_page(
         turned,
         mirrored,
         skip,
+        answers,
+        work,
+        links,
+    )
+}
+
+// The same for what lies behind an entry.
+fn behind_in_numbers(
+    t: Table,
+    board: Record,
+    bytes: &[u8],
+    engine: u8,
+    turned: bool,
+    mirrored: bool,
+    last: &[u8],
+    answers: &mut [u8],
+    work: &mut [u64],
+    links: &mut [u16],
+) -> Answer
+    ensures { λ r. ⌜ outcomeBy r (now (answers .exit)) (now (work .exit)) (now (links .exit)) ≡ outcomeBehind (now (last .entry)) (callWith (recordsOf t) board (now (bytes .entry)) (configOf engine turned mirrored) 0 (now (answers .entry)) (now (work .entry)) (now (links .entry))) ⌝ }
+{
+    let config = Config {
+        identify_transformed_answers: turned,
+        identify_mirrored_answers: mirrored,
+        solver: engine_of(engine),
+    };
+    in_numbers(tables::page_behind(t, board, bytes, config, last, answers, work, links))
+}
+
+// A call for what lies behind the entry `last` of the engine's list, over a slice of records.
+#[no_mangle]
+pub extern "C" fn ferghuul_page_behind(
+    pieces: &[Record],
+    board: Record,
+    bytes: &[u8],
+    engine: u8,
+    turned: bool,
+    mirrored: bool,
+    last: &[u8],
+    answers: &mut [u8],
+    work: &mut [u64],
+    links: &mut [u16],
+) -> Answer
+    ensures { λ r. ⌜ outcomeBy r (now (answers .exit)) (now (work .exit)) (now (links .exit)) ≡ outcomeBehind (now (last .entry)) (callWith (now (pieces .entry)) board (now (bytes .entry)) (configOf engine turned mirrored) 0 (now (answers .entry)) (now (work .entry)) (now (links .entry))) ⌝ }
+{
+    behind_in_numbers(
+        records::taken(pieces),
+        board,
+        bytes,
+        engine,
+        turned,
+        mirrored,
+        last,
         answers,
         work,
         links,

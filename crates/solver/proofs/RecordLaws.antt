@@ -15,7 +15,8 @@ use Rattle.definitions.specs.Outcomes.{refused, outcome}
 use Rattle.definitions.specs.declared.Record.{Record}
 use Rattle.definitions.specs.declared.Config.{Config}
 use Rattle.definitions.proofs.ListLaws.{length-below}
-use Rattle.definitions.proofs.RefusalLaws.{outcome-refused}
+use Rattle.kept.specs.Calls.{outcomeBehind}
+use Rattle.kept.proofs.BehindLaws.{outcomeFrom, from-refused}
 use Rattle.placements.specs.declared.Table.{Table}
 use Rattle.placements.specs.Tables.{noRecord, recordsOf}
 use Rattle.placements.proofs.RefusalLaws.{records-few, records-count}
@@ -75,12 +76,19 @@ module _ (board : Record) (bytes : List ℕ) (config : Config) (skip : ℕ) (ans
   unfolding refusal table callWith
   refusal-many ps h = simp (not-empty ps h, lt-ltb 16 (length ps) h)
 
-  outcome-many : (ps : List Record) → 16 < length ps → outcome (call ps) ≡ refused 2 (call ps)
-  outcome-many ps h = let e = refusal-many ps h in outcome-refused (call ps) (λ z. omega (arith, e, z)) ∙ ap (λ (n : ℕ). refused n (call ps)) e
+  many-refused : (last : List ℕ) (waiting : Bool) (ps : List Record) → 16 < length ps → outcomeFrom last waiting (call ps) ≡ refused 2 (call ps)
+  many-refused last waiting ps h = let e = refusal-many ps h in from-refused last waiting (call ps) (λ z. omega (arith, e, z)) ∙ ap (λ (n : ℕ). refused n (call ps)) e
 
   none-read : (l m : List Record) → refused 2 (call l) ≡ refused 2 (call m)
   unfolding refused callWith
   none-read l m = refl
 
+  -- of the call for its list, and of the call for what lies behind an entry
+  from-same : (last : List ℕ) (waiting : Bool) (ps : List Record) → outcomeFrom last waiting (call (recordsOf (tableOf ps))) ≡ outcomeFrom last waiting (call ps)
+  from-same last waiting ps = same-of (λ l. outcomeFrom last waiting (call l)) (λ l m hl hm. many-refused last waiting l hl ∙ none-read l m ∙ sym (many-refused last waiting m hm)) ps
+
   pub outcome-same : (ps : List Record) → outcome (callWith (recordsOf (tableOf ps)) board bytes config skip answers work links) ≡ outcome (callWith ps board bytes config skip answers work links)
-  outcome-same ps = same-of (λ l. outcome (call l)) (λ l m hl hm. outcome-many l hl ∙ none-read l m ∙ sym (outcome-many m hm)) ps
+  outcome-same = from-same [] false
+
+  pub behind-same : (last : List ℕ) (ps : List Record) → outcomeBehind last (callWith (recordsOf (tableOf ps)) board bytes config skip answers work links) ≡ outcomeBehind last (callWith ps board bytes config skip answers work links)
+  behind-same last = from-same last true

@@ -1,11 +1,12 @@
 //! Reads the oracle's stream of cases (oracle/README.md) and holds the page calls to
-//! it: each listing put together from pages of a random size, byte for byte; pages at
-//! random skips; what a call must not touch. Status 1 on a difference.
+//! it: each listing put together from pages of a random size, byte for byte, by skips and
+//! from behind each page's last entry; pages at random skips, and behind what is no entry;
+//! what a call must not touch. Status 1 on a difference.
 
 use std::io::{self, Read};
 use std::process::ExitCode;
 
-use harness::{box_cells, Lent};
+use harness::{box_cells, Lent, Start};
 use oracle::listing::refused;
 use oracle::random::Random;
 use oracle::tray::{self, Engine};
@@ -53,33 +54,53 @@ fn main() -> io::Result<ExitCode> {
 
 fn hold(lent: &Lent, expected: &str, random: &mut Random) -> Result<usize, String> {
     let size = lent.size();
-    let room = 1 + random.below(40);
-    let (mut listing, mut entries, mut pages) = (String::new(), 0, 0);
-    loop {
-        let (answers, answer) = ask(lent, entries, room, random.below(size.max(1)))?;
-        pages += 1;
-        if answer.number != 0 {
-            return same(&refused(answer.number as u8), expected, pages);
+    let mut pages = 0;
+    for by_skip in [true, false] {
+        let room = 1 + random.below(40);
+        let (mut listing, mut entries, mut last) = (String::new(), 0, vec![]);
+        loop {
+            let start = if by_skip || entries == 0 {
+                Start::Skip(entries)
+            } else {
+                Start::Behind(&last)
+            };
+            let (answers, answer) = ask(lent, start, room, random.below(size.max(1)))?;
+            pages += 1;
+            if answer.number != 0 {
+                return same(&refused(answer.number as u8), expected, pages);
+            }
+            for bytes in answers[..answer.written * size].chunks(size) {
+                listing += &format!("{entries}\t{}\n", box_cells(bytes));
+                entries += 1;
+                last = bytes.to_vec();
+            }
+            if !answer.further {
+                break;
+            }
+            if answer.written != room {
+                return Err("a page that is not full says that a further entry follows".to_string());
+            }
         }
-        for bytes in answers[..answer.written * size].chunks(size) {
-            listing += &format!("{entries}\t{}\n", box_cells(bytes));
-            entries += 1;
-        }
-        if !answer.further {
-            break;
-        }
-        if answer.written != room {
-            return Err("a page that is not full says that a further entry follows".to_string());
+        listing += &format!("packings\t{entries}\n");
+        same(&listing, expected, pages)?;
+
+        // Behind the last entry, and behind what is none: nothing.
+        let mut other = last.clone();
+        other.iter_mut().take(1).for_each(|byte| *byte = 200);
+        for none in [&last[..], &other[..], &last[..last.len() / 2], &[STAIN; 2000][..]] {
+            let (_, answer) = ask(lent, Start::Behind(none), 2, 0)?;
+            if (answer.written, answer.further) != (0, false) {
+                return Err(format!("behind what is no entry, or the last: {answer:?}"));
+            }
+            pages += 1;
         }
     }
-    listing += &format!("packings\t{entries}\n");
-    same(&listing, expected, pages)?;
 
     // The ends: room for none, from the end on, at the largest skip; and somewhere.
     let lines: Vec<&str> = expected.lines().collect();
     let total = lines.len() as u64 - 1;
     for (skip, room) in [(0, 0), (total, 1), (u64::MAX, 1), (random.below(total as usize + 1) as u64, 2)] {
-        let (answers, answer) = ask(lent, skip, room, 0)?;
+        let (answers, answer) = ask(lent, Start::Skip(skip), room, 0)?;
         let written = room.min(total.saturating_sub(skip) as usize);
         let further = skip < total && skip + (written as u64) < total;
         if (answer.written, answer.further) != (written, further) {
@@ -95,11 +116,11 @@ fn hold(lent: &Lent, expected: &str, random: &mut Random) -> Result<usize, Strin
 }
 
 /// One page from stained slices, `extra` bytes longer than so many answers; what it must not touch is looked at.
-fn ask(lent: &Lent, skip: u64, room: usize, extra: usize) -> Result<(Vec<u8>, harness::Answer), String> {
+fn ask(lent: &Lent, start: Start, room: usize, extra: usize) -> Result<(Vec<u8>, harness::Answer), String> {
     let mut answers = vec![STAIN; room * lent.size() + extra];
     let mut work = vec![WORD_STAIN; WORDS];
     let mut links = vec![LINK_STAIN; NUMBERS];
-    let answer = lent.page(skip, &mut answers, &mut work, &mut links);
+    let answer = lent.page(start, &mut answers, &mut work, &mut links);
     let is_accepted = answer.number == 0;
     let cleared = if is_accepted { 8_192 } else { 0 };
     let unlinked = if is_accepted && lent.engine == Engine::Knuth { 32_768 } else { 0 };

@@ -1,6 +1,6 @@
 //! Document 01's example through the entry point: a tray of three cells, M and D.
 
-use harness::{box_cells, Answer, Lent, Record};
+use harness::{box_cells, Answer, Lent, Record, Start};
 use oracle::tray::Engine;
 
 fn main() {
@@ -16,10 +16,16 @@ fn main() {
         mirrored: false,
     };
     let (mut answers, mut work) = ([0; 12], vec![0; 8_192]);
-    let answer = lent.page(0, &mut answers, &mut work, &mut []);
+    let answer = lent.page(Start::Skip(0), &mut answers, &mut work, &mut []);
     assert_eq!(answer, Answer { number: 0, written: 2, further: false });
     assert_eq!(answers, [0, 0, 1, 0, 1, 0, 1, 0, 1, 0, 0, 0]);
     for (entry, bytes) in answers.chunks(6).enumerate() {
         println!("{entry}\t{}", box_cells(bytes));
     }
+
+    // The page behind the first entry holds the second.
+    let mut second = [0; 6];
+    let answer = lent.page(Start::Behind(&answers[..6]), &mut second, &mut work, &mut []);
+    assert_eq!(answer, Answer { number: 0, written: 1, further: false });
+    assert_eq!(second, answers[6..]);
 }

@@ -3,7 +3,7 @@
 
 use std::time::{Duration, Instant};
 
-use harness::{box_cells, Lent};
+use harness::{box_cells, Lent, Start};
 use oracle::listing;
 use oracle::tray::{self, Config, Engine, Tray};
 
@@ -36,7 +36,7 @@ fn race(path: &str, name: &str, tray: &Tray) {
     let mut answers = vec![0; total * lent.size()];
     let mut work = vec![0; 8_192];
     let mut links = vec![0; 32_768];
-    let found = lent.page(0, &mut answers, &mut work, &mut links);
+    let found = lent.page(Start::Skip(0), &mut answers, &mut work, &mut links);
     assert_eq!((found.number, found.written, found.further), (0, total, false), "{path} {name}");
     let mut lines = String::new();
     for (entry, bytes) in answers.chunks(lent.size()).enumerate() {
@@ -47,7 +47,7 @@ fn race(path: &str, name: &str, tray: &Tray) {
     let (mut original, mut page) = (vec![], vec![]);
     for _ in 0..RUNS {
         original.push(timed(|| oracle::listing::count_of_original(tray)));
-        page.push(timed(|| lent.page(0, &mut answers, &mut work, &mut links).written));
+        page.push(timed(|| lent.page(Start::Skip(0), &mut answers, &mut work, &mut links).written));
     }
     let (original, page) = (middle(original), middle(page));
     println!("{path}\t{name}\t{total}\t{original:.2}\t{page:.2}\t{:.2}", page / original);

@@ -1,7 +1,8 @@
 -- `exports::page_in_numbers` meets its contract: the page call over a table does, of the configuration that the numbers stand for, and numbers say what the enum says. Assumes nothing.
-use mathlib.Core.Path.{_∙_}
+use mathlib.Core.Path.{ap, _∙_}
 use borrow.Author.Needs.{needs}
-use Rattle.exports.proofs.NumberLaws.{outcome-numbers, outcome-config}
+use Rattle.definitions.specs.Outcomes.{outcome}
+use Rattle.exports.proofs.NumberLaws.{outcome-numbers, call-config}
 use Rattle.exports.proofs.page_in_numbers.Statement.{statement}
 use Rattle.exports.proofs.page_in_numbers.Tie as tie
 
@@ -27,7 +28,7 @@ returns : tie.Need-returns
 returns c =
     outcome-numbers _ _ _ _ _ (c .in-numbers .ensures)
     ∙ c .before .before .before .before .before .before .before .page .ensures
-    ∙ outcome-config _ _ _ _ _ _ _ _ _ _ _ (c .before .before .before .before .before .before .before .before .before .before .before .engine-of .ensures)
+    ∙ ap outcome (call-config _ _ _ _ _ _ _ _ _ _ _ (c .before .before .before .before .before .before .before .before .before .before .before .engine-of .ensures))
 
 pub page-in-numbers-spec : {M : Type 1} → statement M
 page-in-numbers-spec =
