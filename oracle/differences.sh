@@ -1,10 +1,13 @@
 #!/bin/sh
 # Runs every input of docs/DIFFERENCES.md and compares what comes out with what
 # the page says: the original, called without refusals, and this project's
-# definition, by the model. Exit status 1 if anything differs.
+# definition, by the model and by the built pack (../target/bin/pack), where
+# there is one. Exit status 1 if anything differs.
 cd "$(dirname "$0")" || exit 1
 cargo build --release --offline --quiet || exit 1
 raw=target/release/raw
+pack=../target/bin/pack
+[ -x $pack ] || pack=
 parts=$(mktemp -d) || exit 1
 trap 'rm -r "$parts"' EXIT
 
@@ -25,7 +28,13 @@ for input in "$parts"/*.input; do
     # Calls that no file can make are judged by the refusals of a call.
     case $(head -n 1 "$input") in
     *auto* | *naive* | *mirrored_only*) "$raw" refusal <"$input" >"$section.here_ran" ;;
-    *) python3 model.py <"$input" >"$section.here_ran" ;;
+    *)
+        python3 model.py <"$input" >"$section.here_ran"
+        if [ -n "$pack" ] && ! $pack <"$input" | cmp -s - "$section.here"; then
+            echo "DIFFERS (pack): $(cat "$section.title")"
+            failed=1
+        fi
+        ;;
     esac
     for part in original here; do
         if ! cmp -s "$section.$part" "$section.${part}_ran"; then
