@@ -17,7 +17,7 @@ use Rattle.definitions.specs.Outcomes.{answersOf, answerSize, capacity, 
 use Rattle.definitions.specs.Files.{callOn, fieldsOf, field, linesOf, isDigit, isNumber, numberIn, gridIn, isGridIn, isConfig, isBoard, isPiece, isFile, callIn, decimal, cellShown, entryLine, lastLine, refusedLine, listing, packed}
 use Rattle.definitions.specs.Fillings.{lists, holds}
 use Rattle.definitions.specs.declared.SolverKind.the-variants.{Fast, KnuthAlgorithm}
-use Rattle.definitions.specs.Boundaries.{refusals, largeBoards, isGiven, afterwards, isLeft, counts, isCounted, pages, isPaged, files, isPrinted, moreFillings}
+use Rattle.definitions.specs.Boundaries.{refusals, largeBoards, isGiven, afterwards, isLeft, counts, isCounted, pages, isPaged, files, isPrinted, moreFillings, fastFillings}
 
 pub refusals-hold : T (all isGiven refusals)
 unfolding refusals isGiven sameCell box volume byteAt gridWith filledCells sidesThenCells sameGrid gridAhead side coordinate fromEnd mapSides mapCell axisOf flipOf inverse mapGrid permutations transform parity turns mirrorings mirror axisAhead axes cellAhead scan scanNumber variants smallest sorted shapes copiesOf partnerOf kindsOf origin lies reaches fits placementsAt placementsOf compile rank ahead samePlacement covering used limits placed coversOnce withinCopies isPacking compared smaller kindAfter cellAfter moved image symmetries turnedImages mirroredImages images kept start possible choose search fastChoices identifiesTurned sizes allCells kind0First fastList tallyAhead tallies knuthChoices knuthList packings listed taken copyOn answer page sidesOf gridOf trayOf identifies identifyOf isSide sidesFit cellsLie areBits someFilled filledWhere isTight copyCount boardCellCount isPorted isKnuth placementCount rowsOf linkCount table refusal answersOf answerSize capacity pageOf overStart refused accepted outcome
@@ -46,3 +46,7 @@ files-hold = tt
 pub more-fillings-hold : T (all (λ l. holds Fast l && holds KnuthAlgorithm l) moreFillings)
 unfolding moreFillings holds callOn lists sameCell box volume byteAt gridWith filledCells sidesThenCells sameGrid gridAhead side coordinate fromEnd mapSides mapCell axisOf flipOf inverse mapGrid permutations transform parity turns mirrorings mirror axisAhead axes cellAhead scan scanNumber variants smallest sorted shapes copiesOf partnerOf kindsOf origin lies reaches fits placementsAt placementsOf compile rank ahead samePlacement covering used limits placed coversOnce withinCopies isPacking compared smaller kindAfter cellAfter moved image symmetries turnedImages mirroredImages images kept start possible choose search fastChoices identifiesTurned sizes allCells kind0First fastList tallyAhead tallies knuthChoices knuthList packings listed taken copyOn answer page sidesOf gridOf trayOf identifies identifyOf isSide sidesFit cellsLie areBits someFilled filledWhere isTight copyCount boardCellCount isPorted isKnuth placementCount rowsOf linkCount table refusal answersOf answerSize capacity pageOf overStart refused accepted outcome
 more-fillings-hold = tt
+
+pub fast-fillings-hold : T (all (holds Fast) fastFillings)
+unfolding fastFillings holds callOn lists sameCell box volume byteAt gridWith filledCells sidesThenCells sameGrid gridAhead side coordinate fromEnd mapSides mapCell axisOf flipOf inverse mapGrid permutations transform parity turns mirrorings mirror axisAhead axes cellAhead scan scanNumber variants smallest sorted shapes copiesOf partnerOf kindsOf origin lies reaches fits placementsAt placementsOf compile rank ahead samePlacement covering used limits placed coversOnce withinCopies isPacking compared smaller kindAfter cellAfter moved image symmetries turnedImages mirroredImages images kept start possible choose search fastChoices identifiesTurned sizes allCells kind0First fastList tallyAhead tallies knuthChoices knuthList packings listed taken copyOn answer page sidesOf gridOf trayOf identifies identifyOf isSide sidesFit cellsLie areBits someFilled filledWhere isTight copyCount boardCellCount isPorted isKnuth placementCount rowsOf linkCount table refusal answersOf answerSize capacity pageOf overStart refused accepted outcome
+fast-fillings-hold = tt

@@ -8,7 +8,7 @@ use native.Mathlib.Nat.{le-refl}
 use native.Mathlib.Omega.{arith}
 use lib.Dec.{T, leb, eqb, eqb→eq, le→leb}
 use lib.ListN.{length, getD}
-use Rattle.definitions.specs.Lists.{all, any, howMany, keep, before, below, member, numbered, Apart}
+use Rattle.definitions.specs.Lists.{all, any, howMany, keep, before, below, member, Apart}
 use Rattle.definitions.proofs.ListLaws.{and-both, all-of, any-of, keep-at, keep-of, below-at, member-of, member-at, howMany-pos, without, apart-keep, apart-length, apart-ascending, eqb-of}
 use Rattle.definitions.proofs.CountLaws.{howMany-length}
 use Rattle.definitions.specs.Grid.{Sides, Cell, Grid, volume, sameCell, sameGrid, filledCells, InBox}
@@ -17,7 +17,7 @@ use Rattle.definitions.proofs.MapLaws.{Fits, filled-at, filled-there, f
 use Rattle.definitions.proofs.GroupLaws.{coordinate-at, coordinate-below, identity-turn, identity-grid, sameGrid→eq}
 use Rattle.definitions.specs.Scan.{axes, scan, scanNumber}
 use Rattle.definitions.specs.Kinds.{Tray, Piece, Kind, kindsOf, variants, smallest}
-use Rattle.definitions.specs.Placements.{origin, lies, reaches, fits, Placement, placementsAt, placementsOf, Compiled, compile}
+use Rattle.definitions.specs.Placements.{origin, lies, reaches, fits, Placement, Compiled, compile}
 use Rattle.definitions.specs.Packing.{ahead, samePlacement, covering, used, limits, placed, coversOnce, withinCopies, Packing}
 use Rattle.definitions.proofs.PackingLaws.{ahead-irrefl, samePlacement-refl, packing-placed, packing-once, packing-at, packing-within}
 use Rattle.definitions.specs.Kept.{kindAfter, cellAfter, image}
@@ -30,7 +30,8 @@ use Rattle.definitions.proofs.PartnerLaws.{variant-of, before-holds, gs
 use Rattle.definitions.proofs.ImageLaws.{Numbered, Onto, Onto-placement, after-below, after-after, after-still, image-at, image-of, image-ascending, same-cells, numbers-inj}
 use Rattle.definitions.proofs.ActLaws.{plus, mapsOf, fits-of, product-in, product-on, back-in, Allowed, allowed-back, identity-then-cell, on-cells, kinds-back}
 use Rattle.definitions.proofs.GeometryLaws.{piece-whole, good, W, numbered-cells, to-filled, of-filled, whole, partners, in-box}
-use Rattle.definitions.proofs.AnswerLaws.{joined-of, numbered-of, mem-nth-of}
+use Rattle.definitions.proofs.AnswerLaws.{mem-nth-of}
+use Rattle.definitions.proofs.SetDownLaws.{placed-nth}
 use Rattle.definitions.specs.Refusals.{Call, trayOf, refusal}
 
 -- ---- lists
@@ -193,24 +194,18 @@ kind-after t wholes true k d h b =
         (before-holds (sameGrid (smallest (mapGrid mirror (d .shape)))) (gs t wholes) (e .0 .shape) (subst (λ (i : ℕ). Nth (gs t wholes) i (e .0 .shape)) j-is (shape-nth t wholes j (e .0) (e .1))))
 
 -- ---- placements that there are
-make : List Cell → ℕ → ℕ → Cell → ℕ → List Cell → Placement
-make board k n v i us = record { kind = k; p = n; j = i; cells = map (λ u. scanNumber board (lies v (origin us) u)) us }
-
 placement-of : (t : Tray) (k : ℕ) (d : Kind) → Nth (kindsOf t) k d → (v : Cell) → List·Memᴰ v (scan (axes (t .board .sides)) (t .board)) → (us : List Cell)
     → List·Memᴰ us (map (scan (axes (t .board .sides))) (variants (d .shape))) → T (fits (scan (axes (t .board .sides)) (t .board)) v us)
     → (q : Placement) × List·Memᴰ q (compile t .placements) × (q .kind ≡ k) × (q .cells ≡ map (λ u. scanNumber (scan (axes (t .board .sides)) (t .board)) (lies v (origin us) u)) us)
-unfolding compile placementsOf placementsAt make
+unfolding compile
 placement-of t k d h v m us a b =
     let or = axes (t .board .sides) in
     let bd = scan or (t .board) in
     let vs = map (scan or) (variants (d .shape)) in
     let n = mem-nth-of bd v m in
     let i = mem-nth-of (keep (fits bd v) vs) us (keep-of (fits bd v) vs a b) in
-    let z : k + 0 ≡ k = omega arith in
-    let q₁ = numbered-of (make bd (k + 0) (n .0 + 0) v) 0 (keep (fits bd v) vs) (i .0) us (i .1) in
-    let q₂ = joined-of (numbered bd (placementsAt bd (k + 0) vs)) (numbered-of (placementsAt bd (k + 0) vs) 0 bd (n .0) v (n .1)) q₁ in
-    let q₃ = joined-of (numbered (kindsOf t) (placementsOf or bd)) (numbered-of (placementsOf or bd) 0 (kindsOf t) k d h) q₂ in
-    (make bd (k + 0) (n .0 + 0) v (i .0 + 0) us, q₃, z, refl)
+    let q = placed-nth or bd (kindsOf t) k d h (n .0) v (n .1) (i .0) us (i .1) in
+    (q .0, q .1, q .2, q .5)
 
 -- ---- a shifted variant after a map is a shifted variant
 -- along one axis: a shift by a, in a box of side s, of what lies in a box of side v

@@ -9,7 +9,7 @@ use native.Mathlib.Omega.{arith}
 use lib.Dec.{T, ltb, eqb, eqb→eq, ltb→lt, lt→ltb, eqb-refl}
 use lib.ListN.{length, getD}
 use Rattle.definitions.specs.Lists.{all, any, howMany, keep, consIf, below, from, member, ascending, sum}
-use Rattle.definitions.proofs.ListLaws.{keep-at, keep-of, keep-ascending, ascending-unique, below-at, below-of, member-at, member-of, from-at, from-ascending, decide, clash, eqb-of, is-true, is-false, not-T}
+use Rattle.definitions.proofs.ListLaws.{keep-at, keep-of, keep-keep, keep-ascending, ascending-unique, below-at, below-of, member-at, member-of, from-at, from-ascending, decide, clash, eqb-of, is-true, is-false, not-T}
 
 -- the sum of f over a list
 abbrev pub total : {A : Type 0} → (A → ℕ) → List A → ℕ
@@ -64,6 +64,9 @@ module _ {A : Type 0} where
       go : (b : Bool) → howMany p xs ≡ length (keep p xs) → cond b 1 0 + howMany p xs ≡ length (consIf b x (keep p xs))
       go true e = omega arith
       go false e = omega arith
+
+  pub howMany-keep : (p q : A → Bool) (xs : List A) → howMany q (keep p xs) ≡ howMany (λ x. p x && q x) xs
+  howMany-keep p q xs = howMany-length q (keep p xs) ∙ ap length (keep-keep p q xs) ∙ sym (howMany-length (λ x. p x && q x) xs)
 
 -- the order of two sums
 pub exchange : {A B : Type 0} (p : A → B → Bool) (xs : List A) (ys : List B) → total (λ x. howMany (p x) ys) xs ≡ total (λ y. howMany (λ x. p x y) xs) ys

@@ -37,6 +37,7 @@ use Rattle.definitions.proofs.CoverLaws.{CoverList, fast-covers, knuth-
 use Rattle.definitions.proofs.KeptLaws.{Geometry, ListFacts, list-facts}
 use Rattle.definitions.proofs.AnswerLaws.{geometry, kind-copy-below, taken-at}
 use Rattle.definitions.proofs.OrderLaws.{fast-ascending}
+use Rattle.definitions.proofs.KnuthOrderLaws.{knuth-ordered}
 
 -- ---- lists of entries of one size
 Sized : ℕ → List (List ℕ) → Type 0
@@ -350,6 +351,7 @@ module _ (l : Call) (ok : refusal l ≡ 0) where
         rearranged = λ i. Perm·map (answer C₀) (perm-of (listed C₀ i Fast) (listed C₀ i KnuthAlgorithm) (fast-apart C₀ well i) (knuth-apart C₀ well i) (fast-knuth C₀ well i) (knuth-fast C₀ well i));
         pages = λ i e. pages-of T₀ i e;
         fastOrder = fast-orders;
+        knuthOrder = knuth-ordered C₀ well;
       }
 
   three : OneList outcome (trayOf l) (identifyOf (l .config)) (l .config .solver) (listed (compile (trayOf l)) (identifyOf (l .config)) (l .config .solver))

@@ -126,10 +126,13 @@ module _ (c : Compiled) (w : WellMade c) where
       }
 
   -- ---- Knuth
-  fewest : State → List Tally
-  fewest s = take 1 (sort tallyAhead (tallies (keep (possible s) (c .placements)) (s .free)))
+  abbrev pub talliesAt : State → List Tally
+  talliesAt s = tallies (keep (possible s) (c .placements)) (s .free)
 
-  knuth-parts : (s : State) (q : Placement) → List·Memᴰ q (knuthChoices (c .placements) s)
+  unfoldable pub fewest : State → List Tally
+  fewest s = take 1 (sort tallyAhead (talliesAt s))
+
+  pub knuth-parts : (s : State) (q : Placement) → List·Memᴰ q (knuthChoices (c .placements) s)
       → List·Memᴰ q (c .placements) × T (any (λ t. member (t .cell) (q .cells)) (fewest s)) × T (possible s q)
   unfolding knuthChoices fewest
   knuth-parts s q m =
@@ -148,11 +151,24 @@ module _ (c : Compiled) (w : WellMade c) where
   knuth-agree s h q r a b =
       let x = knuth-parts s q a in
       let y = knuth-parts s r b in
-      let o = one-at (sort tallyAhead (tallies (keep (possible s) (c .placements)) (s .free))) (λ t. member (t .cell) (q .cells)) (λ t. member (t .cell) (r .cells)) (x .1) (y .1) in
+      let o = one-at (sort tallyAhead (talliesAt s)) (λ t. member (t .cell) (q .cells)) (λ t. member (t .cell) (r .cells)) (x .1) (y .1) in
       (o .0 .cell, member-at (o .0 .cell) (q .cells) (o .1), member-at (o .0 .cell) (r .cells) (o .2))
 
-  tally : State → ℕ → Tally
+  unfoldable pub tally : State → ℕ → Tally
   tally s n = record { placements = howMany (λ q. member n (q .cells)) (keep (possible s) (c .placements)); cell = n }
+
+  -- the tallies are those of the uncovered cells that a possible placement covers
+  pub tally-of : (s : State) (n : ℕ) → List·Memᴰ n (s .free) → 0 < tally s n .placements → List·Memᴰ (tally s n) (talliesAt s)
+  unfolding tallies tally
+  tally-of s n m h = keep-of (λ (u : Tally). ltb 0 (u .placements)) (map (tally s) (s .free)) (Memᴰ·map (tally s) m) (lt→ltb 0 (tally s n .placements) h)
+
+  pub tally-at : (s : State) (t : Tally) → List·Memᴰ t (talliesAt s) → List·Memᴰ (t .cell) (s .free) × (tally s (t .cell) ≡ t) × (0 < t .placements)
+  unfolding tallies tally
+  tally-at s t m =
+      let r = keep-at (λ (u : Tally). ltb 0 (u .placements)) (map (tally s) (s .free)) m in
+      let n = Memᴰ·of-map (tally s) (s .free) (r .0) in
+      let e : t .cell ≡ n .0 = sym (ap (λ (u : Tally). u .cell) (n .2)) in
+      (Memᴰ·cast e (n .1), ap (tally s) e ∙ n .2, ltb→lt 0 (t .placements) (r .1))
 
   knuth-reach : (s : State) → Sound c s → T (not (isEmpty (s .free)))
       → ((n : ℕ) → List·Memᴰ n (s .free) → (q : Placement) × List·Memᴰ q (c .placements) × T (possible s q) × List·Memᴰ n (q .cells))
@@ -164,7 +180,7 @@ module _ (c : Compiled) (w : WellMade c) where
       ps = keep (possible s) (c .placements)
 
       ts : List Tally
-      ts = tallies ps (s .free)
+      ts = talliesAt s
 
       n₀ : (x : ℕ) × (take 1 (s .free) ≡ x ∷ []) × List·Memᴰ x (s .free)
       n₀ = head-at (s .free) t
@@ -174,16 +190,14 @@ module _ (c : Compiled) (w : WellMade c) where
 
       some : List·Memᴰ (tally s (n₀ .0)) ts
       some =
-          keep-of (λ (u : Tally). ltb 0 (u .placements)) (map (tally s) (s .free)) (Memᴰ·map (tally s) (n₀ .2))
-          (lt→ltb 0 (howMany (λ (q : Placement). member (n₀ .0) (q .cells)) ps) (howMany-pos (λ (q : Placement). member (n₀ .0) (q .cells)) ps (keep-of (possible s) (c .placements) (q₀ .1) (q₀ .2)) (member-of (q₀ .0 .cells) (q₀ .3))))
+          tally-of s (n₀ .0) (n₀ .2)
+          (howMany-pos (λ (q : Placement). member (n₀ .0) (q .cells)) ps (keep-of (possible s) (c .placements) (q₀ .1) (q₀ .2)) (member-of (q₀ .0 .cells) (q₀ .3)))
 
       o : (x : Tally) × (take 1 (sort tallyAhead ts) ≡ x ∷ []) × List·Memᴰ x (sort tallyAhead ts)
       o = head-at (sort tallyAhead ts) (sort-some tallyAhead ts some)
 
       on-free : List·Memᴰ (o .0 .cell) (s .free)
-      on-free =
-          let r = Memᴰ·of-map (tally s) (s .free) (keep-at (λ (u : Tally). ltb 0 (u .placements)) (map (tally s) (s .free)) (sort-at tallyAhead ts (o .2)) .0) in
-          Memᴰ·cast (sym (ap (λ (u : Tally). u .cell) (r .2))) (r .1)
+      on-free = tally-at s (o .0) (sort-at tallyAhead ts (o .2)) .0
 
       choice : (q : Placement) → List·Memᴰ q (c .placements) → T (possible s q) → List·Memᴰ (o .0 .cell) (q .cells) → List·Memᴰ q (knuthChoices (c .placements) s)
       choice q m p k =

@@ -16,7 +16,9 @@ use Rattle.definitions.proofs.PackingLaws.{ahead-trans, ahead-irrefl, p
 use Rattle.definitions.specs.Kept.{Identify, compared, smaller, image, images, kept}
 use Rattle.definitions.specs.Kept.Identify.{None, Turned, Mirrored}
 use Rattle.definitions.specs.Moves.{Move, Carries, inReach, bringsBack, isOdd, cellAfterAll}
-use Rattle.definitions.specs.Orders.{listed, packings, identifiesTurned}
+use Rattle.definitions.specs.Moves.Quarter.{aboutX}
+use Rattle.definitions.specs.Moves.Move.{turn}
+use Rattle.definitions.specs.Orders.{listed, packings}
 use Rattle.definitions.specs.Answers.{answer}
 use Rattle.definitions.specs.Refusals.{isPorted}
 use Rattle.definitions.specs.declared.SolverKind.{SolverKind}
@@ -322,10 +324,10 @@ module _ (C : Compiled) (w : WellMade C) (geo : Geometry C) where
         }
 
   by-identify : (i : Identify) (X : List (List Placement)) → Exactly C w X → ListFacts C i (keep (kept C i) X)
-  unfolding identifiesTurned
+  unfolding inReach
   by-identify None X x = with-neither X x
-  by-identify Turned X x = with-acts Turned X x (geo .turned) (λ e. subst (λ (i : Identify). T (identifiesTurned i)) e tt)
-  by-identify Mirrored X x = with-acts Mirrored X x (geo .mirrored) (λ e. subst (λ (i : Identify). T (identifiesTurned i)) e tt)
+  by-identify Turned X x = with-acts Turned X x (geo .turned) (λ e. subst (λ (i : Identify). T (inReach i (turn aboutX ∷ []))) e tt)
+  by-identify Mirrored X x = with-acts Mirrored X x (geo .mirrored) (λ e. subst (λ (i : Identify). T (inReach i (turn aboutX ∷ []))) e tt)
 
   exactly-of : (i : Identify) (e : SolverKind) → T (isPorted e) → Exactly C w (packings C i e)
   unfolding packings isPorted

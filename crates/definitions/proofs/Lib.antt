@@ -20,11 +20,15 @@ pub mod PartnerLaws
 pub mod GeometryLaws
 pub mod AnswerLaws
 pub mod OrderLaws
+pub mod KnuthOrderLaws
 pub mod DemandLaws
+pub mod MeetLaws
+pub mod AnswersRightLaws
 pub mod EmissionLaws
 pub mod SetDownLaws
 pub mod MapNumberLaws
 pub mod KindLaws
+pub mod PlacementNumberLaws
 pub mod PlacementLaws
 pub mod CarryLaws
 pub mod PruningLaws

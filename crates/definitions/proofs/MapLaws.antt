@@ -4,14 +4,14 @@ use mathlib.Core.Bool.{Bool, true, false, cond, not, _&&_, _||_}
 use mathlib.Core.List.{List, [], _∷_, _++_, map, List·Memᴰ, List·Memᴰ·head, List·Memᴰ·tail, List·Memᴰ·not-nil, List·Memᴰ·cases-cons, Memᴰ·cast, Memᴰ·map, Memᴰ·of-map, head-eq-of-cons-eq, tail-eq-of-cons-eq}
 use mathlib.Core.Path.{_≡_, refl, sym, ap, ap₂, _∙_, subst}
 use mathlib.Core.Logic.{_⊎_, inl, inr}
-use native.Mathlib.Nat.{zero-mul, suc-mul, add-mul, mul-assoc, le-antisymm, le-refl, le-trans, le-of-eq, lt-of-lt-of-le, add-lt-add-of-le-of-lt, mul-le-mul-right}
+use native.Mathlib.Nat.{zero-mul, suc-mul, add-mul, mul-assoc, le-antisymm, mul-le-mul-right}
 use native.Mathlib.Omega.{arith}
 use lib.Dec.{T, ltb, leb, eqb, eqb→eq, ltb→lt, lt→ltb, eqb-refl}
 use lib.ListN.{length, getD, length-append, length-map, List·getD-append}
 use lib.Seq.{getD-append-add}
 use Rattle.definitions.specs.Lists.{all, any, keep, each, below, from, same, Apart}
 use Rattle.definitions.proofs.ListLaws.{all-at, any-at, keep-at, keep-of, same→eq, eqb-of, apart-keep, inject-length, each-at, each-of, below-at, below-of, from-ascending, length-below, apart-each, apart-ascending}
-use Rattle.definitions.specs.Grid.{Sides, Cell, Grid, box, byteAt, gridWith, filledCells, InBox}
+use Rattle.definitions.specs.Grid.{Sides, Cell, Grid, box, volume, placeOf, byteAt, gridWith, filledCells, InBox}
 use Rattle.definitions.specs.Maps.{Map, side, coordinate, fromEnd, mapSides, mapCell, axisOf, flipOf, inverse, mapGrid, permutations, transform, parity, turns, mirrorings}
 
 -- ---- cells of a box
@@ -93,11 +93,19 @@ module _ {A : Type 0} (d : A) where
       ap (λ (k : ℕ). getD (g i ++ each (from (suc i) n) g) k d) (let z = suc-mul x L in let e = h i in omega arith)
       ∙ getD-append-add (g i) (each (from (suc i) n) g) (x * L + r) d ∙ getD-blocks g L h (suc i) n x r (omega arith) b ∙ ap (λ (k : ℕ). getD (g k) r d) (omega arith)
 
+-- digits of radix b: the low digit y, the high one x
+pub digits-lt : {x y a b : ℕ} → x < a → y < b → x * b + y < a * b
+digits-lt {b = b} h k = omega (arith, mul-le-mul-right b h)
+
+pub place-lt : (s : Sides) (u : Cell) → InBox s u → placeOf s u < volume s
+unfolding volume
+place-lt s u h = digits-lt (digits-lt (h .0) (h .1)) (h .2)
+
 pub byte-with : (s : Sides) (f : Cell → ℕ) (u : Cell) → InBox s u → byteAt (gridWith s f) u ≡ f u
 unfolding byteAt gridWith box cellOf
 byte-with s f u h =
     ap₂ (λ (l : List ℕ) (k : ℕ). getD l k 0) cells-are index
-    ∙ getD-blocks 0 rows (s .b * s .c) row-length 0 (s .a) (u .x) (u .y * s .c + u .z) (h .0) inner-below
+    ∙ getD-blocks 0 rows (s .b * s .c) row-length 0 (s .a) (u .x) (u .y * s .c + u .z) (h .0) (digits-lt (h .1) (h .2))
     ∙ getD-blocks 0 (line (u .x + 0)) (s .c) (line-length (u .x + 0)) 0 (s .b) (u .y) (u .z) (h .1) (h .2)
     ∙ getD-from 0 (λ k. f (cellOf (u .x + 0) (u .y + 0) k)) 0 (s .c) (u .z) (h .2)
     ∙ ap f (cell-path zero-x zero-y zero-z)
@@ -122,9 +130,6 @@ byte-with s f u h =
 
     index : (u .x * s .b + u .y) * s .c + u .z ≡ u .x * (s .b * s .c) + (u .y * s .c + u .z)
     index = let a = add-mul (u .x * s .b) (u .y) (s .c) in let b = mul-assoc (u .x) (s .b) (s .c) in omega arith
-
-    inner-below : u .y * s .c + u .z < s .b * s .c
-    inner-below = lt-of-lt-of-le (add-lt-add-of-le-of-lt (le-refl (u .y * s .c)) (h .2)) (le-trans (le-of-eq (sym (suc-mul (u .y) (s .c)))) (mul-le-mul-right (s .c) (h .1)))
 
     zero-x : u .x + 0 ≡ u .x
     zero-x = omega arith

@@ -5,10 +5,10 @@ use mathlib.Core.List.{List, [], _∷_, map, List·Memᴰ, Memᴰ·cast}
 use mathlib.Core.Path.{_≡_, refl, sym, ap, _∙_, subst}
 use mathlib.Core.Logic.{_⊎_, inl, inr}
 use native.Mathlib.Omega.{arith}
-use lib.Dec.{T, ltb, leb, leb→le, le→leb, ltb→lt, nltb→le}
+use lib.Dec.{T, ltb, leb, leb→le, le→leb, ltb→lt, lt→ltb, nltb→le}
 use lib.ListN.{length, List·getD-eq-default}
 use Rattle.definitions.specs.Lists.{all, any, below, from}
-use Rattle.definitions.proofs.ListLaws.{all-at, any-at, is-true, is-false, from-at, below-of, decide, and-left, and-right}
+use Rattle.definitions.proofs.ListLaws.{all-at, any-at, is-true, is-false, from-at, below-of, decide, and-left, and-right, and-both}
 use Rattle.definitions.specs.Grid.{Sides, Grid}
 use Rattle.definitions.specs.Maps.{Map, mapSides, mapCell, mapGrid, permutations, transform, parity, turns, mirrorings, maps, mapOf, identity, product, inverse, axisAt, flipAt, axisOf, flipOf, isMirroring}
 use Rattle.definitions.specs.Moves.{Move, sidesAfterAll, isOdd}
@@ -52,15 +52,15 @@ number-of odd m k = (r .0, is-below odd (r .0) (r .1), is-odd odd (r .0) (r .1),
     is-below true n i = let h = from-at 24 24 i in omega arith
 
     is-odd : (o : Bool) (n : ℕ) → List·Memᴰ n (numbersOf o) → isMirroring n ≡ o
-    is-odd false n i = unfold isMirroring in is-false (leb 24 n) (λ t. let h = from-at 0 24 i in let g = leb→le 24 n t in omega arith)
-    is-odd true n i = unfold isMirroring in is-true (leb 24 n) (le→leb 24 n (from-at 24 24 i .0))
+    is-odd false n i = unfold isMirroring in is-false (leb 24 n && ltb n 48) (λ t. let h = from-at 0 24 i in let g = leb→le 24 n (and-left (leb 24 n) (ltb n 48) t) in omega arith)
+    is-odd true n i = unfold isMirroring in let h = from-at 24 24 i in is-true (leb 24 n && ltb n 48) (and-both (leb 24 n) (ltb n 48) (le→leb 24 n (h .0)) (lt→ltb n 48 (omega arith)))
 
 number-in : (n : ℕ) → n < 48 → List·Memᴰ (mapOf n) (mapsOf (isMirroring n))
 number-in n h = in-maps (mapsOf (isMirroring n)) (mapOf n) (all-at (λ (i : ℕ). inMaps (mapsOf (isMirroring i)) (mapOf i)) (below 48) each-in (below-of 48 h))
 
 in-turns : (n : ℕ) → n < 24 → List·Memᴰ (mapOf n) turns
 unfolding isMirroring
-in-turns n h = subst (λ (b : Bool). List·Memᴰ (mapOf n) (mapsOf b)) (is-false (isMirroring n) (λ t. let g = leb→le 24 n t in omega arith)) (number-in n (omega arith))
+in-turns n h = subst (λ (b : Bool). List·Memᴰ (mapOf n) (mapsOf b)) (is-false (isMirroring n) (λ t. let g = leb→le 24 n (and-left (leb 24 n) (ltb n 48) t) in omega arith)) (number-in n (omega arith))
 
 in-mirrorings : (n : ℕ) → n < 48 → T (isMirroring n) → List·Memᴰ (mapOf n) mirrorings
 in-mirrorings n h t = subst (λ (b : Bool). List·Memᴰ (mapOf n) (mapsOf b)) (is-true (isMirroring n) t) (number-in n h)

@@ -7,8 +7,8 @@ use mathlib.Core.Logic.{_⊎_, inl, inr}
 use native.Mathlib.Omega.{arith}
 use lib.Dec.{T, ltb, eqb, eqb→eq, ltb→lt, lt→ltb, eqb-refl}
 use lib.ListN.{length, getD, take}
-use Rattle.definitions.specs.Lists.{all, any, keep, each, below, from, member, less, ascending, isEmpty}
-use Rattle.definitions.proofs.ListLaws.{and-left, and-right, and-both, or-left, or-right, or-cases, all-at, all-of, any-at, keep-at, keep-of, keep-ascending, each-at, from-at, below-at, member-at, member-of, howMany-any, ascending-unique, eqb-of, holds, decide, clash, less-irrefl}
+use Rattle.definitions.specs.Lists.{any, keep, each, below, from, member, less, ascending, isEmpty}
+use Rattle.definitions.proofs.ListLaws.{and-left, and-right, and-both, or-left, or-right, or-cases, any-at, keep-at, keep-of, keep-ascending, from-at, below-at, member-at, member-of, howMany-any, ascending-unique, eqb-of, holds, decide, clash, less-irrefl, ordered-each, ordered-imp, ordered-at, ordered-of}
 use Rattle.definitions.proofs.GroupLaws.{from-append}
 use Rattle.definitions.specs.Placements.{Placement, Compiled}
 use Rattle.definitions.specs.Packing.{rank, ahead, covering, limits, Packing}
@@ -17,7 +17,6 @@ use Rattle.definitions.specs.Kept.{Identify}
 use Rattle.definitions.specs.Orders.{State, start, choose, search, fastChoices, fastList, kind0First, identifiesTurned, allCells, fastRank, fastAhead}
 use Rattle.definitions.proofs.SearchLaws.{WellMade, Sound, Fair, sound-start, free-at, free-of, search-sound, step, Extends, chosen-put, chosen-more}
 use Rattle.definitions.proofs.EngineLaws.{fast-fair, fast-parts, free-ascending, first-least, head-at, fastSearch, firsts, first-parts, first-sound, has-first, same-first, firsts-up}
-use Rattle.definitions.proofs.WellMadeLaws.{append-ascending}
 use Rattle.definitions.specs.Refusals.{Call, refusal}
 use Rattle.definitions.proofs.ShapeLaws.{accepted-well-made}
 
@@ -53,17 +52,11 @@ each-same-in f g (x ∷ xs) h = ap₂ (λ (a b : List _). a ++ b) (h x (List·Me
 
 pub each-ascending : {A B : Type 0} (first : A → A → Bool) (rel : B → B → Bool) (f : A → List B) (xs : List A) → T (ascending first xs) → ((x : A) → List·Memᴰ x xs → T (ascending rel (f x)))
     → ((x y : A) → List·Memᴰ x xs → List·Memᴰ y xs → T (first x y) → (z w : B) → List·Memᴰ z (f x) → List·Memᴰ w (f y) → T (rel z w)) → T (ascending rel (each xs f))
-each-ascending first rel f [] t g h = tt
-each-ascending first rel f (x ∷ xs) t g h =
-    append-ascending rel (f x) (each xs f) (g x (List·Memᴰ·head refl))
-    (each-ascending first rel f xs (and-right (all (first x) xs) (ascending first xs) t) (λ y m. g y (List·Memᴰ·tail m)) (λ y z m k. h y z (List·Memᴰ·tail m) (List·Memᴰ·tail k)))
-    (λ z w m k. let r = each-at f xs k in h x (r .0) (List·Memᴰ·head refl) (List·Memᴰ·tail (r .1)) (all-at (first x) xs (and-left (all (first x) xs) (ascending first xs) t) (r .1)) z w m (r .2))
+each-ascending first rel f xs t g h =
+    ordered-of rel (each xs f) (ordered-each (λ x y. T (first x y)) (λ z w. T (rel z w)) f xs (ordered-at first xs t) (λ x m. ordered-at rel (f x) (g x m)) h)
 
 ascending-imp : {A : Type 0} (r s : A → A → Bool) (xs : List A) → ((x y : A) → List·Memᴰ x xs → List·Memᴰ y xs → T (r x y) → T (s x y)) → T (ascending r xs) → T (ascending s xs)
-ascending-imp r s [] h t = tt
-ascending-imp r s (x ∷ xs) h t =
-    and-both (all (s x) xs) (ascending s xs) (all-of (s x) xs (λ z m. h x z (List·Memᴰ·head refl) (List·Memᴰ·tail m) (all-at (r x) xs (and-left (all (r x) xs) (ascending r xs) t) m)))
-    (ascending-imp r s xs (λ y z m k. h y z (List·Memᴰ·tail m) (List·Memᴰ·tail k)) (and-right (all (r x) xs) (ascending r xs) t))
+ascending-imp r s xs h t = ordered-of s xs (ordered-imp (λ x y. T (r x y)) (λ x y. T (s x y)) xs h (ordered-at r xs t))
 
 take-one : {A : Type 0} (xs : List A) (x : A) → List·Memᴰ x (take 1 xs) → take 1 xs ≡ x ∷ []
 take-one [] x m = absurd (List·Memᴰ·not-nil m)

@@ -12,6 +12,7 @@ use Rattle.definitions.proofs.ShapeLaws.{bits, tight}
 use Rattle.definitions.proofs.GeometryLaws.{piece-whole}
 use Rattle.definitions.proofs.KindLaws.{kindNumber, cells-filled, cells-in-order, is-kind, some-lent, one-kind-turns, shape-turned, shape-smallest, kinds-in-order, partner-mirrors, copies-lent, copies-in-order, kind-shape, piece-nth}
 use Rattle.definitions.proofs.SetDownLaws.{of-kind, placement-sound, placement-complete, placement-once, placements-in-order, origin-first}
+use Rattle.definitions.proofs.PlacementNumberLaws.{j-in-order, j-from-zero}
 
 module _ (l : Call) (ok : refusal l ≡ 0) where
   piece-in : (n : ℕ) → n < length (trayOf l .pieces) → List·Memᴰ (pieceAt (trayOf l) n) (trayOf l .pieces)
@@ -51,4 +52,6 @@ placementsRight-holds l ok =
       once = placement-once l ok;
       inOrder = placements-in-order l ok;
       originFirst = origin-first l ok;
+      jInOrder = j-in-order l ok;
+      jFromZero = j-from-zero l ok;
     }

@@ -21,7 +21,7 @@ use Rattle.definitions.specs.Moves.Move.{turn, mirroring}
 use Rattle.definitions.specs.Refusals.{Call, trayOf, refusal, areBits, isTight}
 use Rattle.definitions.specs.PlacementsRight.{setDown, SetDown, kindAt}
 use Rattle.definitions.proofs.EngineLaws.{sort-at}
-use Rattle.definitions.proofs.WellMadeLaws.{Nth, getD-nth, Made, from-made, the-variant, some-cells, up-variant, up-board, lies-on, mem-nth, sameCell→eq, sameCell-refl}
+use Rattle.definitions.proofs.WellMadeLaws.{Nth, nth-kept, getD-nth, Made, from-made, the-variant, some-cells, up-variant, up-board, lies-on, mem-nth, sameCell→eq, sameCell-refl}
 use Rattle.definitions.proofs.ShapeLaws.{sort-of, cells-tied, variant-at, smallest-at, shape-facts}
 use Rattle.definitions.proofs.ImageLaws.{ltb-tied}
 use Rattle.definitions.proofs.ActLaws.{mapsOf}
@@ -112,20 +112,34 @@ down-lies corner o u = cell-path (at (corner .x) (o .x) (u .x)) (at (corner .y) 
     at n m k = omega arith
 
 -- ---- what fits is placed
+module _ (order : List ℕ) (board : List Cell) where
+  -- a grid's variants that fit with their origin on a cell, in order
+  abbrev pub fitting : Grid → Cell → List Grid
+  fitting g on = keep (λ h. fits board on (scan order h)) (variants g)
+
+  -- a placement is the variant v of g: the origin lies on its p, and its j is the number of v among the variants that fit there
+  pub record Stands (g v : Grid) (r : Placement) : Type 0 where
+    pub on : Cell
+    pub isOn : Nth board (r .p) on
+    pub isJ : Nth (fitting g on) (r .j) v
+
 module _ (order : List ℕ) (board : List Cell) (ks : List Kind) where
-  placed-of : (k : ℕ) (d : Kind) → Nth ks k d → (p : ℕ) (v : Cell) → Nth board p v → (us : List Cell) → List·Memᴰ us (map (scan order) (variants (d .shape))) → T (fits board v us)
-      → (r : Placement) × List·Memᴰ r (joined (numbered ks (placementsOf order board))) × (r .kind ≡ k) × (r .cells ≡ map (λ u. scanNumber board (lies v (origin us) u)) us)
+  pub placed-nth : (k : ℕ) (d : Kind) → Nth ks k d → (p : ℕ) (v : Cell) → Nth board p v
+      → (j : ℕ) (us : List Cell) → Nth (keep (fits board v) (map (scan order) (variants (d .shape)))) j us
+      → (r : Placement) × List·Memᴰ r (joined (numbered ks (placementsOf order board))) × (r .kind ≡ k) × (r .p ≡ p) × (r .j ≡ j)
+      × (r .cells ≡ map (λ u. scanNumber board (lies v (origin us) u)) us)
   unfolding placementsOf placementsAt
-  placed-of k d hk p v hp us m f =
+  placed-nth k d hk p v hp j us hj =
       let vs = map (scan order) (variants (d .shape)) in
-      let j = mem-nth-of (keep (fits board v) vs) us (keep-of (fits board v) vs m f) in
-      let e : k + 0 ≡ k = omega arith in (
+      let from-0 : (n : ℕ) → n + 0 ≡ n = λ n. omega arith in (
         _,
         joined-of (numbered ks (placementsOf order board)) (numbered-of (placementsOf order board) 0 ks k d hk)
             (joined-of (numbered board (placementsAt board (k + 0) vs)) (numbered-of (placementsAt board (k + 0) vs) 0 board p v hp)
             (numbered-of (λ (i : ℕ) (ws : List Cell). record { kind = k + 0; p = p + 0; j = i; cells = map (λ u. scanNumber board (lies v (origin ws) u)) ws }) 0
-            (keep (fits board v) vs) (j .0) us (j .1))),
-        e,
+            (keep (fits board v) vs) j us hj)),
+        from-0 k,
+        from-0 p,
+        from-0 j,
         refl,
       )
 
@@ -136,8 +150,11 @@ module _ (l : Call) (ok : refusal l ≡ 0) where
   abbrev c : Compiled
   c = compile (trayOf l)
 
+  abbrev order : List ℕ
+  order = axes (t .board .sides)
+
   abbrev cs : List Cell
-  cs = scan (axes (t .board .sides)) (t .board)
+  cs = scan order (t .board)
 
   -- ---- of a kind, once, in order, the origin first
   pub of-kind : (r : Placement) → List·Memᴰ r (compile (trayOf l) .placements) → r .kind < length (compile (trayOf l) .kinds)
@@ -164,10 +181,10 @@ module _ (l : Call) (ok : refusal l ≡ 0) where
   placement-sound r k g bits whole e =
       record { moves = ms .0; byTurns = ms .1; corner = corner; onBoard = subst On (sym (ms .2)) on; cellsAre = subst Are (sym (ms .2)) are }
     where
-      x : Made (axes (t .board .sides)) cs (kindsOf t) r
+      x : Made order cs (kindsOf t) r
       x = from-made t (shape-facts l ok) r k
 
-      v : (h : Grid) × List·Memᴰ h (variants (x .kind .shape)) × (scan (axes (t .board .sides)) h ≡ x .variant)
+      v : (h : Grid) × List·Memᴰ h (variants (x .kind .shape)) × (scan order h ≡ x .variant)
       v = the-variant t (shape-facts l ok) r x
 
       shape : variants (x .kind .shape) ≡ variants g
@@ -195,7 +212,7 @@ module _ (l : Call) (ok : refusal l ≡ 0) where
       back u m = scanned-filled (t .board .sides) (v .0) u (subst (λ (us : List Cell). List·Memᴰ u us) (sym (v .2)) m)
 
       lying : (u : Cell) → List·Memᴰ u (x .variant) → List·Memᴰ (lies (x .on) o u) cs
-      lying = lies-on (axes (t .board .sides)) cs (up-board t (shape-facts l ok)) (kindsOf t) r x (some-cells t (shape-facts l ok) r x) (up-variant t (shape-facts l ok) r x)
+      lying = lies-on order cs (up-board t (shape-facts l ok)) (kindsOf t) r x (some-cells t (shape-facts l ok) r x) (up-variant t (shape-facts l ok) r x)
 
       on : On (v .0)
       on = all-of (λ u. any (sameCell (setDown corner u)) cs) (filledCells (v .0)) (λ u m. is-on-board cs (setDown corner u) (Memᴰ·cast (sym (lies-down (x .on) o u)) (lying u (there u m))))
@@ -209,11 +226,11 @@ module _ (l : Call) (ok : refusal l ≡ 0) where
           (subst (λ (ns : List ℕ). T (ascending ltb ns)) as-down (W l ok .cellsAscend r k)) back there
 
   -- ---- complete: what is set down fits with its origin where the origin is set down; a tight grid has one
-  pub placement-complete : (k : ℕ) → k < length (compile (trayOf l) .kinds) → (g : Grid) → T (areBits g) → length (g .cells) ≡ volume (g .sides) → T (isTight g)
-      → kindAt (compile (trayOf l)) k .shape ≡ smallest g → (cells : List ℕ) → SetDown (compile (trayOf l)) g cells
-      → (r : Placement) × List·Memᴰ r (compile (trayOf l) .placements) × (r .kind ≡ k) × (r .cells ≡ cells)
+  pub placement-stands : (k : ℕ) → k < length (compile (trayOf l) .kinds) → (g : Grid) → T (areBits g) → length (g .cells) ≡ volume (g .sides) → T (isTight g)
+      → kindAt (compile (trayOf l)) k .shape ≡ smallest g → (cells : List ℕ) (s : SetDown (compile (trayOf l)) g cells)
+      → (r : Placement) × List·Memᴰ r (compile (trayOf l) .placements) × (r .kind ≡ k) × (r .cells ≡ cells) × Stands order cs g (gridAfter (s .moves) g) r
   unfolding compile
-  placement-complete k hk g bits whole h e cells s = (r .0, r .1, r .2, are)
+  placement-stands k hk g bits whole h e cells s = (r .0, r .1, r .2, are, stands)
     where
       d : (d : Kind) × Nth (kindsOf t) k d
       d = getD-nth (kindsOf t) k hk
@@ -222,13 +239,10 @@ module _ (l : Call) (ok : refusal l ≡ 0) where
       v = gridAfter (s .moves) g
 
       us : List Cell
-      us = scan (axes (t .board .sides)) v
+      us = scan order v
 
       shape : variants (d .0 .shape) ≡ variants g
       shape = ap (λ (x : Kind). variants (x .shape)) (sym (kind-is k (d .0) (d .1))) ∙ ap variants e ∙ shape-variants g bits whole
-
-      is-variant : List·Memᴰ us (map (scan (axes (t .board .sides))) (variants (d .0 .shape)))
-      is-variant = Memᴰ·map (scan (axes (t .board .sides))) (subst (λ (vs : List Grid). List·Memᴰ v vs) (sym shape) (turned-variant g bits whole (s .moves) (s .byTurns)))
 
       there : (u : Cell) → List·Memᴰ u (filledCells v) → List·Memᴰ u us
       there = filled-scanned (t .board .sides) v
@@ -249,21 +263,42 @@ module _ (l : Call) (ok : refusal l ≡ 0) where
       on = setDown (s .corner) o
 
       p : (n : ℕ) × Nth cs n on
-      p = mem-nth (axes (t .board .sides)) cs (up-board t (shape-facts l ok)) (on-board cs on (down o o-in))
+      p = mem-nth order cs (up-board t (shape-facts l ok)) (on-board cs on (down o o-in))
 
-      fitting : T (fits cs on us)
-      fitting = unfold fits in
+      fit : T (fits cs on us)
+      fit = unfold fits in
           and-both (reaches on o) (all (λ u. any (sameCell (lies on o u)) cs) us) (down-reaches (s .corner) o)
           (all-of (λ u. any (sameCell (lies on o u)) cs) us (λ u m. subst (λ (w : Cell). T (any (sameCell w) cs)) (sym (down-lies (s .corner) o u)) (down u m)))
 
-      r : (r : Placement) × List·Memᴰ r (c .placements) × (r .kind ≡ k) × (r .cells ≡ map (λ u. scanNumber cs (lies on o u)) us)
-      r = placed-of (axes (t .board .sides)) cs (kindsOf t) k (d .0) (d .1) (p .0) on (p .1) us is-variant fitting
+      j : (n : ℕ) × Nth (fitting order cs g on) n v
+      j =
+          mem-nth-of (fitting order cs g on) v
+          (keep-of (λ (w : Grid). fits cs on (scan order w)) (variants g) (turned-variant g bits whole (s .moves) (s .byTurns)) fit)
+
+      r : (r : Placement) × List·Memᴰ r (c .placements) × (r .kind ≡ k) × (r .p ≡ p .0) × (r .j ≡ j .0) × (r .cells ≡ map (λ u. scanNumber cs (lies on o u)) us)
+      r =
+          placed-nth order cs (kindsOf t) k (d .0) (d .1) (p .0) on (p .1) (j .0) us
+          (nth-kept (scan order) (fits cs on) (variants (d .0 .shape)) (j .0) v
+          (subst (λ (vs : List Grid). Nth (keep (λ w. fits cs on (scan order w)) vs) (j .0) v) (sym shape) (j .1)))
+
+      stands : Stands order cs g v (r .0)
+      stands =
+          record {
+            on = on;
+            isOn = subst (λ (n : ℕ). Nth cs n on) (sym (r .3)) (p .1);
+            isJ = subst (λ (n : ℕ). Nth (fitting order cs g on) n v) (sym (r .4)) (j .1);
+          }
 
       as-down : r .0 .cells ≡ map (λ u. scanNumber cs (setDown (s .corner) u)) us
-      as-down = r .3 ∙ map-same (λ u. scanNumber cs (lies on o u)) (λ u. scanNumber cs (setDown (s .corner) u)) us (λ u m. ap (scanNumber cs) (down-lies (s .corner) o u))
+      as-down = r .5 ∙ map-same (λ u. scanNumber cs (lies on o u)) (λ u. scanNumber cs (setDown (s .corner) u)) us (λ u m. ap (scanNumber cs) (down-lies (s .corner) o u))
 
       are : r .0 .cells ≡ cells
       are =
           as-down ∙ sorted-of (λ u. scanNumber cs (setDown (s .corner) u)) us (filledCells v)
           (subst (λ (ns : List ℕ). T (ascending ltb ns)) as-down (W l ok .cellsAscend (r .0) (r .1))) back there
           ∙ sym (s .cellsAre)
+
+  pub placement-complete : (k : ℕ) → k < length (compile (trayOf l) .kinds) → (g : Grid) → T (areBits g) → length (g .cells) ≡ volume (g .sides) → T (isTight g)
+      → kindAt (compile (trayOf l)) k .shape ≡ smallest g → (cells : List ℕ) → SetDown (compile (trayOf l)) g cells
+      → (r : Placement) × List·Memᴰ r (compile (trayOf l) .placements) × (r .kind ≡ k) × (r .cells ≡ cells)
+  placement-complete k hk g bits whole h e cells s = let x = placement-stands k hk g bits whole h e cells s in (x .0, x .1, x .2, x .3)

@@ -2,13 +2,14 @@
 use Prim.Native.Nat.{ℕ, zero, suc, _+_, _-_, _≤_, _<_}
 use mathlib.Core.Bool.{Bool, true, false, cond, not, _&&_, _||_}
 use mathlib.Core.List.{List, [], _∷_, _++_, map, List·Memᴰ, List·Memᴰ·head, List·Memᴰ·tail, List·Memᴰ·not-nil, List·Memᴰ·cases-cons, List·Memᴰ·append-cases, Memᴰ·cast, Memᴰ·map, Memᴰ·of-map}
-use mathlib.Core.Path.{_≡_, refl, sym, ap, ap₂, _∙_, subst}
+use mathlib.Core.Path.{_≡_, refl, sym, ap, ap₂, _∙_, subst, subst₂}
 use mathlib.Core.Logic.{_⊎_, inl, inr}
 use native.Mathlib.Omega.{arith}
 use lib.Dec.{T, ltb, leb, eqb, eqb→eq, ltb→lt, lt→ltb, leb→le, eqb-refl}
 use lib.ListN.{length, getD, length-map}
-use Rattle.definitions.specs.Lists.{all, any, keep, before, ascending, sort, joined, numbered, numberedFrom, headOr, less, sum}
-use Rattle.definitions.proofs.ListLaws.{and-left, and-right, and-both, or-left, or-right, or-cases, all-at, all-of, any-at, any-of, keep-at, less-irrefl, less-trans, sort-ascending, eqb-of, is-true, is-false, first-ahead, not-again}
+use Rattle.definitions.specs.Lists.{consIf, all, any, keep, howMany, before, ascending, sort, joined, numbered, numberedFrom, headOr, less, sum}
+use Rattle.definitions.proofs.ListLaws.{and-left, and-right, and-both, or-left, or-right, or-cases, all-at, all-of, any-at, any-of, keep-at, keep-none, less-irrefl, less-trans, sort-ascending, eqb-of, is-true, is-false, first-ahead, not-again, ordered-append, ordered-at, ordered-of}
+use Rattle.definitions.proofs.CountLaws.{howMany-length}
 use Rattle.definitions.specs.Grid.{Grid, Cell, sameCell, filledCells}
 use Rattle.definitions.specs.Maps.{coordinate}
 use Rattle.definitions.specs.Scan.{axes, cellAhead, scan, scanNumber}
@@ -45,6 +46,20 @@ module _ {A : Type 0} where
   getD-nth (y ∷ ys) zero h = (y, refl)
   getD-nth (y ∷ ys) (suc n) h = getD-nth ys n (omega arith)
 
+  -- as many entries of an ascending list stand ahead of the n-th as its number says
+  pub nth-howMany : (first : A → A → Bool) → ((x y z : A) → T (first x y) → T (first y z) → T (first x z)) → ((x : A) → T (first x x) → ⊥)
+      → (xs : List A) → T (ascending first xs) → (n : ℕ) (x : A) → Nth xs n x → howMany (λ y. first y x) xs ≡ n
+  nth-howMany first trans irrefl [] t n x h = absurd h
+  nth-howMany first trans irrefl (y ∷ ys) t zero x h = howMany-length (λ z. first z x) (y ∷ ys) ∙ ap length (keep-none (λ z. first z x) (y ∷ ys) (λ z m a. go (List·Memᴰ·cases-cons m) a))
+    where
+      go : {z : A} → (z ≡ y) ⊎ List·Memᴰ z ys → T (first z x) → ⊥
+      go (inl e) a = irrefl y (subst₂ (λ (v w : A). T (first v w)) e h a)
+      go {z} (inr m) a = irrefl y (trans y z y (first-ahead first trans irrefl y ys t m) (subst (λ (w : A). T (first z w)) h a))
+  nth-howMany first trans irrefl (y ∷ ys) t (suc n) x h =
+      let a : _≡_ {A = ℕ} (cond (first y x) 1 0) 1 = ap {B = ℕ} (λ (b : Bool). cond b 1 0) (is-true (first y x) (first-ahead first trans irrefl y ys t (nth-mem ys n h))) in
+      let r = nth-howMany first trans irrefl ys (and-right (all (first y) ys) (ascending first ys) t) n x h in
+      omega arith
+
   pub joined-at : (xss : List (List A)) {z : A} → List·Memᴰ z (joined xss) → (xs : List A) × List·Memᴰ xs xss × List·Memᴰ z xs
   joined-at [] m = absurd (List·Memᴰ·not-nil m)
   joined-at (xs ∷ xss) {z} m = go (List·Memᴰ·append-cases xs m) (λ (k : List·Memᴰ z (joined xss)). joined-at xss k)
@@ -55,15 +70,7 @@ module _ {A : Type 0} where
 
   pub append-ascending : (ahead : A → A → Bool) (xs ys : List A) → T (ascending ahead xs) → T (ascending ahead ys)
       → ((x y : A) → List·Memᴰ x xs → List·Memᴰ y ys → T (ahead x y)) → T (ascending ahead (xs ++ ys))
-  append-ascending ahead [] ys s t f = t
-  append-ascending ahead (x ∷ xs) ys s t f =
-      and-both (all (ahead x) (xs ++ ys)) (ascending ahead (xs ++ ys))
-      (all-of (ahead x) (xs ++ ys) (λ z m. at z (List·Memᴰ·append-cases xs m)))
-      (append-ascending ahead xs ys (and-right (all (ahead x) xs) (ascending ahead xs) s) t (λ z y m k. f z y (List·Memᴰ·tail m) k))
-    where
-      at : (z : A) → List·Memᴰ z xs ⊎ List·Memᴰ z ys → T (ahead x z)
-      at z (inl m) = all-at (ahead x) xs (and-left (all (ahead x) xs) (ascending ahead xs) s) m
-      at z (inr m) = f x z (List·Memᴰ·head refl) m
+  append-ascending ahead xs ys s t f = ordered-of ahead (xs ++ ys) (ordered-append (λ x y. T (ahead x y)) xs ys (ordered-at ahead xs s) (ordered-at ahead ys t) f)
 
 module _ {A B : Type 0} (f : ℕ → A → B) where
   pub numbered-at : (i : ℕ) (xs : List A) {z : B} → List·Memᴰ z (numberedFrom i xs f) → (n : ℕ) × (x : A) × Nth xs n x × (z ≡ f (n + i) x)
@@ -96,6 +103,34 @@ module _ {A B : Type 0} (f : ℕ → A → List B) where
       at z w m r =
           let q = numbered-at f (suc i) xs (r .1) in
           h i (q .0 + suc i) x (q .1) (omega arith) z w m (subst (λ (l : List B). List·Memᴰ w l) (q .3) (r .2))
+
+-- an entry that is kept for its value under f has the number that its value has among the values kept
+pub nth-kept : {A B : Type 0} (f : A → B) (p : B → Bool) (xs : List A) (n : ℕ) (x : A) → Nth (keep (λ z. p (f z)) xs) n x → Nth (keep p (map f xs)) n (f x)
+nth-kept f p [] n x h = absurd h
+nth-kept f p (y ∷ ys) n x h = go (p (f y)) n h (λ (i : ℕ) (k : Nth (keep (λ z. p (f z)) ys) i x). nth-kept f p ys i x k)
+  where
+    go : (b : Bool) (i : ℕ) → Nth (consIf b y (keep (λ z. p (f z)) ys)) i x → ((j : ℕ) → Nth (keep (λ z. p (f z)) ys) j x → Nth (keep p (map f ys)) j (f x))
+        → Nth (consIf b (f y) (keep p (map f ys))) i (f x)
+    go true zero k r = ap f k
+    go true (suc i) k r = r i k
+    go false i k r = r i k
+
+-- the numbers of an ascending list's entries go by their order
+module _ {A : Type 0} (ahead : A → A → Bool) where
+  pub nth-up : (xs : List A) → T (ascending ahead xs) → (n m : ℕ) (x y : A) → Nth xs n x → Nth xs m y → n < m → T (ahead x y)
+  nth-up [] s n m x y k l h = absurd k
+  nth-up (z ∷ zs) s n zero x y k l h = absurd (omega arith)
+  nth-up (z ∷ zs) s zero (suc m) x y k l h = subst (λ (w : A). T (ahead w y)) (sym k) (all-at (ahead z) zs (and-left (all (ahead z) zs) (ascending ahead zs) s) (nth-mem zs m l))
+  nth-up (z ∷ zs) s (suc n) (suc m) x y k l h = nth-up zs (and-right (all (ahead z) zs) (ascending ahead zs) s) n m x y k l (omega arith)
+
+  module _ (trans : (x y z : A) → T (ahead x y) → T (ahead y z) → T (ahead x z)) (irrefl : (x : A) → T (ahead x x) → ⊥) where
+    pub nth-ahead : (xs : List A) → T (ascending ahead xs) → (n m : ℕ) (x y : A) → Nth xs n x → Nth xs m y → T (ahead x y) → n < m
+    nth-ahead [] s n m x y k l t = absurd k
+    nth-ahead (z ∷ zs) s zero zero x y k l t = absurd (irrefl x (subst (λ (w : A). T (ahead x w)) (l ∙ sym k) t))
+    nth-ahead (z ∷ zs) s zero (suc m) x y k l t = omega arith
+    nth-ahead (z ∷ zs) s (suc n) zero x y k l t =
+        absurd (irrefl x (trans x y x t (subst (λ (w : A). T (ahead w x)) (sym l) (first-ahead ahead trans irrefl z zs s (nth-mem zs n k)))))
+    nth-ahead (z ∷ zs) s (suc n) (suc m) x y k l t = let r = nth-ahead zs (and-right (all (ahead z) zs) (ascending ahead zs) s) n m x y k l t in omega arith
 
 -- ---- the order of placements
 ahead-kind : (q r : Placement) → q .kind < r .kind → T (ahead q r)
@@ -262,22 +297,11 @@ module _ (order : List ℕ) where
     number-below {v} m = let r = mem-nth m in let e = nth-number (r .0) v (r .1) in let b = nth-below cells (r .0) v (r .1) in omega arith
 
     -- numbers go by scan order
-    nth-ahead : (n m : ℕ) (u v : Cell) → Nth cells n u → Nth cells m v → T (cellAhead order u v) → n < m
-    nth-ahead n m u v a b t = go cells asc n m a b
-      where
-        go : (xs : List Cell) → T (ascending (cellAhead order) xs) → (i j : ℕ) → Nth xs i u → Nth xs j v → i < j
-        go [] s i j k l = absurd k
-        go (y ∷ ys) s zero zero k l = absurd (cell-irrefl u (subst (λ (w : Cell). T (cellAhead order u w)) (l ∙ sym k) t))
-        go (y ∷ ys) s zero (suc j) k l = omega arith
-        go (y ∷ ys) s (suc i) zero k l =
-            absurd (cell-irrefl u (cell-trans u v u t (subst (λ (w : Cell). T (cellAhead order w u)) (sym l) (first-ahead (cellAhead order) cell-trans cell-irrefl y ys s (nth-mem ys i k)))))
-        go (y ∷ ys) s (suc i) (suc j) k l = let r = go ys (and-right (all (cellAhead order y) ys) (ascending (cellAhead order) ys) s) i j k l in omega arith
-
     number-ahead : {u v : Cell} → List·Memᴰ u cells → List·Memᴰ v cells → T (cellAhead order u v) → scanNumber cells u < scanNumber cells v
     number-ahead {u} {v} a b t =
         let r = mem-nth a in
         let s = mem-nth b in
-        let h = nth-ahead (r .0) (s .0) u v (r .1) (s .1) t in
+        let h = nth-ahead (cellAhead order) cell-trans cell-irrefl cells asc (r .0) (s .0) u v (r .1) (s .1) t in
         let e = nth-number (r .0) u (r .1) in
         let f = nth-number (s .0) v (s .1) in
         omega arith

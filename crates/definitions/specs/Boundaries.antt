@@ -12,7 +12,7 @@ use Rattle.definitions.specs.Placements.{compile}
 use Rattle.definitions.specs.Refusals.{Call, trayOf, placementCount, linkCount, refusal}
 use Rattle.definitions.specs.Outcomes.{Outcome, outcome}
 use Rattle.definitions.specs.Texts.{text}
-use Rattle.definitions.specs.Fillings.{Line, piece, board, M, D, none, mirrored, lists}
+use Rattle.definitions.specs.Fillings.{Line, piece, board, M, D, none, turned, mirrored, lists}
 use Rattle.definitions.specs.Files.{Written, callOn, packed}
 use Rattle.definitions.specs.declared.SolverKind.{SolverKind}
 use Rattle.definitions.specs.declared.SolverKind.the-variants.{Auto, Naive, Fast, KnuthAlgorithm}
@@ -309,4 +309,11 @@ moreFillings =
     mirrored (board 2 2 2 (cells 8 11111111)) (piece 2 2 2 2 (cells 8 11100100) ∷ [])
     ((0 ∷ 0 ∷ 0 ∷ 1 ∷ 0 ∷ 1 ∷ 0 ∷ 1 ∷ 0 ∷ 0 ∷ 0 ∷ 0 ∷ 0 ∷ 1 ∷ 0 ∷ 0 ∷ []) ∷ []) ∷
     none (board 1 1 5 (cells 5 11111)) (piece 1 1 1 5 (cells 5 11111) ∷ []) ((0 ∷ 0 ∷ 0 ∷ 0 ∷ 0 ∷ 0 ∷ 0 ∷ 0 ∷ 0 ∷ 0 ∷ []) ∷ []) ∷
+    []
+
+-- ---- a tray where kind 0, the single cell, placed first decides Fast's order; Knuth's is the other way round
+unfoldable pub fastFillings : List Line
+fastFillings =
+    turned (board 1 1 6 (cells 6 111110)) (M 1 ∷ D 1 ∷ piece 1 1 1 3 (cells 3 101) ∷ [])
+    ((2 ∷ 0 ∷ 0 ∷ 0 ∷ 2 ∷ 0 ∷ 1 ∷ 0 ∷ 1 ∷ 0 ∷ 255 ∷ 255 ∷ []) ∷ (1 ∷ 0 ∷ 1 ∷ 0 ∷ 2 ∷ 0 ∷ 0 ∷ 0 ∷ 2 ∷ 0 ∷ 255 ∷ 255 ∷ []) ∷ []) ∷
     []

@@ -7,7 +7,7 @@ use mathlib.Core.Path.{_≡_}
 use mathlib.Core.Logic.{_↔_, _≢_}
 use lib.Dec.{T, ltb, eqb}
 use lib.ListN.{length, take, drop, getD, replicate}
-use Rattle.definitions.specs.Lists.{all, below, howMany, joined, member, ascending, Apart}
+use Rattle.definitions.specs.Lists.{all, below, howMany, joined, member, ascending, Apart, Ordered}
 use Rattle.definitions.specs.Grid.{Grid}
 use Rattle.definitions.specs.Kinds.{Tray}
 use Rattle.definitions.specs.Placements.{Placement, Compiled, compile}
@@ -16,6 +16,7 @@ use Rattle.definitions.specs.Kept.{Identify, kept}
 use Rattle.definitions.specs.Kept.Identify.{None, Turned, Mirrored}
 use Rattle.definitions.specs.Moves.{Move, Carries, inReach}
 use Rattle.definitions.specs.Orders.{listed, fastAhead}
+use Rattle.definitions.specs.KnuthOrder.{KnuthAhead}
 use Rattle.definitions.specs.Answers.{answer}
 use Rattle.definitions.specs.Refusals.{Call, trayOf, identifyOf, isKnuth, rowsOf, applies, refusal}
 use Rattle.definitions.specs.Outcomes.{Outcome, answersOf, answerSize}
@@ -100,14 +101,15 @@ pub record Covers (t : Tray) (list : List (List ℕ)) : Type 0 where
   pub eachOnce : Apart list
   pub toldApart : (rows others : List ℕ) → CoverWithin (compile t) rows → CoverWithin (compile t) others → coverAnswer t rows ≡ coverAnswer t others → rows ≡ others
 
--- "Knuth's list is Fast's rearranged", under each identification; every page is its stretch of its list; and Fast's listed packings ascend in Fast's order,
--- where kind 0 is placed first too
+-- "Knuth's list is Fast's rearranged", under each identification; every page is its stretch of its list; Fast's listed packings ascend in Fast's order,
+-- where kind 0 is placed first too; and Knuth's stand in Knuth's order
 pub record Demand2 (run : Call → Outcome) (t : Tray) : Type 0 where
   pub fast : Covers t (answersOf t None Fast)
   pub knuth : Covers t (answersOf t None KnuthAlgorithm)
   pub rearranged : (i : Identify) → Perm (answersOf t i Fast) (answersOf t i KnuthAlgorithm)
   pub pages : (i : Identify) (e : SolverKind) → Pages run t i e (answersOf t i e)
   pub fastOrder : (i : Identify) → T (ascending (fastAhead (compile t) i) (listed (compile t) i Fast))
+  pub knuthOrder : (i : Identify) → Ordered (λ P Q. KnuthAhead (compile t) P Q []) (listed (compile t) i KnuthAlgorithm)
 
 unfoldable pub demand2 : (Call → Outcome) → Type 0
 demand2 run = (l : Call) → refusal l ≡ 0 → Demand2 run (trayOf l)

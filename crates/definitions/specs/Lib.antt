@@ -12,12 +12,15 @@ pub mod Answers
 pub mod Page
 pub mod Refusals
 pub mod Outcomes
+pub mod KnuthOrder
 pub mod Demands
 pub mod MovesAndMaps
 pub mod PlacementsRight
+pub mod AnswersRight
 pub mod Emission
 pub mod Pruning
 pub mod Texts
 pub mod Files
+pub mod Printed
 pub mod Fillings
 pub mod Boundaries

@@ -1,8 +1,8 @@
 -- Document 01, "Maps": "The 48 signed axis permutations stand in a constant table, 24 turns and 24 mirrorings, as `enumerate_transforms` builds them."
 use Prim.Native.Nat.{ℕ, _+_, _-_, _/_, _%_}
-use mathlib.Core.Bool.{Bool, true, false, cond}
+use mathlib.Core.Bool.{Bool, true, false, cond, _&&_}
 use mathlib.Core.List.{List, [], _∷_, _++_, map}
-use lib.Dec.{eqb, leb}
+use lib.Dec.{eqb, leb, ltb}
 use lib.ListN.{getD}
 use Rattle.definitions.specs.Lists.{below, keep}
 use Rattle.definitions.specs.Grid.{Sides, Cell, Grid, gridWith, byteAt}
@@ -102,7 +102,7 @@ unfoldable pub mapOf : ℕ → Map
 mapOf n = getD maps n identity
 
 unfoldable pub isMirroring : ℕ → Bool
-isMirroring n = leb 24 n
+isMirroring n = leb 24 n && ltb n 48
 
 -- the mirroring that keeps the sides and takes cell (x, y, z) to (a-1-x, y, z) (`mirror` of shape.rs)
 unfoldable pub mirror : Map

@@ -82,6 +82,13 @@ pub record Right (t : Tray) (c : Compiled) : Type 0 where
   pub inOrder : T (ascending ahead (c .placements))
   -- "p is the scan number among filled board cells that the origin lies on", and "the origin is the first filled cell in scan order"
   pub originFirst : (r : Placement) → List·Memᴰ r (c .placements) → List·Memᴰ (r .p) (r .cells) × ((n : ℕ) → List·Memᴰ n (r .cells) → n < r .p → ⊥)
+  -- "j the variant's number among those that fit there", variants ascending: of two placements of a kind at one cell the one with the smaller turned grid has
+  -- the smaller j, and each number below a placement's j is another's
+  pub jInOrder : (r s : Placement) → List·Memᴰ r (c .placements) → List·Memᴰ s (c .placements) → r .kind ≡ s .kind → r .p ≡ s .p
+      → (n : ℕ) → n < length (t .pieces) → kindOf n ≡ r .kind → (R : SetDown c (pieceAt t n .grid) (r .cells)) (S : SetDown c (pieceAt t n .grid) (s .cells))
+      → (r .j < s .j) ↔ T (gridAhead (gridAfter (R .moves) (pieceAt t n .grid)) (gridAfter (S .moves) (pieceAt t n .grid)))
+  pub jFromZero : (r : Placement) → List·Memᴰ r (c .placements) → (i : ℕ) → i < r .j
+      → (s : Placement) × List·Memᴰ s (c .placements) × (s .kind ≡ r .kind) × (s .p ≡ r .p) × (s .j ≡ i)
 
 unfoldable pub placementsRight : Type 0
 placementsRight = (l : Call) → refusal l ≡ 0 → Right (trayOf l) (compile (trayOf l))

@@ -7,7 +7,7 @@ use native.Mathlib.Omega.{arith}
 use lib.Dec.{T, eqb, eqb→eq}
 use lib.ListN.{length, getD, take, drop, length-drop}
 use Rattle.definitions.specs.Lists.{Apart, joined, same}
-use Rattle.definitions.specs.Demands.{demand3}
+use Rattle.definitions.specs.Demands.{Stretch, demand3}
 use Rattle.definitions.specs.Emission.{behind}
 use Rattle.definitions.specs.Page.{Page, page}
 use Rattle.definitions.specs.Orders.{listed}
@@ -17,6 +17,7 @@ use Rattle.definitions.specs.Outcomes.{Outcome, accepted, answersOf, capacity, 
 use Rattle.definitions.specs.Refusals.{Call, identifyOf, isKnuth, refusal, table, trayOf}
 use Rattle.definitions.proofs.DemandLaws.{demand3-holds}
 use Rattle.definitions.proofs.EmissionLaws.{same-test}
+use Rattle.definitions.proofs.MeetLaws.{meets-stretch}
 use Rattle.definitions.proofs.ListLaws.{eqb-of, holds, is-false, is-true, same→eq, same-refl}
 use Rattle.definitions.proofs.RefusalLaws.{outcome-accepted, outcome-refused}
 use Rattle.kept.specs.Calls.{acceptedBehind, outcomeBehind, pageFrom}
@@ -105,3 +106,9 @@ module _ (l : Call) (ok : refusal l ≡ 0) where
         links = cond (isKnuth (l .config .solver)) (cleared 32768 (l .links)) (l .links);
       }) later
       ∙ sym (outcome-accepted (skipping (suc k) l) (still (suc k)))
+
+-- a page from behind entry k, whatever left it, is demand 3's stretch of the one list from entry k + 1 on
+pub meets-behind : (l : Call) → refusal l ≡ 0 → (k : ℕ) → k < length (answersOf (trayOf l) (identifyOf (l .config)) (l .config .solver)) → (o : Outcome)
+    → o ≡ outcomeBehind (entryOf l k) (skipping 0 l) → Stretch (answersOf (trayOf l) (identifyOf (l .config)) (l .config .solver)) (skipping (suc k) l) o
+unfolding answersOf trayOf
+meets-behind l ok k h o e = meets-stretch (skipping (suc k) l) o (e ∙ outcome-behind l ok k h) (still l ok (suc k))

@@ -5,7 +5,7 @@ use mathlib.Core.List.{List, [], _∷_, List·Memᴰ}
 use mathlib.Core.Path.{_≡_, refl, sym, ap, _∙_, subst}
 use mathlib.Core.Logic.{_⊎_, inl, inr, ⊎-elim}
 use native.Mathlib.Omega.{arith}
-use native.Mathlib.Nat.{mul-le-mul, mul-le-mul-right, mul-add-div-right, mul-add-mod-self-right, div-eq-of-lt, mod-eq-of-lt, mod-lt, div-lt-iff-lt-mul, div-div-eq-div-mul, div-add-mod', mul-comm, mul-assoc, mul-zero, mul-pos, eq-zero-or-pos, not-suc-le-zero}
+use native.Mathlib.Nat.{mul-le-mul, mul-add-div-right, mul-add-mod-self-right, div-eq-of-lt, mod-eq-of-lt, mod-lt, div-lt-iff-lt-mul, div-div-eq-div-mul, div-add-mod', mul-comm, mul-assoc, mul-zero, mul-pos, eq-zero-or-pos, not-suc-le-zero}
 use lib.Dec.{eqb}
 use lib.ListN.{length, getD}
 use Rattle.definitions.specs.Grid.{Sides, Cell, Grid, volume, placeOf, InBox, byteAt, gridWith}
@@ -14,15 +14,13 @@ use Rattle.definitions.specs.Moves.{Quarter, Move, quarterSides, quartersSides,
 use Rattle.definitions.specs.Moves.Quarter.{aboutX, aboutY, aboutZ}
 use Rattle.definitions.specs.Moves.Move.{turn, mirroring}
 use Rattle.definitions.specs.MovesAndMaps.{ActsAs}
+pub use Rattle.definitions.proofs.MapLaws.{digits-lt, place-lt}
 use Rattle.definitions.proofs.MapLaws.{Fits, cell-path, byte-with}
 use Rattle.definitions.proofs.MapNumberLaws.{map-done, map-fits, sides-back}
 use Rattle.shape.specs.Coords.{Fit}
 use Rattle.shape.specs.Places.{cellAt, imagePlace, sourcePlace}
 
 -- ---- digits: of radix b, the low digit y
-pub digits-lt : {x y a b : ℕ} → x < a → y < b → x * b + y < a * b
-digits-lt {x} {y} {a} {b} h k = omega (arith, mul-le-mul-right b h)
-
 pub digits-div : (x y b : ℕ) → y < b → (x * b + y) / b ≡ x
 digits-div x y b h =
     let pos : 0 < b = omega arith in
@@ -40,10 +38,6 @@ pub pos-left : (i m n : ℕ) → i < m * n → 0 < m
 pos-left i m n h = pos-right i n m (subst (λ (k : ℕ). i < k) (mul-comm m n) h)
 
 -- ---- places and cells
-pub place-lt : (s : Sides) (u : Cell) → InBox s u → placeOf s u < volume s
-unfolding volume
-place-lt s u w = digits-lt (digits-lt (w .0) (w .1)) (w .2)
-
 pub cell-at-place : (s : Sides) (u : Cell) → InBox s u → cellAt s (placeOf s u) ≡ u
 unfolding cellAt
 cell-at-place s u w =

@@ -1,7 +1,7 @@
 // The 48 signed axis permutations, by number.
 ghost use mathlib.Core.Path.{_≡_};
 ghost use Prim.Native.Nat.{_<_};
-ghost use Rattle.definitions.specs.Maps.{mapOf, inverse, product, mapSides, mapCell, isMirroring, side, coordinate, fromEnd};
+ghost use Rattle.definitions.specs.Maps.{mapOf, inverse, product, mapSides, mapCell, side, coordinate, fromEnd};
 ghost use Rattle.shape.specs.Coords.{asSides, asCell, asMap};
 use super::Coord;
 use super::tables::Axes;
@@ -28,12 +28,6 @@ impl Map {
         let m = self.index();
         let n = other.index();
         Map(PRODUCTS[m * 48 + n])
-    }
-
-    pub fn is_mirroring(self) -> bool
-        ensures { λ r. ⌜ r ≡ isMirroring (self .0) ⌝ }
-    {
-        24 <= self.0
     }
 
     // The number as an index into the tables.

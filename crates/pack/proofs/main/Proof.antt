@@ -1,55 +1,60 @@
--- `pack::main` meets its contract: what it lists is a file. Assumes nothing.
-use mathlib.Core.Path.{sym, _∙_}
-use Rattle.definitions.proofs.ListLaws.{holds}
+-- `pack::main` meets its contract: it is safe, and ends. Assumes nothing.
+use mathlib.Core.Path.{sym}
+use lib.Seq.{length-take-le}
+use Rattle.streams.proofs.PrintLaws.{lent-zeros}
 use borrow.Author.Needs.{needs}
 use Rattle.pack.proofs.main.Statement.{statement}
 use Rattle.pack.proofs.main.Tie as tie
+use Rattle.pack.proofs.main.Reads as reads
+use Rattle.pack.proofs.main.Lts as lts
+use Rattle.streams.proofs.print.Reads as print-reads
+use Rattle.streams.proofs.read_text.Reads as read-text-reads
 
-slice-aggregate-read-full : tie.Need-slice-aggregate-read-full
-slice-aggregate-read-full c = search needs
+slice-aggregate-read-text : tie.Need-slice-aggregate-read-text
+slice-aggregate-read-text c = search needs
 
-read-full-requires : tie.Need-read-full-requires
-read-full-requires c κs = search needs
+read-text-requires : tie.Need-read-text-requires
+read-text-requires c κs = search needs
 
 array-share-prefix-text : tie.Need-array-share-prefix-text
 array-share-prefix-text c = search needs
 
-slice-aggregate-is-file : tie.Need-slice-aggregate-is-file
-slice-aggregate-is-file c = search needs
+slice-aggregate-print : tie.Need-slice-aggregate-print
+slice-aggregate-print c = sym (length-take-le _ _ (array-share-prefix-text (c .before)))
 
-is-file-requires : tie.Need-is-file-requires
-is-file-requires c κs = search needs
+slice-aggregate-print-2 : tie.Need-slice-aggregate-print-2
+slice-aggregate-print-2 c = search needs
 
-array-share-prefix-text-2 : tie.Need-array-share-prefix-text-2
-array-share-prefix-text-2 c = search needs
+slice-aggregate-print-3 : tie.Need-slice-aggregate-print-3
+slice-aggregate-print-3 c = search needs
 
-slice-aggregate-list-file : tie.Need-slice-aggregate-list-file
-slice-aggregate-list-file c = search needs
+slice-aggregate-print-4 : tie.Need-slice-aggregate-print-4
+slice-aggregate-print-4 c = search needs
 
-list-file-requires : tie.Need-list-file-requires
-list-file-requires c κs = holds _ (sym (c .before .before .is-file .ensures) ∙ c .before .if1 .taken)
+slice-aggregate-print-5 : tie.Need-slice-aggregate-print-5
+slice-aggregate-print-5 c = search needs
 
-print-refused-requires : tie.Need-print-refused-requires
-print-refused-requires c κs = search needs
+slice-aggregate-print-6 : tie.Need-slice-aggregate-print-6
+slice-aggregate-print-6 c = search needs
+
+print-requires : tie.Need-print-requires
+print-requires c κs = lent-zeros
 
 returns : tie.Need-returns
 returns c = search needs
-
-returns-2 : tie.Need-returns-2
-returns-2 c = search needs
 
 pub main-spec : {M : Type 1} → statement M
 main-spec =
     tie.close
     (tie.spec
-    slice-aggregate-read-full
-    read-full-requires
+    slice-aggregate-read-text
+    read-text-requires
     array-share-prefix-text
-    slice-aggregate-is-file
-    is-file-requires
-    array-share-prefix-text-2
-    slice-aggregate-list-file
-    list-file-requires
-    print-refused-requires
-    returns
-    returns-2)
+    slice-aggregate-print
+    slice-aggregate-print-2
+    slice-aggregate-print-3
+    slice-aggregate-print-4
+    slice-aggregate-print-5
+    slice-aggregate-print-6
+    print-requires
+    returns)

@@ -1,0 +1,3 @@
+pub mod Rest
+pub mod Standing
+pub mod Stretches
