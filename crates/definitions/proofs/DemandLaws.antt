@@ -1,40 +1,39 @@
 -- The outcome of document 01's definitions meets demands 2 and 3. Assumes nothing.
 use Prim.Native.Nat.{ℕ, zero, suc, _+_, _-_, _*_, _/_, _≤_, _<_, min}
-use mathlib.Core.Bool.{Bool, true, false, cond, not, _&&_}
-use mathlib.Core.List.{List, [], _∷_, _++_, map, Perm, Perm·map, List·Memᴰ, List·Memᴰ·head, List·Memᴰ·tail, List·Memᴰ·not-nil, List·Memᴰ·cases-cons, Memᴰ·cast, Memᴰ·map, Memᴰ·of-map}
+use mathlib.Core.Bool.{Bool, true, false, cond, _&&_}
+use mathlib.Core.List.{List, [], _∷_, _++_, map, Perm·map, List·Memᴰ, List·Memᴰ·head, List·Memᴰ·tail, List·Memᴰ·not-nil, List·Memᴰ·cases-cons, Memᴰ·map, Memᴰ·of-map}
 use mathlib.Core.Path.{_≡_, refl, sym, ap, ap₂, _∙_, subst}
-use mathlib.Core.Logic.{_⊎_, inl, inr, _↔_}
+use mathlib.Core.Logic.{_⊎_, inl, inr}
 use native.Mathlib.Nat.{suc-mul, zero-mul, mul-comm, div-mul-le-self, lt-div-mul-add, add-mul, one-mul, mul-le-mul-right, le-trans, mul-pos}
 use native.Mathlib.Omega.{arith}
-use lib.Dec.{T, ltb, leb, eqb, eqb→eq, ltb→lt, lt→ltb, leb→le, nltb→le}
-use lib.ListN.{length, getD, take, drop, replicate, length-take, length-drop, length-append, length-map, length-replicate}
-use lib.Seq.{length-front, length-take-le, take-take}
-use Rattle.definitions.specs.Lists.{all, any, keep, each, below, joined, headOr, member, sum, ascending, Apart}
-use Rattle.definitions.proofs.ListLaws.{and-left, and-right, and-both, all-at, all-of, keep-at, each-at, keep-ascending, is-true, below-at, member-at, eqb-of}
-use Rattle.definitions.specs.Grid.{Sides, Cell, Grid, box, volume}
+use lib.Dec.{T, ltb, leb, ltb→lt, lt→ltb, leb→le}
+use lib.ListN.{length, take, drop, replicate, length-take, length-drop, length-append, length-map, length-replicate}
+use lib.Seq.{length-front, length-take-le}
+use Rattle.definitions.specs.Lists.{all, keep, each, joined, headOr, member, sum, ascending, Apart}
+use Rattle.definitions.proofs.ListLaws.{and-left, and-right, all-of, keep-at, each-at, keep-ascending}
+use Rattle.definitions.specs.Grid.{Cell, box, volume}
 use Rattle.definitions.proofs.MoveLaws.{length-box}
 use Rattle.definitions.specs.Scan.{scanNumber}
-use Rattle.definitions.specs.Kinds.{Tray, Piece, Sorted, sorted, Copy, Kind, kindsOf, copiesOf}
+use Rattle.definitions.specs.Kinds.{Tray, Piece, Copy, Kind}
 use Rattle.definitions.specs.Placements.{Placement, Compiled, compile}
 use Rattle.definitions.specs.Packing.{Packing}
 use Rattle.definitions.specs.Kept.{Identify, kept}
 use Rattle.definitions.specs.Kept.Identify.{None}
 use Rattle.definitions.specs.Orders.{listed, packings, fastList, fastAhead}
 use Rattle.definitions.specs.Answers.{Taken, taken, copyOn, answer}
-use Rattle.definitions.specs.Page.{Page, page}
-use Rattle.definitions.specs.Refusals.{Call, sidesOf, gridOf, trayOf, identifyOf, isSide, sidesFit, copyCount, isPorted, isKnuth, table, refusal}
+use Rattle.definitions.specs.Page.{page}
+use Rattle.definitions.specs.Refusals.{Call, sidesOf, gridOf, trayOf, identifyOf, isSide, sidesFit, copyCount, isPorted, isKnuth, refusal}
 use Rattle.definitions.specs.Outcomes.{Outcome, answersOf, answerSize, capacity, pageOf, overStart, cleared, accepted, outcome}
-use Rattle.definitions.specs.Demands.{Lends, Stretch, Pages, ExactCover, CoverWithin, placementsIn, coverAnswer, Covers, Demand2, demand2, Reached, StandsFor, OneList, demand3}
+use Rattle.definitions.specs.Demands.{Stretch, Pages, placementsIn, coverAnswer, Covers, Demand2, demand2, OneList, demand3}
 use Rattle.definitions.specs.declared.SolverKind.{SolverKind}
-use Rattle.definitions.specs.declared.SolverKind.the-variants.{Auto, Naive, Fast, KnuthAlgorithm}
-use Rattle.definitions.specs.declared.Record.{Record}
-use Rattle.definitions.proofs.RefusalLaws.{none-applies, outcome-accepted}
+use Rattle.definitions.specs.declared.SolverKind.the-variants.{Fast, KnuthAlgorithm}
+use Rattle.definitions.proofs.RefusalLaws.{passed, board-sides, outcome-accepted}
 use Rattle.definitions.proofs.SearchLaws.{WellMade}
-use Rattle.definitions.proofs.WellMadeLaws.{Nth, nth-mem, nth-below, numbered-at}
+use Rattle.definitions.proofs.WellMadeLaws.{nth-mem, nth-below}
 use Rattle.definitions.proofs.CellLaws.{apart-map-in}
-use Rattle.definitions.proofs.ShapeLaws.{fails, accepted-well-made}
+use Rattle.definitions.proofs.ShapeLaws.{accepted-well-made}
 use Rattle.definitions.proofs.CoverLaws.{CoverList, fast-covers, knuth-covers, fast-knuth, knuth-fast, fast-apart, knuth-apart, rows-same, cover-packing, perm-of}
-use Rattle.definitions.proofs.KeptLaws.{Geometry, ListFacts, list-facts}
+use Rattle.definitions.proofs.KeptLaws.{ListFacts, list-facts}
 use Rattle.definitions.proofs.AnswerLaws.{geometry, kind-copy-below, taken-at}
 use Rattle.definitions.proofs.OrderLaws.{fast-ascending}
 use Rattle.definitions.proofs.KnuthOrderLaws.{knuth-ordered}
@@ -99,14 +98,10 @@ module _ (l : Call) (ok : refusal l ≡ 0) where
   unfolding isSide
   side-pos n t = leb→le 1 n (and-left (leb 1 n) (leb n 8) t)
 
-  board-sides : T (sidesFit (l .board))
-  unfolding table
-  board-sides = all-at sidesFit (l .board ∷ l .pieces) (fails l ok (all sidesFit (l .board ∷ l .pieces)) (none-applies l ok 2)) (List·Memᴰ·head refl)
-
   size-pos : 0 < size
   unfolding answerSize trayOf gridOf sidesOf volume sidesFit
   size-pos =
-      let t = board-sides in
+      let t = board-sides l ok in
       let a = side-pos (l .board .a) (and-left (isSide (l .board .a)) (isSide (l .board .b) && isSide (l .board .c)) t) in
       let u = and-right (isSide (l .board .a)) (isSide (l .board .b) && isSide (l .board .c)) t in
       let b = side-pos (l .board .b) (and-left (isSide (l .board .b)) (isSide (l .board .c)) u) in
@@ -114,27 +109,11 @@ module _ (l : Call) (ok : refusal l ≡ 0) where
       let v = mul-pos (mul-pos a b) c in
       omega arith
 
-  -- 12 and 13
-  below-of : (m n : ℕ) → ltb m n ≡ false → n ≤ m
-  below-of m n e = nltb→le m n (subst (λ (b : Bool). T (not b)) (sym e) tt)
-
-  work-long : 8192 ≤ length (l .work)
-  unfolding table
-  work-long = below-of (length (l .work)) 8192 (none-applies l ok 11)
-
-  links-long : isKnuth (l .config .solver) ≡ true → 32768 ≤ length (l .links)
-  unfolding table
-  links-long e = below-of (length (l .links)) 32768 (subst (λ (b : Bool). (b && ltb (length (l .links)) 32768) ≡ false) e (none-applies l ok 12))
-
-  ported : T (isPorted (l .config .solver))
-  unfolding table
-  ported = fails l ok (isPorted (l .config .solver)) (none-applies l ok 10)
-
   cleared-length : (n : ℕ) (old : List ℕ) → n ≤ length old → length (replicate n 0 ++ drop n old) ≡ length old
   cleared-length n old h = length-front old (replicate n 0) n (length-replicate n 0 ∙ sym (length-take-le n old h))
 
   links-length : (b : Bool) → isKnuth (l .config .solver) ≡ b → length (cond b (replicate 32768 0 ++ drop 32768 (l .links)) (l .links)) ≡ length (l .links)
-  links-length true e = cleared-length 32768 (l .links) (links-long e)
+  links-length true e = cleared-length 32768 (l .links) (passed l ok .linksLong e)
   links-length false e = refl
 
   module _ (list : List (List ℕ)) (sized : (x : List ℕ) → List·Memᴰ x list → length x ≡ size) (its : list ≡ answersOf (trayOf l) (identifyOf (l .config)) (l .config .solver)) where
@@ -210,7 +189,7 @@ module _ (l : Call) (ok : refusal l ≡ 0) where
           bytes = bytes-are;
           answersLength = bytes-length;
           work = refl;
-          workLength = cleared-length 8192 (l .work) work-long;
+          workLength = cleared-length 8192 (l .work) (passed l ok .workLong);
           links = refl;
           linksLength = links-length (isKnuth (l .config .solver)) refl;
         }
@@ -244,15 +223,11 @@ member-sum f (p ∷ qs) q m = go (List·Memᴰ·cases-cons m) (λ (k : List·Mem
 -- in an accepted tray piece numbers are below 16 and copy numbers below 128
 module _ (l : Call) (ok : refusal l ≡ 0) where
   few-pieces : length (trayOf l .pieces) ≤ 16
-  unfolding table trayOf
+  unfolding trayOf
   few-pieces =
-      let a = below-of l ok 16 (length (l .pieces)) (none-applies l ok 1) in
+      let a = passed l ok .lent .fewPieces in
       let b = length-map {B = Piece} (l .pieces) (λ r. record { grid = gridOf (l .bytes) r; count = r .count }) in
       omega arith
-
-  few-copies : copyCount (trayOf l) ≤ 128
-  unfolding table
-  few-copies = below-of l ok 128 (copyCount (trayOf l)) (none-applies l ok 7)
 
   pub copy-fits : (d : Kind) → List·Memᴰ d (compile (trayOf l) .kinds) → (x : Copy) → List·Memᴰ x (d .copies) → (x .piece < 16) × (x .copy < 128)
   unfolding compile copyCount
@@ -261,7 +236,7 @@ module _ (l : Call) (ok : refusal l ≡ 0) where
       let a = nth-below (trayOf l .pieces) (x .piece) (r .0) (r .1) in
       let b = few-pieces in
       let c = member-sum (λ (q : Piece). q .count) (trayOf l .pieces) (r .0) (nth-mem (trayOf l .pieces) (x .piece) (r .1)) in
-      let e = few-copies in
+      let e = passed l ok .lent .fewCopies in
       let f = r .2 in
       (omega arith, omega arith)
 
@@ -372,7 +347,7 @@ module _ (l : Call) (ok : refusal l ≡ 0) where
       }
     where
       f : ListFacts C₀ (identifyOf (l .config)) (listed C₀ (identifyOf (l .config)) (l .config .solver))
-      f = listed-facts (identifyOf (l .config)) (l .config .solver) (ported l ok)
+      f = listed-facts (identifyOf (l .config)) (l .config .solver) (passed l ok .ported)
 
       length-is : (P : List Placement) → length (answer C₀ P) ≡ answerSize (T₀ .board .sides)
       length-is P = unfold compile in (answer-length C₀ P)

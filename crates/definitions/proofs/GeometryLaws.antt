@@ -1,16 +1,16 @@
 -- The geometry of an accepted call's tray: images and sequences of moves. Assumes nothing.
-use Prim.Native.Nat.{ℕ, zero, suc, _+_, _-_, _≤_, _<_}
-use mathlib.Core.Bool.{Bool, true, false, cond, not, _&&_}
+use Prim.Native.Nat.{ℕ, _+_}
+use mathlib.Core.Bool.{Bool, true, false, not}
 use mathlib.Core.List.{List, [], _∷_, map, List·Memᴰ, List·Memᴰ·head, List·Memᴰ·tail, Memᴰ·cast, Memᴰ·of-map}
 use mathlib.Core.Path.{_≡_, refl, sym, ap, ap₂, _∙_, subst}
 use native.Mathlib.Omega.{arith}
-use lib.Dec.{T, leb, leb→le}
-use lib.ListN.{length, getD, take, drop, length-drop}
+use lib.Dec.{T, leb→le}
+use lib.ListN.{length, getD, drop, length-drop}
 use lib.Seq.{length-take-le}
-use Rattle.definitions.specs.Lists.{all, any, ascending}
-use Rattle.definitions.proofs.ListLaws.{and-left, and-right, all-at}
-use Rattle.definitions.specs.Grid.{Sides, Cell, Grid, volume, filledCells, sameGrid, InBox}
-use Rattle.definitions.specs.Maps.{Map, mapCell, mapGrid, turns}
+use Rattle.definitions.specs.Lists.{ascending}
+use Rattle.definitions.proofs.ListLaws.{all-at}
+use Rattle.definitions.specs.Grid.{Cell, Grid, volume, filledCells, InBox}
+use Rattle.definitions.specs.Maps.{Map, mapCell, mapGrid}
 use Rattle.definitions.proofs.MapLaws.{filled-at, turn-fits}
 use Rattle.definitions.proofs.GroupLaws.{sameGrid→eq, sameGrid-of}
 use Rattle.definitions.specs.Scan.{axes, cellAhead, scan, scanNumber}
@@ -21,18 +21,18 @@ use Rattle.definitions.specs.Kept.{Identify, kindAfter, image, images}
 use Rattle.definitions.specs.Kept.Identify.{None, Turned, Mirrored}
 use Rattle.definitions.specs.Moves.{Quarter, Move, Carries, inReach, bringsBack, isOdd, areTurns, gridAfter, cellAfterAll}
 use Rattle.definitions.specs.Moves.Move.{turn, mirroring}
-use Rattle.definitions.specs.Refusals.{Call, sidesOf, gridOf, trayOf, cellsLie, areBits, isTight, table, refusal}
+use Rattle.definitions.specs.Refusals.{Call, sidesOf, gridOf, trayOf, cellsLie, areBits, refusal}
 use Rattle.definitions.specs.declared.Record.{Record}
 use Rattle.definitions.proofs.SearchLaws.{WellMade}
-use Rattle.definitions.proofs.WellMadeLaws.{Nth, nth-mem, getD-nth, nth-number, mem-nth, number-below, up-board, ShapeFacts}
-use Rattle.definitions.proofs.ShapeLaws.{fails, bits, tight, shape-facts, accepted-well-made, variant-at, smallest-at, kind-at}
+use Rattle.definitions.proofs.WellMadeLaws.{nth-mem, getD-nth, nth-number, mem-nth, number-below, up-board, ShapeFacts}
+use Rattle.definitions.proofs.ShapeLaws.{bits, tight, shape-facts, accepted-well-made, variant-at, smallest-at, kind-at}
 use Rattle.definitions.proofs.CellLaws.{Tight, tight-of, tight-mapped, by-cells, nth-value, scan-filled, filled-scan}
 use Rattle.definitions.proofs.MoveLaws.{movesMap, moves-in, moves-cell, moves-grid, mapped-whole, mapped-bits, turn-moves, mirroring-moves, turns-even, turns-alone}
 use Rattle.definitions.proofs.PartnerLaws.{kinds-partner}
 use Rattle.definitions.proofs.ImageLaws.{Numbered, image-still, image-same, carried-image, image-carried}
-use Rattle.definitions.proofs.ActLaws.{mapsOf, may, Allowed, ImageUnder, images-at, images-of, self-image, back-image, next-image, on-cells, act-inj}
+use Rattle.definitions.proofs.ActLaws.{may, Allowed, ImageUnder, images-at, images-of, self-image, back-image, next-image, on-cells, act-inj}
 use Rattle.definitions.proofs.KeptLaws.{Acts}
-use Rattle.definitions.proofs.RefusalLaws.{none-applies}
+use Rattle.definitions.proofs.RefusalLaws.{PassedLent, passed}
 
 module _ (l : Call) (ok : refusal l ≡ 0) where
   abbrev T₀ : Tray
@@ -42,9 +42,8 @@ module _ (l : Call) (ok : refusal l ≡ 0) where
   facts = shape-facts l ok
 
   -- ---- what is tested
-  lie : T (all (cellsLie (l .bytes)) (l .board ∷ l .pieces))
-  unfolding table
-  lie = fails l ok (all (cellsLie (l .bytes)) (l .board ∷ l .pieces)) (none-applies l ok 3)
+  abbrev tested : PassedLent (l .pieces) (l .board) (l .bytes) (trayOf l)
+  tested = passed l ok .lent
 
   grid-whole : (r : Record) → T (cellsLie (l .bytes) r) → length (gridOf (l .bytes) r .cells) ≡ volume (gridOf (l .bytes) r .sides)
   unfolding gridOf cellsLie
@@ -55,17 +54,13 @@ module _ (l : Call) (ok : refusal l ≡ 0) where
 
   board-whole : length (T₀ .board .cells) ≡ volume (T₀ .board .sides)
   unfolding trayOf
-  board-whole = grid-whole (l .board) (all-at (cellsLie (l .bytes)) (l .board ∷ l .pieces) lie (List·Memᴰ·head refl))
+  board-whole = grid-whole (l .board) (all-at (cellsLie (l .bytes)) (l .board ∷ l .pieces) (tested .lie) (List·Memᴰ·head refl))
 
   pub piece-whole : (q : Piece) → List·Memᴰ q (T₀ .pieces) → length (q .grid .cells) ≡ volume (q .grid .sides)
   unfolding trayOf
   piece-whole q m =
       let r = Memᴰ·of-map (λ (r : Record). record { grid = gridOf (l .bytes) r; count = r .count }) (l .pieces) m in
-      subst (λ (g : Grid). length (g .cells) ≡ volume (g .sides)) (ap (λ (p : Piece). p .grid) (r .2)) (grid-whole (r .0) (all-at (cellsLie (l .bytes)) (l .board ∷ l .pieces) lie (List·Memᴰ·tail (r .1))))
-
-  board-bits : T (areBits (T₀ .board))
-  unfolding table
-  board-bits = and-left (areBits (T₀ .board)) (all (λ q. areBits (q .grid)) (T₀ .pieces)) (fails l ok (areBits (T₀ .board) && all (λ q. areBits (q .grid)) (T₀ .pieces)) (none-applies l ok 4))
+      subst (λ (g : Grid). length (g .cells) ≡ volume (g .sides)) (ap (λ (p : Piece). p .grid) (r .2)) (grid-whole (r .0) (all-at (cellsLie (l .bytes)) (l .board ∷ l .pieces) (tested .lie) (List·Memᴰ·tail (r .1))))
 
   pub good : (d : Kind) → List·Memᴰ d (kindsOf T₀) → (v : Grid) → List·Memᴰ v (variants (d .shape)) → Tight v × T (areBits v) × (length (v .cells) ≡ volume (v .sides))
   good d k v m =
@@ -124,7 +119,7 @@ module _ (l : Call) (ok : refusal l ≡ 0) where
 
   board-bits′ : T (areBits (C .board))
   unfolding compile
-  board-bits′ = board-bits
+  board-bits′ = tested .boardBits
 
   pub partners : (q r : Placement) → List·Memᴰ q (C .placements) → List·Memᴰ r (C .placements) → q .kind ≡ kindAfter C true (r .kind) → r .kind ≡ kindAfter C true (q .kind)
   partners = kinds-partner T₀ piece-whole W

@@ -1,15 +1,20 @@
--- The table of refusals: of an accepted call no test applies; and Demand 1. Assumes nothing.
-use Prim.Native.Nat.{ℕ, zero, suc, _<_}
+-- The table of refusals: of an accepted call no test applies, so each bound of the table holds, by name; and Demand 1. Assumes nothing.
+use Prim.Native.Nat.{ℕ, _<_, _≤_}
 use mathlib.Core.Bool.{Bool, true, false, cond, not, _&&_, _||_}
-use mathlib.Core.List.{List, [], _∷_, map}
+use mathlib.Core.List.{List, [], _∷_, List·Memᴰ·head}
 use mathlib.Core.Path.{_≡_, refl, sym, ap, _∙_, subst}
 use mathlib.Core.Logic.{_⊎_, inl, inr, _≢_}
 use native.Mathlib.Omega.{arith}
+use borrow.Author.Tests.{ltb-false, not-false}
 use lib.Dec.{T, ltb, eqb, eqb→eq, ltb→lt, eqb-refl}
-use lib.ListN.{getD}
-use Rattle.definitions.specs.Lists.{all, any}
-use Rattle.definitions.proofs.ListLaws.{and-left, and-right, and-both, or-left, or-right, or-cases, eqb-of, decide, is-true, is-false}
-use Rattle.definitions.specs.Refusals.{Call, Row, table, applies, firstThatApplies, refusal}
+use lib.ListN.{length}
+use Rattle.definitions.specs.Lists.{all, any, isEmpty}
+use Rattle.definitions.specs.Kinds.{Tray}
+use Rattle.definitions.specs.Placements.{compile}
+use Rattle.definitions.proofs.ListLaws.{and-left, and-right, and-both, or-left, or-right, or-cases, eqb-of, is-true, is-false, holds, all-at}
+use Rattle.definitions.specs.Refusals.{Call, Row, table, applies, firstThatApplies, refusal, trayOf, sidesFit, cellsLie, areBits, someFilled, isTight}
+use Rattle.definitions.specs.Refusals.{copyCount, boardCellCount, isPorted, isKnuth, placementCount, linkCount}
+use Rattle.definitions.specs.declared.Record.{Record}
 use Rattle.definitions.specs.Outcomes.{Outcome, accepted, refused, outcome}
 use Rattle.definitions.specs.Demands.{Demand1, demand1}
 
@@ -24,16 +29,29 @@ rising (r ∷ rs) = all (λ s. ltb (r .number) (s .number)) rs && rising rs
 abbrev hasRow : List Row → ℕ → Bool
 hasRow rs n = any (λ r. eqb (r .number) n && r .applies) rs
 
--- where no number is returned no row applies
-first-none : (rs : List Row) → T (numbered rs) → firstThatApplies rs ≡ 0 → (k : ℕ) → getD (map (λ r. r .applies) rs) k false ≡ false
-first-none [] t e k = refl
-first-none (r ∷ rs) t e k = go (r .applies) k e (λ (i : firstThatApplies rs ≡ 0) (j : ℕ). first-none rs (and-right (ltb 0 (r .number)) (numbered rs) t) i j)
+-- the test of the row with number n, wherever it stands in the table; false where no row has it
+abbrev pub testOf : List Row → ℕ → Bool
+testOf [] n = false
+testOf (r ∷ rs) n = cond (eqb (r .number) n) (r .applies) (testOf rs n)
+
+-- where no row of a list applies, not its first, and none of the rest
+pub none-first : (r : Row) (rs : List Row) → T (ltb 0 (r .number)) → firstThatApplies (r ∷ rs) ≡ 0 → (r .applies ≡ false) × (firstThatApplies rs ≡ 0)
+none-first r rs t e = go (r .applies) e
   where
-    go : (b : Bool) (j : ℕ) → cond b (r .number) (firstThatApplies rs) ≡ 0 → (firstThatApplies rs ≡ 0 → (m : ℕ) → getD (map (λ s. s .applies) rs) m false ≡ false)
-        → getD (b ∷ map (λ s. s .applies) rs) j false ≡ false
-    go true j i f = let p = ltb→lt 0 (r .number) (and-left (ltb 0 (r .number)) (numbered rs) t) in absurd (omega arith)
-    go false zero i f = refl
-    go false (suc j) i f = f i j
+    go : (b : Bool) → cond b (r .number) (firstThatApplies rs) ≡ 0 → (b ≡ false) × (firstThatApplies rs ≡ 0)
+    go true i = let p = ltb→lt 0 (r .number) t in absurd (omega arith)
+    go false i = (refl, i)
+
+-- where no number is returned the row with number n does not apply
+pub none-applies : (rs : List Row) → T (all (λ r. ltb 0 (r .number)) rs) → firstThatApplies rs ≡ 0 → (n : ℕ) → testOf rs n ≡ false
+none-applies [] t e n = refl
+none-applies (r ∷ rs) t e n =
+    let h = none-first r rs (and-left (ltb 0 (r .number)) (numbered rs) t) e in
+    go (eqb (r .number) n) (h .0) (none-applies rs (and-right (ltb 0 (r .number)) (numbered rs) t) (h .1) n)
+  where
+    go : (b : Bool) → r .applies ≡ false → testOf rs n ≡ false → cond b (r .applies) (testOf rs n) ≡ false
+    go true i f = i
+    go false i f = f
 
 -- the row returned applies, and none with a smaller number does
 first-applies : (rs : List Row) → T (numbered rs) → (firstThatApplies rs ≡ 0 → ⊥) → T (hasRow rs (firstThatApplies rs))
@@ -81,6 +99,67 @@ first-smallest (r ∷ rs) p t n h =
     go false (inl i) f = absurd (and-right (eqb (r .number) n) false i)
     go false (inr i) f = f i
 
+-- ---- what is known where no row applies, each fact by its name: who cites one does not say where in the table it is tested
+-- what is lent: records, a board and bytes, and the tray that they make
+pub record PassedLent (rs : List Record) (board : Record) (bytes : List ℕ) (t : Tray) : Type 0 where
+  pub somePiece : isEmpty rs ≡ false
+  pub fewPieces : length rs ≤ 16
+  pub sides : T (all sidesFit (board ∷ rs))
+  pub lie : T (all (cellsLie bytes) (board ∷ rs))
+  pub boardBits : T (areBits (t .board))
+  pub bits : T (all (λ q. areBits (q .grid)) (t .pieces))
+  pub filled : T (all (λ q. someFilled (q .grid)) (t .pieces))
+  pub tight : T (all (λ q. isTight (q .grid)) (t .pieces))
+  pub fewCopies : copyCount t ≤ 128
+  pub fewCells : boardCellCount t ≤ 128
+
+-- where none of the tests 1 to 9 applies
+module _ (rs : List Record) (board : Record) (bytes : List ℕ) (t : Tray) where
+  abbrev allFit : Bool
+  allFit = all sidesFit (board ∷ rs)
+
+  abbrev allLie : Bool
+  allLie = all (cellsLie bytes) (board ∷ rs)
+
+  abbrev allBits : Bool
+  allBits = all (λ q. areBits (q .grid)) (t .pieces)
+
+  abbrev allFilled : Bool
+  allFilled = all (λ q. someFilled (q .grid)) (t .pieces)
+
+  abbrev allTight : Bool
+  allTight = all (λ q. isTight (q .grid)) (t .pieces)
+
+  passes : (b : Bool) → not b ≡ false → T b
+  passes b e = holds b (not-false b e)
+
+  pub passed-lent : isEmpty rs ≡ false → ltb 16 (length rs) ≡ false → not (all sidesFit (board ∷ rs)) ≡ false → not (all (cellsLie bytes) (board ∷ rs)) ≡ false
+      → not (areBits (t .board) && all (λ q. areBits (q .grid)) (t .pieces)) ≡ false → not (all (λ q. someFilled (q .grid)) (t .pieces)) ≡ false
+      → not (all (λ q. isTight (q .grid)) (t .pieces)) ≡ false → ltb 128 (copyCount t) ≡ false → ltb 128 (boardCellCount t) ≡ false → PassedLent rs board bytes t
+  passed-lent e1 e2 e3 e4 e5 e6 e7 e8 e9 =
+      record {
+        somePiece = e1;
+        fewPieces = ltb-false 16 (length rs) e2;
+        sides = passes allFit e3;
+        lie = passes allLie e4;
+        boardBits = and-left (areBits (t .board)) allBits (passes (areBits (t .board) && allBits) e5);
+        bits = and-right (areBits (t .board)) allBits (passes (areBits (t .board) && allBits) e5);
+        filled = passes allFilled e6;
+        tight = passes allTight e7;
+        fewCopies = ltb-false 128 (copyCount t) e8;
+        fewCells = ltb-false 128 (boardCellCount t) e9;
+      }
+
+-- all of an accepted call
+pub record Passed (l : Call) : Type 0 where
+  pub lent : PassedLent (l .pieces) (l .board) (l .bytes) (trayOf l)
+  pub turnedToo : (l .config .«identify_mirrored_answers» && not (l .config .«identify_transformed_answers»)) ≡ false
+  pub ported : T (isPorted (l .config .solver))
+  pub workLong : 8192 ≤ length (l .work)
+  pub linksLong : isKnuth (l .config .solver) ≡ true → 32768 ≤ length (l .links)
+  pub fewPlacements : placementCount (compile (trayOf l)) ≤ 1024
+  pub fewLinks : isKnuth (l .config .solver) ≡ true → linkCount (compile (trayOf l)) ≤ 4096
+
 -- ---- the table of a call
 module _ (l : Call) where
   table-numbered : T (numbered (table l))
@@ -91,10 +170,24 @@ module _ (l : Call) where
   unfolding table
   table-rising = tt
 
-  -- of an accepted call the test in place k fails
-  pub none-applies : refusal l ≡ 0 → (k : ℕ) → getD (map (λ r. r .applies) (table l)) k false ≡ false
-  unfolding refusal
-  none-applies ok k = first-none (table l) table-numbered ok k
+  -- of an accepted call no test applies, so it has passed them all
+  pub passed : refusal l ≡ 0 → Passed l
+  unfolding refusal table
+  passed ok =
+      let none : (n : ℕ) → testOf (table l) n ≡ false = none-applies (table l) table-numbered ok in
+      record {
+        lent = passed-lent (l .pieces) (l .board) (l .bytes) (trayOf l) (none 1) (none 2) (none 3) (none 4) (none 5) (none 6) (none 7) (none 8) (none 9);
+        turnedToo = none 10;
+        ported = holds (isPorted (l .config .solver)) (not-false (isPorted (l .config .solver)) (none 11));
+        workLong = ltb-false (length (l .work)) 8192 (none 12);
+        linksLong = λ e. ltb-false (length (l .links)) 32768 (subst (λ (b : Bool). (b && ltb (length (l .links)) 32768) ≡ false) e (none 13));
+        fewPlacements = ltb-false 1024 (placementCount (compile (trayOf l))) (none 14);
+        fewLinks = λ e. ltb-false 4096 (linkCount (compile (trayOf l))) (subst (λ (b : Bool). (b && ltb 4096 (linkCount (compile (trayOf l)))) ≡ false) e (none 15));
+      }
+
+  -- the sides of its board are 1 to 8
+  pub board-sides : refusal l ≡ 0 → T (sidesFit (l .board))
+  board-sides ok = all-at sidesFit (l .board ∷ l .pieces) (passed ok .lent .sides) (List·Memᴰ·head refl)
 
   number-of : outcome l .number ≡ refusal l
   unfolding outcome accepted refused

@@ -1,27 +1,27 @@
 -- The variants of a kind have as many filled cells as its shape, so the tray of an accepted call is well made. Assumes nothing.
 use Prim.Native.Nat.{ℕ, zero, suc, _+_, _*_, _≤_, _<_}
 use mathlib.Core.Bool.{Bool, true, false, cond, not, _&&_, _||_}
-use mathlib.Core.List.{List, [], _∷_, map, List·Memᴰ, List·Memᴰ·head, List·Memᴰ·tail, List·Memᴰ·not-nil, List·Memᴰ·cases-cons, Memᴰ·cast, Memᴰ·map, Memᴰ·of-map, head-eq-of-cons-eq, tail-eq-of-cons-eq}
-use mathlib.Core.Path.{_≡_, refl, sym, ap, ap₂, _∙_, subst}
+use mathlib.Core.List.{List, [], _∷_, map, List·Memᴰ, List·Memᴰ·head, List·Memᴰ·tail, List·Memᴰ·not-nil, List·Memᴰ·cases-cons, Memᴰ·cast, Memᴰ·of-map, head-eq-of-cons-eq, tail-eq-of-cons-eq}
+use mathlib.Core.Path.{_≡_, refl, sym, ap, _∙_, subst}
 use mathlib.Core.Logic.{_⊎_, inl, inr}
 use native.Mathlib.Nat.{le-antisymm}
 use native.Mathlib.Omega.{arith}
-use lib.Dec.{T, ltb, leb, eqb, eqb→eq, ltb→lt, lt→ltb, leb→le, nltb→le, eqb-refl}
+use lib.Dec.{T, ltb, leb, eqb, leb→le, nltb→le}
 use lib.ListN.{length, getD}
-use Rattle.definitions.specs.Lists.{all, any, howMany, keep, ascending, put, sort, numbered, numberedFrom, headOr, less, sum, isEmpty, Apart}
-use Rattle.definitions.proofs.ListLaws.{and-left, and-right, all-at, any-at, or-left, or-right, keep-at, decide, clash, eqb-of, is-true, is-false, not-T, put-at, put-tail, less-total, apart-ascending, apart-length, sort-ascending}
-use Rattle.definitions.proofs.CountLaws.{total, total-same, howMany-total, howMany-length, sum-map}
+use Rattle.definitions.specs.Lists.{all, any, put, sort, headOr, less, sum, isEmpty, Apart}
+use Rattle.definitions.proofs.ListLaws.{and-left, and-right, all-at, decide, clash, eqb-of, put-tail, less-total, apart-ascending, apart-length, sort-ascending}
+use Rattle.definitions.proofs.CountLaws.{total-same, howMany-total, howMany-length, sum-map}
 use Rattle.definitions.specs.Grid.{Sides, Cell, Grid, box, byteAt, gridWith, filledCells, gridAhead, InBox}
 use Rattle.definitions.specs.Maps.{Map, side, coordinate, mapSides, mapCell, inverse, mapGrid, turns, transform, permutations, parity}
-use Rattle.definitions.proofs.MapLaws.{box-at, byte-with, cell-path, Fits, turn-fits, filled-apart, filled-length, mapped-byte}
+use Rattle.definitions.proofs.MapLaws.{box-at, cell-path, turn-fits, filled-apart, filled-length, mapped-byte}
 use Rattle.definitions.specs.Scan.{axisAhead, axes, cellAhead, scan}
 use Rattle.definitions.specs.Kinds.{Piece, Tray, variants, smallest, Sorted, sorted, shapes, Kind, kindsOf}
 use Rattle.definitions.specs.Placements.{compile}
 use Rattle.definitions.proofs.SearchLaws.{WellMade}
 use Rattle.definitions.proofs.EngineLaws.{sort-at}
-use Rattle.definitions.proofs.WellMadeLaws.{ShapeFacts, well-made, cell-trans, cell-irrefl, scan-ascending, numbered-at, nth-mem}
-use Rattle.definitions.specs.Refusals.{Call, trayOf, areBits, filledWhere, isTight, table, refusal}
-use Rattle.definitions.proofs.RefusalLaws.{none-applies}
+use Rattle.definitions.proofs.WellMadeLaws.{ShapeFacts, well-made, cell-trans, cell-irrefl, numbered-at, nth-mem}
+use Rattle.definitions.specs.Refusals.{Call, trayOf, areBits, filledWhere, isTight, refusal}
+use Rattle.definitions.proofs.RefusalLaws.{passed}
 
 -- ---- a sorted list has the entries of the list, where only equals are tied
 module _ {A : Type 0} (ahead : A → A → Bool) (tied : (x y : A) → T (not (ahead x y)) → T (not (ahead y x)) → x ≡ y) where
@@ -182,17 +182,11 @@ kind-at t d k =
 
 -- ---- accepted calls
 module _ (l : Call) (ok : refusal l ≡ 0) where
-  pub fails : (b : Bool) → not b ≡ false → T b
-  fails true e = tt
-  fails false e = absurd (subst T e tt)
-
   pub bits : (q : Piece) → List·Memᴰ q (trayOf l .pieces) → T (areBits (q .grid))
-  unfolding table
-  bits q m = all-at (λ (x : Piece). areBits (x .grid)) (trayOf l .pieces) (and-right (areBits (trayOf l .board)) (all (λ x. areBits (x .grid)) (trayOf l .pieces)) (fails (areBits (trayOf l .board) && all (λ x. areBits (x .grid)) (trayOf l .pieces)) (none-applies l ok 4))) m
+  bits q m = all-at (λ (x : Piece). areBits (x .grid)) (trayOf l .pieces) (passed l ok .lent .bits) m
 
   pub tight : (q : Piece) → List·Memᴰ q (trayOf l .pieces) → T (isTight (q .grid))
-  unfolding table
-  tight q m = all-at (λ (x : Piece). isTight (x .grid)) (trayOf l .pieces) (fails (all (λ x. isTight (x .grid)) (trayOf l .pieces)) (none-applies l ok 6)) m
+  tight q m = all-at (λ (x : Piece). isTight (x .grid)) (trayOf l .pieces) (passed l ok .lent .tight) m
 
   some-filled : (g : Grid) → T (isTight g) → 0 < length (filledCells g)
   unfolding isTight filledWhere

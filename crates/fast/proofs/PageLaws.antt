@@ -1,34 +1,31 @@
 -- What a page copies and counts: copies taken from every other byte, and the cells of all pieces, one piece after
 -- the other. Assumes nothing.
 use Prim.Native.Nat.{ℕ, _+_, _*_, _≤_, _<_}
-use mathlib.Core.Bool.{false, _&&_}
-use mathlib.Core.List.{List, _++_, map}
-use mathlib.Core.Path.{_≡_, refl, sym, ap, _∙_}
+use mathlib.Core.List.{List, map}
+use mathlib.Core.Path.{_≡_, refl, sym, ap, _∙_, subst}
 use native.Mathlib.Nat.{mul-le-mul}
 use native.Mathlib.Omega.{arith}
 use borrow.Author.Count.{below-more}
-use borrow.Author.Tests.{not-false}
 use lib.Dec.{T, eqb}
-use lib.ListN.{length, getD, take, drop, set, replicate, drop-of-length-le}
+use lib.ListN.{length, getD, take, drop, set, drop-of-length-le}
 use lib.Seq.{length-take-le, getD-take, getD-set-same, getD-set-other}
 use Rattle.definitions.specs.Lists.{all, below, howMany, sum}
 use Rattle.definitions.specs.Grid.{volume}
 use Rattle.definitions.specs.Kinds.{Piece}
-use Rattle.definitions.specs.Refusals.{Row, gridOf, sidesOf, areBits, copyCount}
+use Rattle.definitions.specs.Refusals.{gridOf, sidesOf, areBits, copyCount}
 use Rattle.definitions.specs.declared.Record.{Record}
-use Rattle.definitions.proofs.ListLaws.{and-right, holds, is-true}
+use Rattle.definitions.proofs.ListLaws.{is-true}
 use Rattle.shape.proofs.PlaceLaws.{volume-small}
 use Rattle.placements.specs.declared.Table.{Table}
 use Rattle.placements.specs.Tables.{noRecord, recordsOf, pieceOf, trayIn}
-use Rattle.placements.specs.Stages.{lentRows}
 use Rattle.placements.specs.Merging.{Sound}
 use Rattle.placements.specs.Counting.{Accepted9}
-use Rattle.placements.proofs.RefusalLaws.{sides-small, cells-count, grid-rows, records-few, records-count, records-from, record-passes}
+use Rattle.placements.proofs.RefusalLaws.{sides-small, cells-count, all-grids, records-few, records-count, records-from, record-passes}
 use Rattle.placements.proofs.MergingLaws.{record-fits}
 use Rattle.placements.proofs.CountingLaws.{lent-passes, sound}
 use Rattle.fast.specs.Pruned.{cellsOfAll}
 use Rattle.rows.proofs.PairLaws.{map-below}
-use Rattle.rows.proofs.KindListLaws.{none-applies, few-copies, one-few}
+use Rattle.rows.proofs.KindListLaws.{few-copies, one-few}
 
 -- ---- the copies of each kind
 pub left-next : (kinds left : List ℕ) (k : ℕ) → k < length left → ((j : ℕ) → j < k → getD left j 0 ≡ getD kinds (2 * j) 0)
@@ -60,12 +57,7 @@ module _ (t : Table) (board : Record) (bytes : List ℕ) (long : length (t .rows
   lent = sound t board bytes (lent-passes t board bytes ok)
 
   all-bits : T (all (λ q. areBits (gridOf bytes q)) (recordsOf t))
-  unfolding Accepted9 lentRows
-  all-bits =
-      let row5 = none-applies (lentRows (recordsOf t) board bytes) (rw (grid-rows (recordsOf t) board bytes) tt) ok 4 in
-      let told = ap (λ (l : List Row). getD (map (λ r. r .applies) l) 0 false) (sym (grid-rows (recordsOf t) board bytes)) ∙ row5 in
-      and-right (areBits (gridOf bytes board)) (all (λ q. areBits (gridOf bytes q)) (recordsOf t))
-      (holds (areBits (gridOf bytes board) && all (λ q. areBits (gridOf bytes q)) (recordsOf t)) (not-false (areBits (gridOf bytes board) && all (λ q. areBits (gridOf bytes q)) (recordsOf t)) told))
+  all-bits = subst T (all-grids areBits bytes (recordsOf t)) (lent-passes t board bytes ok .passed .bits)
 
   module _ (i : ℕ) (h : i < t .n) where
     abbrev piece : Record

@@ -1,11 +1,11 @@
 -- The slices in which a tray's row system stands are as the engines ask. Assumes nothing.
 use Prim.Native.Nat.{ℕ, _*_, _≤_, _<_}
-use mathlib.Core.Bool.{Bool, true, false, not, _&&_}
+use mathlib.Core.Bool.{false, _&&_}
 use mathlib.Core.List.{List, [], _∷_, map, List·Memᴰ, List·Memᴰ·head, List·Memᴰ·not-nil}
 use mathlib.Core.Path.{_≡_, refl, sym, ap, _∙_, subst}
 use native.Mathlib.Nat.{mul-pos}
 use native.Mathlib.Omega.{arith}
-use lib.Dec.{T, leb, leb→le, nltb→le}
+use lib.Dec.{T, leb, leb→le}
 use lib.ListN.{length, take, drop, length-map}
 use Rattle.definitions.specs.Lists.{below, from, isEmpty}
 use Rattle.definitions.specs.Grid.{Grid, volume, sameGrid, gridAhead}
@@ -14,12 +14,12 @@ use Rattle.definitions.specs.Kinds.{Tray, smallest, sorted, shapes, kindsOf}
 use Rattle.definitions.specs.Placements.{Compiled, compile}
 use Rattle.definitions.specs.Kept.{symmetries}
 use Rattle.definitions.specs.Orders.{start}
-use Rattle.definitions.specs.Refusals.{Call, trayOf, gridOf, sidesOf, isSide, sidesFit, placementCount, table, refusal}
+use Rattle.definitions.specs.Refusals.{Call, trayOf, gridOf, sidesOf, isSide, sidesFit, placementCount, refusal}
 use Rattle.definitions.specs.declared.Record.{Record}
 use Rattle.definitions.proofs.ListLaws.{and-left, and-right, keep-length, length-from, length-below}
 use Rattle.definitions.proofs.ShapeLaws.{sort-of}
 use Rattle.definitions.proofs.PartnerLaws.{grids-tied}
-use Rattle.definitions.proofs.RefusalLaws.{none-applies}
+use Rattle.definitions.proofs.RefusalLaws.{passed}
 use Rattle.shape.proofs.PlaceLaws.{volume-small}
 use Rattle.placements.specs.declared.Table.{Table}
 use Rattle.placements.specs.Tables.{pieceOf, recordsOf, trayIn}
@@ -99,16 +99,16 @@ module _ (t : Table) (board : Record) (bytes : List ℕ) (ok : Accepted9 t board
   system-lawful = lawful call passes (copies-many (trayOf call))
 
   pieces-few : length (owned (trayIn (recordsOf t) board bytes)) ≤ 16
-  unfolding owned table
+  unfolding owned
   pieces-few =
-      let a = nltb→le 16 (length (recordsOf t)) (subst (λ (b : Bool). T (not b)) (sym (none-applies call passes 1)) tt) in
+      let a = passed call passes .lent .fewPieces in
       let b = length-map (recordsOf t) (pieceOf bytes) in
       let c : length (owned tray) ≡ length (map (pieceOf bytes) (recordsOf t)) = length-map (map (pieceOf bytes) (recordsOf t)) _ in
       omega arith
 
   pub kind-some : 0 < length (C .kinds)
-  unfolding compile table
-  kind-some = kinds-some board bytes (recordsOf t) (none-applies call passes 0)
+  unfolding compile
+  kind-some = kinds-some board bytes (recordsOf t) (passed call passes .lent .somePiece)
 
   -- ---- the slices that the system stands in
   module _ (d : Dims) (work images scans kinds pieces : List ℕ) (is : systemIn d work images scans kinds pieces ≡ systemOf (trayIn (recordsOf t) board bytes)) where

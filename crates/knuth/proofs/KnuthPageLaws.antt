@@ -5,7 +5,6 @@ use mathlib.Core.Bool.{Bool}
 use mathlib.Core.List.{List, [], _++_, List·Memᴰ·not-nil}
 use mathlib.Core.Path.{_≡_, refl, sym, ap, _∙_, subst}
 use native.Mathlib.Omega.{arith}
-use borrow.Author.Tests.{ltb-false}
 use lib.ListN.{length, getD, drop, replicate, length-map, length-drop}
 use lib.Seq.{ext-getD, getD-drop}
 use Rattle.definitions.specs.Kinds.{Tray, Kind}
@@ -14,14 +13,14 @@ use Rattle.definitions.specs.Packing.{limits}
 use Rattle.definitions.specs.Kept.{Identify}
 use Rattle.definitions.specs.Emission.{Emitted, emits}
 use Rattle.definitions.specs.Orders.{start, search, knuthChoices, knuthList, packings, listed}
-use Rattle.definitions.specs.Outcomes.{answersOf, capacity, cleared, refused, accepted, outcome, outcomeOf, numberOf}
-use Rattle.definitions.specs.Refusals.{Call, trayOf, identifyOf, isKnuth, placementCount, rowsOf, linkCount, firstThatApplies, refusal, table}
+use Rattle.definitions.specs.Outcomes.{answersOf, capacity, cleared, refused, outcomeOf, numberOf}
+use Rattle.definitions.specs.Refusals.{Call, trayOf, identifyOf, isKnuth, placementCount, rowsOf, linkCount, firstThatApplies, refusal}
 use Rattle.definitions.specs.declared.Record.{Record}
 use Rattle.definitions.specs.declared.Refusal.{Refusal}
 use Rattle.definitions.specs.declared.Listing.the-variants as listing
 use Rattle.definitions.specs.declared.Config.{Config}
 use Rattle.definitions.specs.declared.SolverKind.the-variants.{KnuthAlgorithm}
-use Rattle.definitions.proofs.RefusalLaws.{none-applies}
+use Rattle.definitions.proofs.RefusalLaws.{passed}
 use Rattle.definitions.proofs.GeometryLaws.{W}
 use Rattle.definitions.proofs.EngineLaws.{knuth-exact}
 use Rattle.placements.specs.declared.Table.{Table}
@@ -140,12 +139,12 @@ module _ (t : Table) (board : Record) (bytes : List ℕ) (turned mirrored : Bool
 
   -- an accepted call's links are long enough, and its tray's links few
   pub accepted-links : knuthNumber ≡ 0 → 32768 ≤ length links
-  unfolding table callOf isKnuth
-  accepted-links e = ltb-false (length links) 32768 (none-applies its (refusal-is ∙ e) 12)
+  unfolding callOf isKnuth
+  accepted-links e = passed its (refusal-is ∙ e) .linksLong refl
 
   pub accepted-count : knuthNumber ≡ 0 → linkCount (compile (trayIn (recordsOf t) board bytes)) ≤ 4096
-  unfolding table callOf isKnuth trayOf
-  accepted-count e = ltb-false 4096 (linkCount (compile (trayIn (recordsOf t) board bytes))) (none-applies its (refusal-is ∙ e) 14)
+  unfolding callOf isKnuth trayOf
+  accepted-count e = passed its (refusal-is ∙ e) .fewLinks refl
 
   -- refused or accepted, from the start of the list or from behind an entry
   pub refused-outcome : (last : List ℕ) (waiting : Bool) (why : Refusal) → numberOf why ≡ knuthNumber

@@ -1,8 +1,7 @@
 -- The first page holds the list's first entries, or the call is refused with document 01's number. Assumes nothing.
 use Prim.Native.Nat.{ℕ, _+_, _*_, _<_, _≤_}
 use mathlib.Core.Bool.{Bool, true, false, cond, _&&_}
-use mathlib.Core.List.{List, _++_, List·Memᴰ·head}
-use mathlib.Core.List.{_∷_}
+use mathlib.Core.List.{List, _++_}
 use mathlib.Core.Logic.{inl}
 use mathlib.Core.Path.{_≡_, refl, sym, ap, _∙_, subst}
 use native.Mathlib.Nat.{mul-le-mul-right, mul-pos}
@@ -13,15 +12,13 @@ use lib.ListN.{length, take, drop}
 use lib.Seq.{length-take-le}
 use Rattle.definitions.specs.Files.{callIn}
 use Rattle.definitions.specs.Grid.{volume}
-use Rattle.definitions.specs.Lists.{all}
 use Rattle.definitions.specs.Outcomes.{Outcome, accepted, answerSize, numberOf, outcome, outcomeOf, refused}
-use Rattle.definitions.specs.Refusals.{Call, isSide, refusal, sidesFit, sidesOf, table, trayOf}
+use Rattle.definitions.specs.Refusals.{Call, isSide, refusal, sidesFit, sidesOf, trayOf}
 use Rattle.definitions.specs.declared.Record.{Record}
 use Rattle.definitions.specs.declared.Refusal.{Refusal}
 use Rattle.definitions.specs.declared.Listing.the-variants as listing
-use Rattle.definitions.proofs.ListLaws.{all-at, and-left, and-right, is-true}
-use Rattle.definitions.proofs.RefusalLaws.{none-applies, outcome-refused}
-use Rattle.definitions.proofs.ShapeLaws.{fails}
+use Rattle.definitions.proofs.ListLaws.{and-left, and-right, is-true}
+use Rattle.definitions.proofs.RefusalLaws.{board-sides, outcome-refused}
 use Rattle.placements.specs.Tables.{recordsOf}
 use Rattle.placements.proofs.CountingLaws.{refused-some}
 use Rattle.solver.specs.Lent.{callWith}
@@ -56,10 +53,6 @@ box-some board t =
 places-fit : (board : Record) → T (sidesFit board) → placesOf board ≡ volume (sidesOf board)
 unfolding placesOf
 places-fit board t = ap (λ (b : Bool). cond b (volume (sidesOf board)) 0) (is-true (sidesFit board) t)
-
-board-sides : (l : Call) → refusal l ≡ 0 → T (sidesFit (l .board))
-unfolding table
-board-sides l ok = all-at sidesFit (l .board ∷ l .pieces) (fails l ok (all sidesFit (l .board ∷ l .pieces)) (none-applies l ok 2)) (List·Memᴰ·head refl)
 
 abbrev pub startWith : Asked → ℕ → ℕ → Bool → Progress
 startWith asked places n further = record { begun = true; asked = asked; base = 0; from = 0; written = n; further = further; room = 1; places = places }

@@ -1,30 +1,21 @@
 -- What a call's acceptance tells: no row of the table applies, so none of each part does, and a row that does not apply gives its bound. Assumes nothing.
-use Prim.Native.Nat.{ℕ, zero, suc, _≤_}
-use mathlib.Core.Bool.{Bool, true, false, cond}
-use mathlib.Core.List.{List, [], _∷_, _++_, map, append-assoc}
+use Prim.Native.Nat.{ℕ, _≤_}
+use mathlib.Core.Bool.{Bool, cond}
+use mathlib.Core.List.{List, [], _∷_, _++_, append-assoc}
 use mathlib.Core.Path.{_≡_, refl, sym, ap, _∙_}
-use native.Mathlib.Omega.{arith}
 use borrow.Author.Tests.{ltb-false}
-use lib.Dec.{T, ltb, ltb→lt}
-use lib.ListN.{getD}
+use lib.Dec.{T, ltb}
 use Rattle.definitions.specs.Lists.{all}
 use Rattle.definitions.specs.Placements.{Compiled, compile}
 use Rattle.definitions.specs.Refusals.{Row, placementCount, firstThatApplies}
 use Rattle.definitions.specs.declared.Record.{Record}
 use Rattle.definitions.specs.declared.Config.{Config}
 use Rattle.definitions.proofs.ListLaws.{and-left, and-right}
+use Rattle.definitions.proofs.RefusalLaws.{none-first, none-applies}
 use Rattle.placements.specs.declared.Table.{Table}
 use Rattle.placements.specs.Tables.{recordsOf, trayIn}
 use Rattle.placements.specs.Stages.{lentRows, gridRows, callRows, countRows}
 use Rattle.placements.specs.Counting.{Accepted9}
-
--- where no row of a list applies, not its first, and none of the rest
-none-first : (r : Row) (xs : List Row) → T (ltb 0 (r .number)) → firstThatApplies (r ∷ xs) ≡ 0 → (r .applies ≡ false) × (firstThatApplies xs ≡ 0)
-none-first r xs p e = go (r .applies) e
-  where
-    go : (b : Bool) → cond b (r .number) (firstThatApplies xs) ≡ 0 → (b ≡ false) × (firstThatApplies xs ≡ 0)
-    go true i = let l = ltb→lt 0 (r .number) p in absurd (omega arith)
-    go false i = (refl, i)
 
 -- where no row of two lists applies, none of either does
 none-of-either : (xs ys : List Row) → T (all (λ r. ltb 0 (r .number)) xs) → firstThatApplies (xs ++ ys) ≡ 0 → (firstThatApplies xs ≡ 0) × (firstThatApplies ys ≡ 0)
@@ -34,22 +25,15 @@ none-of-either (r ∷ xs) ys p e =
     let i = none-of-either xs ys (and-right (ltb 0 (r .number)) (all (λ q. ltb 0 (q .number)) xs) p) (h .1) in
     (ap {B = ℕ} (λ (b : Bool). cond b (r .number) (firstThatApplies xs)) (h .0) ∙ i .0, i .1)
 
--- where no row applies, row k does not
-none-applies : (xs : List Row) → T (all (λ r. ltb 0 (r .number)) xs) → firstThatApplies xs ≡ 0 → (k : ℕ) → getD (map (λ r. r .applies) xs) k false ≡ false
-none-applies [] p e k = refl
-none-applies (r ∷ xs) p e zero = none-first r xs (and-left (ltb 0 (r .number)) (all (λ q. ltb 0 (q .number)) xs) p) e .0
-none-applies (r ∷ xs) p e (suc k) =
-    none-applies xs (and-right (ltb 0 (r .number)) (all (λ q. ltb 0 (q .number)) xs) p) (none-first r xs (and-left (ltb 0 (r .number)) (all (λ q. ltb 0 (q .number)) xs) p) e .1) k
-
 -- rows 10 to 13 let a call pass: its work slice is long enough
 pub work-long : (config : Config) (work links : ℕ) → firstThatApplies (callRows config work links) ≡ 0 → 8192 ≤ work
 unfolding callRows
-work-long config work links e = ltb-false work 8192 (none-applies (callRows config work links) tt e 2)
+work-long config work links e = ltb-false work 8192 (none-applies (callRows config work links) tt e 12)
 
 -- rows 14 and 15 let a call pass: its placements are few
 pub placements-few : (c : Compiled) (config : Config) → firstThatApplies (countRows c config) ≡ 0 → placementCount c ≤ 1024
 unfolding countRows
-placements-few c config e = ltb-false 1024 (placementCount c) (none-applies (countRows c config) tt e 0)
+placements-few c config e = ltb-false 1024 (placementCount c) (none-applies (countRows c config) tt e 14)
 
 module _ (t : Table) (board : Record) (bytes : List ℕ) (config : Config) (work links : ℕ) where
   abbrev lent : List Row

@@ -1,6 +1,6 @@
 -- Counting: how many placements a kind has, how many placements and links a tray has, and what rows 1 to 9 tell of a tray that they let pass.
 -- Assumes nothing.
-use Prim.Native.Nat.{ℕ, zero, suc, _+_, _*_, _≤_, _<_}
+use Prim.Native.Nat.{ℕ, suc, _+_, _*_, _≤_, _<_}
 use mathlib.Core.Bool.{Bool, true, false, cond, not}
 use mathlib.Core.List.{List, [], _∷_, _++_, map, append-assoc, List·Memᴰ, List·Memᴰ·head, List·Memᴰ·tail, Memᴰ·map, Memᴰ·of-map}
 use mathlib.Core.Path.{_≡_, refl, sym, ap, ap₂, _∙_, subst}
@@ -8,9 +8,9 @@ use mathlib.Core.Logic.{_⊎_, inl, inr}
 use native.Mathlib.Nat.{zero-mul, mul-zero, mul-one, add-mul, mul-le-mul}
 use native.Mathlib.Numerals.{add-one}
 use native.Mathlib.Omega.{arith}
-use borrow.Author.Tests.{leb-true, ltb-false}
+use borrow.Author.Tests.{leb-true}
 use lib.Dec.{T, ltb, leb, eqb, ltb→lt, lt→ltb, eqb→eq}
-use lib.ListN.{length, getD, take, drop, replicate, length-replicate, length-map, length-drop, drop-of-length-le}
+use lib.ListN.{length, getD, take, drop, length-replicate, length-map, length-drop, drop-of-length-le}
 use lib.Seq.{length-take-le, drop-cons, getD-take}
 use Rattle.definitions.specs.Lists.{all, howMany, keep, consIf, sum, joined, numbered, numberedFrom}
 use Rattle.definitions.specs.Grid.{Sides, Cell, Grid, volume, box, byteAt, filledCells}
@@ -18,7 +18,7 @@ use Rattle.definitions.specs.Scan.{axes, scan, scanNumber}
 use Rattle.definitions.specs.Kinds.{Tray, Kind, kindsOf, variants, smallest, sorted, shapes, copiesOf, partnerOf}
 use Rattle.definitions.specs.Placements.{origin, lies, fits, Placement, placementsAt, placementsOf, compile}
 use Rattle.definitions.specs.Packing.{limits}
-use Rattle.definitions.specs.Refusals.{Row, row, gridOf, sidesOf, sidesFit, cellsLie, boardCellCount, placementCount, linkCount, rowsOf, firstThatApplies}
+use Rattle.definitions.specs.Refusals.{Row, gridOf, sidesOf, sidesFit, cellsLie, boardCellCount, placementCount, linkCount, rowsOf, firstThatApplies}
 use Rattle.definitions.specs.Outcomes.{numberOf}
 use Rattle.definitions.specs.declared.Record.{Record}
 use Rattle.definitions.specs.declared.Config.{Config}
@@ -31,6 +31,7 @@ use Rattle.definitions.proofs.GroupLaws.{bytes-whole, map-same}
 use Rattle.definitions.proofs.WellMadeLaws.{Nth, nth-mem, nth-getD}
 use Rattle.definitions.proofs.KindLaws.{nth-at}
 use Rattle.definitions.proofs.ShapeLaws.{scan-length, smallest-at}
+use Rattle.definitions.proofs.RefusalLaws.{PassedLent, testOf, none-applies, passed-lent}
 use Rattle.definitions.proofs.PartnerLaws.{variants-turned}
 use Rattle.shape.specs.declared.Coord.{Coord}
 use Rattle.shape.specs.Coords.{asSides}
@@ -232,16 +233,6 @@ first-decides (r ∷ xs) ys e = go (r .applies) e (λ (i : firstThatApplies xs �
     go true i f = refl
     go false i f = f i
 
-none-applies : (xs : List Row) → T (all (λ r. ltb 0 (r .number)) xs) → firstThatApplies xs ≡ 0 → (k : ℕ) → getD (map (λ r. r .applies) xs) k false ≡ false
-none-applies [] p e k = refl
-none-applies (r ∷ xs) p e k = go (r .applies) k e (λ (i : firstThatApplies xs ≡ 0) (j : ℕ). none-applies xs (and-right (ltb 0 (r .number)) (all (λ q. ltb 0 (q .number)) xs) p) i j)
-  where
-    go : (b : Bool) (j : ℕ) → cond b (r .number) (firstThatApplies xs) ≡ 0 → (firstThatApplies xs ≡ 0 → (m : ℕ) → getD (map (λ q. q .applies) xs) m false ≡ false)
-        → getD (b ∷ map (λ q. q .applies) xs) j false ≡ false
-    go true j i f = let l = ltb→lt 0 (r .number) (and-left (ltb 0 (r .number)) (all (λ q. ltb 0 (q .number)) xs) p) in absurd (omega arith)
-    go false zero i f = refl
-    go false (suc j) i f = f i j
-
 -- a refusal has a number from 1 on
 pub refused-some : (why : Refusal) → numberOf why ≡ 0 → ⊥
 refused-some NoPiece e = omega arith
@@ -291,35 +282,26 @@ module _ (t : Table) (board : Record) (bytes : List ℕ) (config : Config) (work
   pub counts-decide : firstThatApplies lent ≡ 0 → firstThatApplies call ≡ 0 → firstThatApplies (lent ++ call ++ counts) ≡ firstThatApplies counts
   counts-decide e f = past-lent e ∙ first-passes call counts call-numbered f
 
--- ---- what rows 1 to 9 leave
+-- ---- what rows 1 to 9 leave: their bounds, and so few records that the table lists them all
 pub record Lent (t : Table) (board : Record) (bytes : List ℕ) : Type 0 where
   pub few : t .n ≤ 16
-  pub sides : T (all sidesFit (board ∷ recordsOf t))
-  pub lie : T (all (cellsLie bytes) (board ∷ recordsOf t))
-  pub cells : sum (gridOf bytes board .cells) ≤ 128
+  pub passed : PassedLent (recordsOf t) board bytes (trayIn (recordsOf t) board bytes)
 
-passed : (b : Bool) → not b ≡ false → T b
-passed true e = tt
-passed false e = absurd (subst T e tt)
-
-few-records : (t : Table) → ltb 16 (length (recordsOf t)) ≡ false → t .n ≤ 16
+few-records : (t : Table) → length (recordsOf t) ≤ 16 → t .n ≤ 16
 unfolding recordsOf
 few-records t = go (leb (t .n) 16) refl
   where
-    go : (b : Bool) → leb (t .n) 16 ≡ b → ltb 16 (length (listed b t)) ≡ false → t .n ≤ 16
+    go : (b : Bool) → leb (t .n) 16 ≡ b → length (listed b t) ≤ 16 → t .n ≤ 16
     go true e h = leb-true (t .n) 16 e
-    go false e h = let l = ltb-false 16 (length (replicate (t .n) noRecord)) h in let k = length-replicate (t .n) noRecord in omega arith
+    go false e h = let k = length-replicate (t .n) noRecord in omega arith
 
 pub lent-passes : (t : Table) (board : Record) (bytes : List ℕ) → Accepted9 t board bytes → Lent t board bytes
-unfolding Accepted9 lentRows gridRows boardCellCount
+unfolding Accepted9 lentRows gridRows
 lent-passes t board bytes ok =
-    let none : (k : ℕ) → getD (map (λ r. r .applies) (lentRows (recordsOf t) board bytes)) k false ≡ false = none-applies (lentRows (recordsOf t) board bytes) tt ok in
-    record {
-      few = few-records t (none 1);
-      sides = passed (all sidesFit (board ∷ recordsOf t)) (none 2);
-      lie = passed (all (cellsLie bytes) (board ∷ recordsOf t)) (none 3);
-      cells = ltb-false 128 (sum (gridOf bytes board .cells)) (none 8);
-    }
+    let rs = recordsOf t in
+    let none : (n : ℕ) → testOf (lentRows rs board bytes) n ≡ false = none-applies (lentRows rs board bytes) tt ok in
+    let h = passed-lent rs board bytes (trayIn rs board bytes) (none 1) (none 2) (none 3) (none 4) (none 5) (none 6) (none 7) (none 8) (none 9) in
+    record { few = few-records t (h .fewPieces); passed = h }
 
 -- ---- a tray's counts by a piece of each kind
 -- the placements of piece i on a board, and the links of their rows
@@ -334,12 +316,16 @@ module _ (t : Table) (board : Record) (bytes : List ℕ) (l : Lent t board bytes
   sound =
       record {
         few = l .few;
-        sides = and-right (sidesFit board) (all sidesFit (recordsOf t)) (l .sides);
-        lie = and-right (cellsLie bytes board) (all (cellsLie bytes) (recordsOf t)) (l .lie);
+        sides = and-right (sidesFit board) (all sidesFit (recordsOf t)) (l .passed .sides);
+        lie = and-right (cellsLie bytes board) (all (cellsLie bytes) (recordsOf t)) (l .passed .lie);
       }
 
+  pub board-few : sum (gridOf bytes board .cells) ≤ 128
+  unfolding boardCellCount
+  board-few = l .passed .fewCells
+
   pub board-fits : T (sidesFit board) × T (cellsLie bytes board)
-  board-fits = (and-left (sidesFit board) (all sidesFit (recordsOf t)) (l .sides), and-left (cellsLie bytes board) (all (cellsLie bytes) (recordsOf t)) (l .lie))
+  board-fits = (and-left (sidesFit board) (all sidesFit (recordsOf t)) (l .passed .sides), and-left (cellsLie bytes board) (all (cellsLie bytes) (recordsOf t)) (l .passed .lie))
 
   -- the grid of a lent record is whole
   grid-size : (r : Record) → T (cellsLie bytes r) → length (gridOf bytes r .cells) ≡ volume (gridOf bytes r .sides)

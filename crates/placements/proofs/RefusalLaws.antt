@@ -192,7 +192,7 @@ module _ (t : Table) (long : length (t .rows) ≡ 16) (i : ℕ) where
       ap (λ (l : List Record). sum (map (λ q. q .count) l)) (drop-of-length-le (recordsOf t) e)
 
 -- ---- the rows of the table of refusals: 5 to 9, by the records
-all-grids : (p : Grid → Bool) (bytes : List ℕ) (rs : List Record) → all (λ q. p (q .grid)) (map (pieceOf bytes) rs) ≡ all (λ q. p (gridOf bytes q)) rs
+pub all-grids : (p : Grid → Bool) (bytes : List ℕ) (rs : List Record) → all (λ q. p (q .grid)) (map (pieceOf bytes) rs) ≡ all (λ q. p (gridOf bytes q)) rs
 all-grids p bytes [] = refl
 all-grids p bytes (r ∷ rs) = ap (λ (b : Bool). p (gridOf bytes r) && b) (all-grids p bytes rs)
 

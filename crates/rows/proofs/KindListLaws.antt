@@ -4,19 +4,18 @@ use mathlib.Core.Bool.{Bool, true, false, cond}
 use mathlib.Core.List.{List, [], _∷_, map}
 use mathlib.Core.Path.{_≡_, refl, sym, ap, ap₂, _∙_}
 use native.Mathlib.Omega.{arith}
-use borrow.Author.Tests.{ltb-false}
-use lib.Dec.{T, ltb, ltb→lt}
+use lib.Dec.{ltb, ltb→lt}
 use lib.ListN.{length, getD, take, drop, set, length-map, length-drop, List·getD-map}
 use lib.Seq.{paste, length-take-le, getD-take}
-use Rattle.definitions.specs.Lists.{all, before, below, sum}
+use Rattle.definitions.specs.Lists.{before, below, sum}
 use Rattle.definitions.specs.Grid.{Grid, volume, sameGrid}
 use Rattle.definitions.specs.Maps.{Map, mapGrid, mapOf, mirror, product, identity, maps, turns, mirrorings, transform, permutations, parity, axisAt, flipAt}
 use Rattle.definitions.specs.Kinds.{Piece, Tray, Kind, kindsOf, smallest, sorted, shapes, copiesOf, partnerOf}
 use Rattle.definitions.specs.Placements.{compile}
 use Rattle.definitions.specs.Packing.{limits}
-use Rattle.definitions.specs.Refusals.{Row, gridOf, sidesOf, copyCount, firstThatApplies}
+use Rattle.definitions.specs.Refusals.{gridOf, sidesOf, copyCount}
 use Rattle.definitions.specs.declared.Record.{Record}
-use Rattle.definitions.proofs.ListLaws.{and-left, and-right, all-at, length-below}
+use Rattle.definitions.proofs.ListLaws.{all-at, length-below}
 use Rattle.definitions.proofs.MapLaws.{map-map-of}
 use Rattle.definitions.proofs.GroupLaws.{identity-grid, map-same}
 use Rattle.definitions.proofs.ActLaws.{product-on}
@@ -24,7 +23,6 @@ use Rattle.definitions.proofs.MoveLaws.{mirror-in, mapped-whole}
 use Rattle.definitions.proofs.PartnerLaws.{mirror-twice}
 use Rattle.placements.specs.declared.Table.{Table}
 use Rattle.placements.specs.Tables.{noRecord, recordsOf, pieceOf, trayIn}
-use Rattle.placements.specs.Stages.{lentRows, gridRows}
 use Rattle.placements.specs.Merging.{Sound, gridAt, shapeAt, shapesOf, AreKinds, copiesAt}
 use Rattle.placements.specs.Counting.{Accepted9}
 use Rattle.placements.proofs.RefusalLaws.{cells-end, records-few, records-count}
@@ -34,19 +32,8 @@ use Rattle.rows.specs.Systems.{Owned, KindsIn, owned, ownedIn}
 use Rattle.rows.proofs.PairLaws.{number-at, map-below, pairs, first-stored, second-stored, front-next}
 
 -- ---- a tray has at most 128 copies
-pub none-applies : (xs : List Row) → T (all (λ r. ltb 0 (r .number)) xs) → firstThatApplies xs ≡ 0 → (k : ℕ) → getD (map (λ r. r .applies) xs) k false ≡ false
-none-applies [] p e k = refl
-none-applies (r ∷ xs) p e k = go (r .applies) k e (λ (i : firstThatApplies xs ≡ 0) (j : ℕ). none-applies xs (and-right (ltb 0 (r .number)) (all (λ q. ltb 0 (q .number)) xs) p) i j)
-  where
-    go : (b : Bool) (j : ℕ) → cond b (r .number) (firstThatApplies xs) ≡ 0 → (firstThatApplies xs ≡ 0 → (m : ℕ) → getD (map (λ q. q .applies) xs) m false ≡ false)
-        → getD (b ∷ map (λ q. q .applies) xs) j false ≡ false
-    go true j i f = let l = ltb→lt 0 (r .number) (and-left (ltb 0 (r .number)) (all (λ q. ltb 0 (q .number)) xs) p) in absurd (omega arith)
-    go false zero i f = refl
-    go false (suc j) i f = f i j
-
 pub few-copies : (t : Table) (board : Record) (bytes : List ℕ) → Accepted9 t board bytes → copyCount (trayIn (recordsOf t) board bytes) ≤ 128
-unfolding Accepted9 lentRows gridRows
-few-copies t board bytes ok = ltb-false 128 (copyCount (trayIn (recordsOf t) board bytes)) (none-applies (lentRows (recordsOf t) board bytes) tt ok 7)
+few-copies t board bytes ok = lent-passes t board bytes ok .passed .fewCopies
 
 abbrev counts : List ℕ → List Record → ℕ
 counts bytes rs = sum (map (λ q. q .count) (map (pieceOf bytes) rs))

@@ -1,10 +1,10 @@
 -- The system of an accepted tray is lawful: its rows are the tray's placements, its maps the board's, and the limits are those that a call must keep. Assumes nothing.
 use Prim.Native.Nat.{ℕ, suc, _+_, _≤_, _<_}
-use mathlib.Core.Bool.{Bool, true, false, cond, not, _&&_}
+use mathlib.Core.Bool.{Bool, true, false, cond}
 use mathlib.Core.List.{List, [], _∷_, map, List·Memᴰ, Memᴰ·cast, Memᴰ·map}
 use mathlib.Core.Path.{_≡_, refl, sym, ap, _∙_, subst}
 use native.Mathlib.Omega.{arith}
-use lib.Dec.{T, ltb, nltb→le}
+use lib.Dec.{T, ltb}
 use lib.ListN.{length, getD, length-map, length-append}
 use Rattle.definitions.specs.Lists.{consIf, all, keep, each, below, numberedFrom, member, ascending, sum}
 use Rattle.definitions.specs.Grid.{Grid, Cell, box, sameGrid, gridAhead, filledCells}
@@ -14,15 +14,15 @@ use Rattle.definitions.specs.Kinds.{Piece, Sorted, Copy, Kind, sorted, shapes, 
 use Rattle.definitions.specs.Placements.{Placement, Compiled, compile}
 use Rattle.definitions.specs.Packing.{limits}
 use Rattle.definitions.specs.Kept.{kindAfter}
-use Rattle.definitions.specs.Refusals.{Call, trayOf, areBits, copyCount, boardCellCount, placementCount, table, refusal}
-use Rattle.definitions.proofs.ListLaws.{and-left, keep-at, keep-of, keep-ascending, below-of, from-ascending, member-at, member-of, ltb-trans, ltb-irrefl, ascending-unique, and-right, not-again, length-below, apart-ascending, apart-length, is-false}
+use Rattle.definitions.specs.Refusals.{Call, trayOf, copyCount, boardCellCount, placementCount, refusal}
+use Rattle.definitions.proofs.ListLaws.{keep-at, keep-of, keep-ascending, below-of, from-ascending, member-at, member-of, ltb-trans, ltb-irrefl, ascending-unique, and-right, not-again, length-below, apart-ascending, apart-length, is-false}
 use Rattle.definitions.proofs.CountLaws.{total, total-add, total-zero, total-same, sum-map}
 use Rattle.definitions.proofs.GroupLaws.{identity-grid, sameGrid→eq}
 use Rattle.definitions.proofs.MapLaws.{map-map-of, box-of}
 use Rattle.definitions.proofs.CellLaws.{grid-trans, grid-irrefl}
 use Rattle.definitions.proofs.EngineLaws.{sort-at}
-use Rattle.definitions.proofs.RefusalLaws.{none-applies}
-use Rattle.definitions.proofs.ShapeLaws.{fails, sum-filled, scan-length}
+use Rattle.definitions.proofs.RefusalLaws.{PassedLent, passed}
+use Rattle.definitions.proofs.ShapeLaws.{sum-filled, scan-length}
 use Rattle.definitions.proofs.PartnerLaws.{gs, gs-up}
 use Rattle.definitions.proofs.SetDownLaws.{placement-once}
 use Rattle.definitions.proofs.GeometryLaws.{piece-whole, W, whole, numbered-cells, in-box}
@@ -84,9 +84,6 @@ counts-same : (i : ℕ) (ps : List Piece) → total (λ (q : Sorted). q .count) 
 counts-same i [] = refl
 counts-same i (p ∷ ps) = ap (λ (n : ℕ). p .count + n) (counts-same (suc i) ps)
 
-at-most : (m n : ℕ) → ltb m n ≡ false → n ≤ m
-at-most m n e = nltb→le m n (subst (λ (b : Bool). T (not b)) (sym e) tt)
-
 -- ---- cells that ascend and are below 128 are given back as they were
 pub spread-cells : (xs : List ℕ) → T (ascending ltb xs) → ((n : ℕ) → List·Memᴰ n xs → n < 128) → keep (λ n. member n xs) (below 128) ≡ xs
 spread-cells xs t h =
@@ -98,30 +95,27 @@ module _ (l : Call) (ok : refusal l ≡ 0) where
   C = compile (trayOf l)
 
   -- ---- limits
-  board-bits : T (areBits (trayOf l .board))
-  unfolding table
-  board-bits =
-      and-left (areBits (trayOf l .board)) (all (λ q. areBits (q .grid)) (trayOf l .pieces))
-      (fails l ok (areBits (trayOf l .board) && all (λ q. areBits (q .grid)) (trayOf l .pieces)) (none-applies l ok 4))
+  abbrev tested : PassedLent (l .pieces) (l .board) (l .bytes) (trayOf l)
+  tested = passed l ok .lent
 
   pub few-cells : length (compile (trayOf l) .cells) ≤ 128
-  unfolding compile table boardCellCount
+  unfolding compile boardCellCount
   few-cells =
       let g = trayOf l .board in
-      let a = at-most 128 (sum (g .cells)) (none-applies l ok 8) in
+      let a = tested .fewCells in
       let b : sum (g .cells) ≡ length (filledCells g) =
-      subst (λ (h : Grid). sum (h .cells) ≡ length (filledCells h)) (identity-grid g (whole l ok)) (sum-filled identity g board-bits) in
+      subst (λ (h : Grid). sum (h .cells) ≡ length (filledCells h)) (identity-grid g (whole l ok)) (sum-filled identity g (tested .boardBits)) in
       let c = scan-length (g .sides) g in
       omega arith
 
   pub few-rows : length (compile (trayOf l) .placements) ≤ 1024
-  unfolding table placementCount
-  few-rows = at-most 1024 (length (C .placements)) (none-applies l ok 13)
+  unfolding placementCount
+  few-rows = passed l ok .fewPlacements
 
   pub few-kinds : length (compile (trayOf l) .kinds) ≤ 16
-  unfolding compile table kindsOf trayOf gs shapes sorted
+  unfolding compile kindsOf trayOf gs shapes sorted
   few-kinds =
-      let a = at-most 16 (length (l .pieces)) (none-applies l ok 1) in
+      let a = tested .fewPieces in
       let qs = sorted (trayOf l) in
       let b = apart-length (shapes qs) (map (λ q. q .shape) qs) (apart-ascending gridAhead grid-irrefl (shapes qs) (gs-up (trayOf l) (piece-whole l ok)))
       (λ g m. sort-at gridAhead (map (λ (q : Sorted). q .shape) qs) m) in
@@ -132,9 +126,9 @@ module _ (l : Call) (ok : refusal l ≡ 0) where
       omega arith
 
   pub few-copies : sum (limits (compile (trayOf l))) ≤ 128
-  unfolding compile limits table kindsOf copyCount gs sorted
+  unfolding compile limits kindsOf copyCount gs sorted
   few-copies =
-      let a = at-most 128 (sum (map (λ q. q .count) (trayOf l .pieces))) (none-applies l ok 7) in
+      let a = tested .fewCopies in
       let qs = sorted (trayOf l) in
       let b = copies-all (shapes qs) (gs-up (trayOf l) (piece-whole l ok)) qs in
       let c = counts-same 0 (trayOf l .pieces) in

@@ -16,7 +16,7 @@ use Rattle.shape.proofs.PlaceLaws.{volume-small}
 use Rattle.placements.specs.Stages.{countRows}
 use Rattle.placements.specs.Counting.{OnBoard}
 use Rattle.placements.proofs.RefusalLaws.{grid-is, grid-whole}
-use Rattle.placements.proofs.CountingLaws.{Lent, lent-passes, sound, board-fits, board-size, on-board}
+use Rattle.placements.proofs.CountingLaws.{Lent, lent-passes, sound, board-fits, board-few, board-size, on-board}
 use borrow.Author.Needs.{needs}
 use Rattle.placements.proofs.counting.refusal_of_counts.Statement.{statement}
 use Rattle.placements.proofs.counting.refusal_of_counts.Tie as tie
@@ -43,7 +43,7 @@ cells-on c =
     let is = grid-is (now (z .args .bytes)) (z .args .board) (s .result) (now (cells .result)) (s .ensures) (cells .ensures .0) in
     on-board (asOrder (o .result)) (gridOf (now (z .args .bytes)) (z .args .board)) (q .last .1 .1 .1 .0) (q .result) (ap (λ (g : Grid). axes (g .sides)) (sym is) ∙ sym (o .ensures))
     (omega (arith, q .ensures .within, q .kept .1 .1 .1 .0))
-    (subst (λ (g : Grid). map (cellAt (g .sides)) (take (q .result) (q .last .1 .1 .1 .0)) ≡ scan (asOrder (o .result)) g) is (q .ensures .cells)) (board-size _ _ _ l) (l .cells)
+    (subst (λ (g : Grid). map (cellAt (g .sides)) (take (q .result) (q .last .1 .1 .1 .0)) ≡ scan (asOrder (o .result)) g) is (q .ensures .cells)) (board-size _ _ _ l) (board-few _ _ _ l)
 
 sides-of-requires : tie.Need-sides-of-requires
 sides-of-requires c κs = search needs

@@ -16,7 +16,7 @@ use Rattle.shape.specs.Scans.{asOrder}
 use Rattle.shape.proofs.PlaceLaws.{volume-small}
 use Rattle.placements.specs.Counting.{OnBoard}
 use Rattle.placements.proofs.RefusalLaws.{sides-small, grid-is, grid-whole}
-use Rattle.placements.proofs.CountingLaws.{Lent, lent-passes, sound, board-fits, board-size, on-board}
+use Rattle.placements.proofs.CountingLaws.{Lent, lent-passes, sound, board-fits, board-few, board-size, on-board}
 use Rattle.rows.specs.Boards.{Numbered}
 use Rattle.rows.proofs.BuildSystemLaws.{places-below, numbered-board, images-few, rows-are, rows-few, rows-first, rows-behind, system-is}
 use Rattle.rows.proofs.system.build_system.Statement.{statement}
@@ -86,7 +86,7 @@ cells-on c =
     let is = board-is (c .before .before .before) in
     on-board (asOrder (o .result)) (gridOf (now (z .args .bytes)) (z .args .board)) (q .last .1 .1 .1 .0) (q .result) (ap (λ (g : Grid). axes (g .sides)) (sym is) ∙ sym (o .ensures))
     (omega (arith, q .ensures .within, q .kept .1 .1 .1 .0))
-    (subst (λ (g : Grid). map (cellAt (g .sides)) (take (q .result) (q .last .1 .1 .1 .0)) ≡ scan (asOrder (o .result)) g) is (q .ensures .cells)) (board-size _ _ _ l) (l .cells)
+    (subst (λ (g : Grid). map (cellAt (g .sides)) (take (q .result) (q .last .1 .1 .1 .0)) ≡ scan (asOrder (o .result)) g) is (q .ensures .cells)) (board-size _ _ _ l) (board-few _ _ _ l)
 
 scans-room : (z : tie.Start) → volume (gridOf (now (z .args .bytes)) (z .args .board) .sides) ≤ length (now (z .args .scans))
 unfolding gridOf
