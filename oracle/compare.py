@@ -1,6 +1,8 @@
 #!/usr/bin/env python3
 """Compares the original with the model on random trays, each under both engines
-and the three identifications, and sorts every difference into a class.
+and the three identifications, and sorts every difference into a class. Trays
+without a piece are judged by document 01's packing alone: the original panics on
+each of them and is not asked, and the oracle's own list is held to the model's.
 
     compare.py SEED COUNT
 
@@ -40,6 +42,8 @@ AT_LIMITS = {
     "refused_8_copies_129": ("copies", 129),
     "filled_128": ("filled", 128),
     "refused_9_filled_129": ("filled", 129),
+    "empty_box_filled_128": ("filled", 128),
+    "refused_9_empty_box_filled_129": ("filled", 129),
     "placements_1024": ("placements", 1024),
     "refused_14_placements_1025": ("placements", 1025),
     "links_4096": ("links", 4096),
@@ -92,6 +96,10 @@ def under(tray, engine, identified):
     return b"config\t%s\t%s\n" % (engine.encode(), identified.encode()) + rest
 
 
+def is_empty_box(tray):
+    return is_well_formed(tray) and measure("pieces", tray) == 0
+
+
 def answers(listing):
     """The entries of a listing without their numbers, sorted."""
     return sorted(line.partition("\t")[2] for line in listing.splitlines()[:-1])
@@ -125,6 +133,9 @@ def main():
         if measure(what, tray) != number:
             found[UNEXPLAINED] += 1
             print("not at its limit: %s\n%s" % (name, tray.decode(errors="replace")))
+        if "empty_box" in name and is_well_formed(tray) and not is_empty_box(tray):
+            found[UNEXPLAINED] += 1
+            print("pieces in an empty box: %s\n%s" % (name, tray.decode(errors="replace")))
         problems = {}
         if model.listing(tray, problems) != expected:
             found[UNEXPLAINED] += 1
@@ -137,7 +148,10 @@ def main():
             original = run_original(variant)
             right = model.listing(variant, problems)
             if original == right:
-                found["equal, refused" if right.startswith("refused") else "equal, accepted"] += 1
+                how = "equal, refused" if right.startswith("refused") else "equal, accepted"
+                if how == "equal, accepted" and is_empty_box(variant):
+                    how = "equal, no piece: the original is not asked"
+                found[how] += 1
                 continue
             difference = classify(variant, original, right)
             found[difference] += 1

@@ -1,7 +1,8 @@
 #!/usr/bin/env python3
 """A plain model of document 01, written from its sentences and not from the
 original: parsing, refusals, kinds, placements, packings, which is kept, both
-engines' orders, answers and pages.
+engines' orders, answers and pages. No piece lent is a list like any other
+(document 02, A1): no kinds and no placements, and no refusal 1.
 
     model.py < tray                      what `pack` prints
     model.py page SKIP CAPACITY < tray   the entries of one page, how many were
@@ -164,7 +165,7 @@ class Placement:
 
 
 class Problem:
-    """A board and pieces that no refusal 1 to 9 stops."""
+    """A board and pieces that no refusal 2 to 9 stops."""
 
     def __init__(self, board, pieces):
         self.board = board
@@ -352,8 +353,10 @@ class Problem:
         all_cells = sum(
             len(copies) * self.kind_cells(kind) for kind, copies in enumerate(self.copies)
         )
+        # With no piece there is no kind 0, and nothing to place first.
         kind_0_first = (
             identified != "none"
+            and len(self.kinds) > 0
             and len(self.copies[0]) == 1
             and all_cells == len(self.scanned)
         )
@@ -388,11 +391,9 @@ def page(entries, skip, capacity):
 # ------------------------------------------------------------- refusals
 
 def refusal(engine, turned, mirrored, board, pieces, cells, work_words, link_numbers):
-    """The refusal 1 to 15 of a call, None if it is accepted. Records are (sides,
+    """The refusal 2 to 15 of a call, None if it is accepted. Records are (sides,
     count, start), the board's too; engines are auto, naive, fast, knuth."""
     records = [board] + pieces
-    if not pieces:
-        return 1
     if len(pieces) > 16:
         return 2
     if any(not 1 <= side <= 8 for sides, _, _ in records for side in sides):

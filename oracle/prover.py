@@ -7,13 +7,14 @@ the lists, pages and refusals with the original's.
 COUNT trays, each under both engines and the three identifications, a third of
 the calls with a random page; then REFUSED calls at or beyond the limits. What
 is expected comes from the original (`oracle`; `raw refusal` for what only a
-call can ask for), and from model.py where the original panics, where the order
-is document 01's alone (knuth, a kind without copies), or where no file can
-express a refused call. Each call is a line of a table in a crate `sample`, in
-a temporary repository beside a copy of crates/definitions, and each table has
-a theorem that is proved by computing. Needs `rt`, and `cargo build --release`
-here before. Prints what differs, the corners that the trays have, and a last
-line. Exit status 1 if anything differs or could not be computed.
+call can ask for), and from model.py where the original panics (as it does where
+no piece is lent), where the order is document 01's alone (knuth, a kind without
+copies), or where no file can express a refused call. Each call is a line of a
+table in a crate `sample`, in a temporary repository beside a copy of
+crates/definitions, and each table has a theorem that is proved by computing.
+Needs `rt`, and `cargo build --release` here before. Prints what differs, the
+corners that the trays have, and a last line. Exit status 1 if anything differs
+or could not be computed.
 """
 
 import collections
@@ -64,6 +65,7 @@ SPARE_PIECES = [
 THEMES = (
     "solid", "holes", "long", "flat", "outer layers", "no filled cell", "apart", "lent twice",
     "partner", "no partner", "unequal partners", "no copies", "spare", "several", "any",
+    "empty box",
 )
 
 
@@ -141,6 +143,8 @@ def random_board(rng, theme):
         ))
     if theme == "any":
         return random_board(rng, rng.choice(THEMES[:5]))
+    if theme == "empty box":
+        return random_board(rng, rng.choice(("no filled cell", "no filled cell", "any")))
     return random_board(rng, rng.choice(("holes", "long", "flat"))) if rng.random() < 0.4 else (
         with_holes(rng, box(rng, 2, 8), 8)
     )
@@ -176,6 +180,8 @@ def partner_of(kind):
 
 def random_pieces(rng, theme, board):
     """Pieces that fill the board, as a rule, and what the theme asks for beside."""
+    if theme == "empty box":
+        return []
     cells = model.filled_cells(board)
     parts = []
     if theme in ("partner", "no partner", "unequal partners") and rng.random() < 0.7:
@@ -272,7 +278,8 @@ def corners(problem):
             ("apart", any(is_apart(grid) for grid in grids)),
             ("lent twice", len(grids) > len(problem.kinds)),
             ("lent twice, turned", len(set(grids)) > len(problem.kinds)),
-            ("several of a kind", max(used) > 1),
+            ("no piece", not grids),
+            ("several of a kind", max(used, default=0) > 1),
             ("kind without copies", 0 in used),
             ("piece without copies", any(count == 0 for count, _ in problem.pieces)),
             ("spare cells", room > len(filled)),
@@ -321,8 +328,11 @@ def run(program, file, *words):
 def expected_list(file, problem):
     """The list that a file's listing has, and who printed it."""
     listing, source = run("oracle", file), "original"
-    # Cases 1 to 3 of docs/DIFFERENCES.md: a panic, or an order of document 01's.
-    if listing == "panic\n" or file.startswith("config\tknuth") and [] in problem.copies:
+    # The cases of docs/DIFFERENCES.md: a panic, an order of document 01's, no piece.
+    if not problem.pieces:
+        assert listing == model.listing(file.encode()), file
+        source = "model"
+    elif listing == "panic\n" or file.startswith("config\tknuth") and [] in problem.copies:
         listing, source = model.listing(file.encode()), "model"
     *entries, last = listing.splitlines()
     assert last == "packings\t%d" % len(entries), (file, listing)
@@ -431,14 +441,15 @@ def around(rng, limit):
 def random_refusal(rng, aim):
     """A call, made refused by number `aim` and sometimes by another one too; its
     grids stand one after the other in the bytes, as a file's do, unless that is
-    what is wrong with it."""
+    what is wrong with it. In some no piece is lent, where the number needs none."""
+    is_bare = aim not in (2, 6, 7, 8) and rng.random() < 0.3
     made = {
         "engine": rng.choice(ENGINES),
         "turned": rng.random() < 0.5,
         "board": with_holes(rng, box(rng, 1, 8, 4), rng.randint(0, 8)),
         "pieces": [
             (rng.randint(0, 3), turned(rng, rng.choice(SPARE_PIECES)))
-            for _ in range(rng.randint(1, 3))
+            for _ in range(0 if is_bare else rng.randint(1, 3))
         ],
         "work": 8192,
         "links": 32768,
@@ -447,7 +458,7 @@ def random_refusal(rng, aim):
     made["mirrored"] = made["turned"] and rng.random() < 0.5
     spoil(rng, made, aim)
     if rng.random() < 0.4:
-        spoil(rng, made, rng.randint(1, 13))
+        spoil(rng, made, rng.randint(2, 13))
     return made
 
 
@@ -455,9 +466,7 @@ def spoil(rng, made, number):
     pieces = made["pieces"]
     on_board = not pieces or rng.random() < 0.4
     at = rng.randrange(len(pieces)) if pieces else 0
-    if number == 1:
-        made["pieces"] = []
-    elif number == 2 and pieces:
+    if number == 2 and pieces:
         made["pieces"] = [pieces[0]] * around(rng, 16)
     elif number == 3:
         sides = list(shuffled(rng, (1, 1, rng.randint(1, 2))))
@@ -485,7 +494,7 @@ def spoil(rng, made, number):
             pieces[other] = (count, pieces[other][1])
     elif number == 9:
         sides = rng.choice(((8, 8, 3), (3, 7, 8), (6, 5, 5), (5, 6, 8), (2, 8, 8), (8, 4, 5)))
-        made["board"] = with_holes(rng, sides, max(129, around(rng, 128)) if pieces else 130)
+        made["board"] = with_holes(rng, sides, max(129, around(rng, 128)))
     elif number == 10:
         made["turned"], made["mirrored"] = False, True
     elif number == 11:
@@ -549,6 +558,7 @@ def refusal_line(rng, aim):
     )
     line = Line("refusals", call, str(number), 1e6 if number == 0 else 2e5 + 1e3 * len(lent))
     line.number = number
+    line.is_bare = not pieces
     return line.tell(file, "refusal %d" % number, source)
 
 
@@ -859,10 +869,12 @@ def main():
         pages += page_lines(rng, problem)
     refusals = []
     while len(refusals) < REFUSED:
-        line = refusal_line(rng, len(refusals) % 13 + 1)
+        line = refusal_line(rng, len(refusals) % 12 + 2)
         if line and (line.number or rng.random() < 0.3):
             refusals.append(line)
             covered["refusal %d" % line.number] += 1
+            if line.is_bare:
+                covered["refusal %d, no piece" % line.number] += 1
 
     with tempfile.TemporaryDirectory() as folder:
         prover = Prover(folder)

@@ -57,8 +57,6 @@ def symmetries(board, maps):
 def refusal(call):
     n, engine, turned, mirrored, work, links, _, records, data = call
     pieces = records[1:]
-    if n == 0:
-        return 1
     if n > 16:
         return 2
     if any(not 1 <= side <= 8 for record in records for side in record[:3]):
@@ -255,7 +253,6 @@ def limits():
     small = lent([(1, full(1, 1, 3)), (1, M), (1, D)])
     knuth = changed(small, engine=KNUTH)
     # each refusal, and each limit from both sides
-    yield lent([(1, full(1, 1, 1))])
     yield lent([(1, full(1, 1, 4))] + [(1, M)] * 16)
     yield lent([(1, full(1, 1, 4))] + [(1, M)] * 17)
     for side in ("a", "b", "c"):
@@ -350,6 +347,82 @@ def pairs():
         yield ways[number](large)
 
 
+def empty_boxes():
+    """The calls with no piece, all with pages; each board's row system is shown once, since no configuration changes it."""
+    shown = []
+    for call in without_pieces():
+        is_new = refusal(call) or call[7:] not in shown
+        shown.append(call[7:])
+        yield changed(call, paged=1 if is_new else 2)
+
+
+def without_pieces():
+    """Calls with no piece: the lists, and each refusal that is left, alone and two at once."""
+    def bare(board, engine=FAST, turned=0, mirrored=0):
+        return lent([(1, board)], engine, turned, mirrored)
+
+    identifications = ((0, 0), (1, 0), (1, 1))
+    # no filled cell: the one empty packing, in any box
+    for sides in ((1, 1, 1), (1, 1, 4), (2, 1, 2), (3, 3, 3), (4, 2, 3)):
+        for turned, mirrored in identifications:
+            yield bare(part(sides, 0), FAST, turned, mirrored)
+    for engine, (turned, mirrored) in zip((FAST, KNUTH, FAST), identifications):
+        yield bare(part((8, 8, 8), 0), engine, turned, mirrored)
+    yield bare(part((1, 1, 8), 0), KNUTH)
+    # any other board: no packing
+    boards = (full(1, 1, 1), part((1, 1, 4), 3), full(2, 2, 2), ((1, 3, 3), (1, 1, 1, 1, 0, 1, 1, 1, 1)), ((2, 1, 3), (0, 0, 0, 0, 1, 0)))
+    for board in boards:
+        for turned, mirrored in identifications:
+            yield bare(board, FAST, turned, mirrored)
+    yield bare(full(4, 4, 8), KNUTH, 1, 1)
+    yield bare(part((3, 8, 8), 128))
+    yield bare(part((3, 8, 8), 129))
+    # the board's record and cells; what lies beside its cells is not read, nor is its count
+    row = bare(part((1, 1, 3), 0), KNUTH)
+    for side in ("a", "b", "c"):
+        for length in (0, 8, 9, 257, 18446744073709551615 // 10):
+            yield record(row, 0, **{side: length})
+    for start in (1, 3, 4294967296, 999999999999999999):
+        yield record(row, 0, start=start)
+    yield record(row, 0, count=4294967295)
+    yield changed(row, data=[0, 0])
+    for place in range(3):
+        yield changed(row, data=[2 if i == place else 0 for i in range(3)])
+        yield changed(row, data=[9 if i == place else 1 for i in range(3)])
+    yield changed(row, data=[0, 0, 0, 2])
+    yield record(changed(row, data=[2, 0, 0, 0]), 0, start=1)
+    # the configuration and the lent lengths
+    for turned in (0, 1):
+        for mirrored in (0, 1):
+            for engine in range(4):
+                yield changed(row, turned=turned, mirrored=mirrored, engine=engine)
+    for work in (0, 8191, 8192, 8193):
+        yield changed(row, work=work)
+    for links in (0, 32767, 32768, 32769):
+        yield changed(row, links=links)
+        yield changed(row, links=links, engine=FAST)
+    yield from empty_pairs(row)
+
+
+def empty_pairs(row):
+    ways = {
+        3: lambda call: record(call, 0, b=9),
+        4: lambda call: record(call, 0, start=call[7][0][4] + 1),
+        5: lambda call: changed(call, data=call[8][:-1] + [2]),
+        10: lambda call: changed(call, turned=0, mirrored=1),
+        11: lambda call: changed(call, engine=1),
+        12: lambda call: changed(call, work=8191),
+        13: lambda call: changed(call, links=32767),
+    }
+    for first in ways:
+        for second in ways:
+            if first < second:
+                yield ways[second](ways[first](row))
+    large = lent([(1, part((3, 8, 8), 129))], engine=KNUTH)
+    for number in ways:
+        yield ways[number](large)
+
+
 def is_small(call):
     """Few enough cells that its pages are found at once."""
     return sum(call[8]) < 40
@@ -406,6 +479,8 @@ def main():
         for part_of in (limits, pairs):
             for call in part_of():
                 print(text(changed(call, paged=int(is_small(call)))))
+        for call in empty_boxes():
+            print(text(call))
         for call in trays(31, 700, 220):
             print(text(call))
         return

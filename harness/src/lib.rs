@@ -169,6 +169,33 @@ fn record(grid: &Grid, count: u32, bytes: &mut Vec<u8>) -> Record {
     }
 }
 
+/// What slices hold before a call.
+pub const STAIN: u8 = 170;
+const WORD_STAIN: u64 = 0xAAAA_AAAA_AAAA_AAAA;
+const LINK_STAIN: u16 = 0xAAAA;
+
+/// One page from stained slices of these lengths; what it must not touch is looked at.
+pub fn ask(lent: &Lent, start: Start, room: usize, words: usize, numbers: usize) -> Result<(Vec<u8>, Answer), String> {
+    let mut answers = vec![STAIN; room];
+    let mut work = vec![WORD_STAIN; words];
+    let mut links = vec![LINK_STAIN; numbers];
+    let answer = lent.page(start, &mut answers, &mut work, &mut links);
+    let is_accepted = answer.number == 0;
+    let cleared = if is_accepted { 8_192 } else { 0 };
+    let unlinked = if is_accepted && lent.engine == Engine::Knuth { 32_768 } else { 0 };
+    let behind = answer.written * lent.size();
+    let is_kept = answers[behind..].iter().all(|&byte| byte == STAIN)
+        && work[..cleared].iter().all(|&word| word == 0)
+        && work[cleared..].iter().all(|&word| word == WORD_STAIN)
+        && links[..unlinked].iter().all(|&link| link == 0)
+        && links[unlinked..].iter().all(|&link| link == LINK_STAIN);
+    if is_kept {
+        Ok((answers, answer))
+    } else {
+        Err("slices afterwards".to_string())
+    }
+}
+
 /// An answer's bytes as `pack` prints them.
 pub fn box_cells(bytes: &[u8]) -> String {
     let cell = |pair: &[u8]| match pair {

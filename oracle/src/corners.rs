@@ -2,6 +2,7 @@
 //! table, so a run meets each a known number of times whatever its seed.
 
 mod accepted;
+mod empty_box;
 mod refused;
 
 use crate::effort::{self, Bound};
@@ -24,6 +25,8 @@ const LONG: Bound = Bound { looks: 2_000_000, packings: 3_000 };
 enum Make {
     /// A board and pieces; None, and what passes the bound, is tried again.
     Parts(fn(&mut Random) -> Option<Parts>),
+    /// A board and no piece; None is tried again.
+    Board(fn(&mut Random) -> Option<Grid>),
     /// A plain tray with the faults of two refusals.
     Faults(u8, u8),
     /// A plain tray's file, changed.
@@ -62,13 +65,14 @@ impl Corner {
     fn attempt(&self, random: &mut Random, config: (&str, &str)) -> Option<Vec<u8>> {
         let (board, pieces) = match self.make {
             Make::Parts(parts) => parts(random)?,
+            Make::Board(board) => (board(random)?, vec![]),
             Make::Faults(one, other) => with_faults(random, [one, other])?,
             Make::File(_) | Make::Spoilt(_) => plain(random)?,
         };
         let file = tray::write(config, &board, &pieces);
         let text = |file| String::from_utf8(file).unwrap();
         Some(match self.make {
-            Make::Parts(_) | Make::Faults(..) => file,
+            Make::Parts(_) | Make::Board(_) | Make::Faults(..) => file,
             Make::File(change) => change(random, text(file)),
             Make::Spoilt(way) => malformed::spoil(random, way, text(file)),
         })
@@ -127,16 +131,19 @@ pub fn corners() -> Vec<Corner> {
     for &(name, parts) in WITH_LONG_SEARCHES {
         add(name.into(), Make::Parts(parts), None, LONG);
     }
+    for &(name, board) in empty_box::LISTED {
+        add(name.into(), Make::Board(board), None, SHORT);
+    }
+    for &(name, refused, board) in empty_box::REFUSED {
+        add(name.into(), Make::Board(board), Some(refused), SHORT);
+    }
     for &(name, refused, parts) in REFUSED {
         add(name.into(), Make::Parts(parts), Some(refused), LONG);
     }
     for (index, &one) in FAULTS.iter().enumerate() {
         for &other in &FAULTS[index + 1..] {
-            // A tray cannot have no piece and one that is at fault, or too many.
-            if one != 1 || other == 3 || other == 9 {
-                let name = format!("refused_{one}_and_{other}");
-                add(name, Make::Faults(one, other), Some(one), SHORT);
-            }
+            let name = format!("refused_{one}_and_{other}");
+            add(name, Make::Faults(one, other), Some(one), SHORT);
         }
     }
     for &(name, refused, change) in FILES {

@@ -3,20 +3,22 @@
 use std::fmt::Write;
 use std::panic;
 
-use crate::placements::shape;
+use crate::placements::{filled_cells, shape};
 use crate::refusals::{refusal_of_tray, MALFORMED};
 use crate::shape::{Answer, Shape};
 use crate::solver::{self, SolverKind};
-use crate::tray::{self, Engine, Tray};
+use crate::tray::{self, Engine, Grid, Tray};
 
 pub const PANIC: &str = "panic\n";
 
-/// What `pack` is to print for a file, or `panic` where the original panics.
+/// What `pack` is to print for a file, or `panic` where the original panics. With
+/// no piece it always does, so it is not asked there.
 pub fn of_file(file: &[u8]) -> String {
     match tray::parse(file, tray::config_of_file) {
         None => refused(MALFORMED),
         Some(tray) => match refusal_of_tray(&tray) {
             Some(number) => refused(number),
+            None if tray.pieces.is_empty() => of_empty_box(&tray.board),
             None => of_original(&tray),
         },
     }
@@ -24,6 +26,15 @@ pub fn of_file(file: &[u8]) -> String {
 
 pub fn refused(number: u8) -> String {
     format!("refused\t{number}\n")
+}
+
+/// The listing of a board with no piece lent: without filled cells it has the one
+/// empty packing, any other has none, whatever the engine and the identification.
+pub fn of_empty_box(board: &Grid) -> String {
+    if filled_cells(board) > 0 {
+        return "packings\t0\n".to_string();
+    }
+    format!("0\t{}\npackings\t1\n", vec!["-"; board.cells.len()].join(" "))
 }
 
 /// The listing of what the original's `solve` returns, or `panic`.

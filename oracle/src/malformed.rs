@@ -182,6 +182,19 @@ const OF_FIELDS: &[(&str, Spoil)] = &[
         file.0.resize(FIRST_PIECE + 40, piece);
         file.0[FIRST_PIECE + 39].pop();
     }),
+    ("empty_box_board_spoilt", |random, file| {
+        file.0.truncate(FIRST_PIECE);
+        let cells = file.cells(random);
+        match random.below(3) {
+            0 => drop(cells.pop()),
+            1 => cells.push('0'),
+            _ => cells.replace_range(..1, "2"),
+        }
+    }),
+    ("empty_box_empty_line", |_, file| {
+        file.0.truncate(FIRST_PIECE);
+        file.0.push(vec![String::new()])
+    }),
     ("beside_a_refusal", |random, file| {
         // A side of 9, nine cells: 3 if the other piece were well formed.
         let piece = ["piece", "1", "1", "1", "9", "111111111"].map(String::from).to_vec();
@@ -195,6 +208,9 @@ const OF_TEXT: &[(&str, fn(&mut Random, String) -> Vec<u8>)] = &[
     ("empty_file", |_, _| vec![]),
     ("line_feed_alone", |_, _| b"\n".to_vec()),
     ("no_last_line_feed", |_, text| text.trim_end().into()),
+    ("empty_box_no_last_line_feed", |_, text| {
+        text.lines().take(FIRST_PIECE).collect::<Vec<_>>().join("\n").into()
+    }),
     ("cut_off", |random, text| {
         // Anywhere but behind a whole line of a piece or the board.
         let ends: Vec<usize> =

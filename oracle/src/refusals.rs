@@ -1,5 +1,5 @@
-//! The refusals 1 to 15 of a call, tested in their order. The original knows none.
-//! (16, a malformed file, is the parser's.)
+//! The refusals 2 to 15 of a call, tested in their order. The original knows none.
+//! (16, a malformed file, is the parser's. No piece, once 1, is no refusal.)
 
 use crate::placements::{self, kinds};
 use crate::tray::{Config, Engine, Grid, Piece, Tray};
@@ -38,9 +38,6 @@ pub fn refusal(call: &Call) -> Option<u8> {
     let pieces = call.pieces;
     let grids = || std::iter::once(&call.board).chain(pieces);
 
-    if pieces.is_empty() {
-        return Some(1);
-    }
     if pieces.len() > MOST_PIECES {
         return Some(2);
     }
@@ -167,7 +164,6 @@ mod tests {
 
     #[test]
     fn the_pieces_and_their_cells() {
-        assert_eq!(of_pieces(&[]), Some(1));
         assert_eq!(of_pieces(&[CELL; 16]), None);
         assert_eq!(of_pieces(&[CELL; 17]), Some(2));
         assert_eq!(of_pieces(&[Record { sides: [1, 0, 1], ..CELL }]), Some(3));
@@ -223,5 +219,86 @@ mod tests {
         assert_eq!(with(CONFIG, work, links - 1), Some(13));
         assert_eq!(with(fast, work, 0), None);
         assert_eq!(with(CONFIG, work, links), None);
+    }
+
+    #[test]
+    fn no_piece_and_the_board() {
+        let with = |board, cells: &[u8]| refusal(&Call { board, ..call(&[], cells) });
+        let sides = |sides, cells: &[u8]| with(Record { sides, ..CELL }, cells);
+        let start = |start| with(Record { start, ..CELL }, &[0]);
+        assert_eq!(with(CELL, &[0]), None);
+        assert_eq!(with(CELL, &[1]), None);
+        assert_eq!(with(Record { count: u32::MAX, ..CELL }, &[0]), None);
+        for side in [0, 9, 257, u32::MAX] {
+            assert_eq!(sides([side, 1, 1], &[0; 512]), Some(3));
+            assert_eq!(sides([1, side, 1], &[0; 512]), Some(3));
+            assert_eq!(sides([1, 1, side], &[0; 512]), Some(3));
+        }
+        assert_eq!(sides([1, 1, 2], &[0]), Some(4));
+        assert_eq!(with(CELL, &[]), Some(4));
+        assert_eq!(start(1), Some(4));
+        assert_eq!(start(u64::MAX), Some(4));
+        assert_eq!(with(CELL, &[2]), Some(5));
+        assert_eq!(with(CELL, &[255]), Some(5));
+        // What lies beside the board's cells is not read.
+        assert_eq!(with(CELL, &[1, 2]), None);
+        assert_eq!(sides([8, 8, 8], &[0; 512]), None);
+        let filled = |number| [vec![0; 512 - number], vec![1; number]].concat();
+        assert_eq!(sides([8, 8, 8], &filled(128)), None);
+        assert_eq!(sides([8, 8, 8], &filled(129)), Some(9));
+    }
+
+    #[test]
+    fn no_piece_and_the_rest_of_the_call() {
+        let with = |config, work_words, link_numbers| {
+            refusal(&Call { config, work_words, link_numbers, ..call(&[], &[0]) })
+        };
+        let (work, links) = (WORK_WORDS, LINK_NUMBERS);
+        for engine in [Engine::Auto, Engine::Naive, Engine::Fast, Engine::Knuth] {
+            let config = Config { engine, turned: false, mirrored: true };
+            assert_eq!(with(config, 0, 0), Some(10));
+        }
+        for (turned, mirrored) in [(false, false), (true, false), (true, true)] {
+            let config = |engine| Config { engine, turned, mirrored };
+            assert_eq!(with(config(Engine::Auto), 0, 0), Some(11));
+            assert_eq!(with(config(Engine::Naive), work, links), Some(11));
+            assert_eq!(with(config(Engine::Fast), work - 1, links), Some(12));
+            assert_eq!(with(config(Engine::Knuth), work - 1, 0), Some(12));
+            assert_eq!(with(config(Engine::Knuth), work, links - 1), Some(13));
+            assert_eq!(with(config(Engine::Fast), work, 0), None);
+            assert_eq!(with(config(Engine::Knuth), work, links), None);
+        }
+    }
+
+    #[test]
+    fn no_piece_and_several_refusals() {
+        // Everything is wrong that can be; one after the other it is put right.
+        let (mut odd, full) = ([1; 512], [1; 512]);
+        odd[0] = 2;
+        let mut call = Call {
+            config: Config { engine: Engine::Naive, turned: false, mirrored: true },
+            board: Record { sides: [8, 8, 9], count: 0, start: 1 },
+            pieces: &[],
+            cells: &odd,
+            work_words: WORK_WORDS - 1,
+            link_numbers: LINK_NUMBERS - 1,
+        };
+        assert_eq!(refusal(&call), Some(3));
+        call.board.sides = [8, 8, 8];
+        assert_eq!(refusal(&call), Some(4));
+        call.board.start = 0;
+        assert_eq!(refusal(&call), Some(5));
+        call.cells = &full;
+        assert_eq!(refusal(&call), Some(9));
+        call.board.sides = [2, 8, 8];
+        assert_eq!(refusal(&call), Some(10));
+        call.config.turned = true;
+        assert_eq!(refusal(&call), Some(11));
+        call.config.engine = Engine::Knuth;
+        assert_eq!(refusal(&call), Some(12));
+        call.work_words = WORK_WORDS;
+        assert_eq!(refusal(&call), Some(13));
+        call.link_numbers = LINK_NUMBERS;
+        assert_eq!(refusal(&call), None);
     }
 }

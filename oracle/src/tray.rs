@@ -1,4 +1,4 @@
-//! The file that `pack` reads: a `config` line, a `board` line, `piece` lines.
+//! The file that `pack` reads: a `config` line, a `board` line, `piece` lines or none.
 
 /// More bytes than this make a file malformed.
 pub const LONGEST_FILE: usize = 16_384;

@@ -23,6 +23,7 @@ pub mod OrderLaws
 pub mod KnuthOrderLaws
 pub mod DemandLaws
 pub mod MeetLaws
+pub mod EmptyBoxLaws
 pub mod AnswersRightLaws
 pub mod EmissionLaws
 pub mod SetDownLaws

@@ -61,7 +61,7 @@ module _ (bytes : List ℕ) (file : T (isFile bytes)) (ok : refusal (callIn byte
   abbrev list : List (List ℕ)
   list = answersOf (trayOf l) (identifyOf (l .config)) (l .config .solver)
 
-  packed-listing : packed bytes ≡ listing list
+  pub packed-listing : packed bytes ≡ listing list
   unfolding packed
   packed-listing =
       let accepted : eqb (refusal l) 0 ≡ true = is-true (eqb (refusal l) 0) (eqb-of ok) in

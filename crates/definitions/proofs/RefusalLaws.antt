@@ -8,7 +8,7 @@ use native.Mathlib.Omega.{arith}
 use borrow.Author.Tests.{ltb-false, not-false}
 use lib.Dec.{T, ltb, eqb, eqb→eq, ltb→lt, eqb-refl}
 use lib.ListN.{length}
-use Rattle.definitions.specs.Lists.{all, any, isEmpty}
+use Rattle.definitions.specs.Lists.{all, any}
 use Rattle.definitions.specs.Kinds.{Tray}
 use Rattle.definitions.specs.Placements.{compile}
 use Rattle.definitions.proofs.ListLaws.{and-left, and-right, and-both, or-left, or-right, or-cases, eqb-of, is-true, is-false, holds, all-at}
@@ -102,7 +102,6 @@ first-smallest (r ∷ rs) p t n h =
 -- ---- what is known where no row applies, each fact by its name: who cites one does not say where in the table it is tested
 -- what is lent: records, a board and bytes, and the tray that they make
 pub record PassedLent (rs : List Record) (board : Record) (bytes : List ℕ) (t : Tray) : Type 0 where
-  pub somePiece : isEmpty rs ≡ false
   pub fewPieces : length rs ≤ 16
   pub sides : T (all sidesFit (board ∷ rs))
   pub lie : T (all (cellsLie bytes) (board ∷ rs))
@@ -113,7 +112,7 @@ pub record PassedLent (rs : List Record) (board : Record) (bytes : List ℕ) (t 
   pub fewCopies : copyCount t ≤ 128
   pub fewCells : boardCellCount t ≤ 128
 
--- where none of the tests 1 to 9 applies
+-- where none of the tests 2 to 9 applies
 module _ (rs : List Record) (board : Record) (bytes : List ℕ) (t : Tray) where
   abbrev allFit : Bool
   allFit = all sidesFit (board ∷ rs)
@@ -133,12 +132,11 @@ module _ (rs : List Record) (board : Record) (bytes : List ℕ) (t : Tray) where
   passes : (b : Bool) → not b ≡ false → T b
   passes b e = holds b (not-false b e)
 
-  pub passed-lent : isEmpty rs ≡ false → ltb 16 (length rs) ≡ false → not (all sidesFit (board ∷ rs)) ≡ false → not (all (cellsLie bytes) (board ∷ rs)) ≡ false
+  pub passed-lent : ltb 16 (length rs) ≡ false → not (all sidesFit (board ∷ rs)) ≡ false → not (all (cellsLie bytes) (board ∷ rs)) ≡ false
       → not (areBits (t .board) && all (λ q. areBits (q .grid)) (t .pieces)) ≡ false → not (all (λ q. someFilled (q .grid)) (t .pieces)) ≡ false
       → not (all (λ q. isTight (q .grid)) (t .pieces)) ≡ false → ltb 128 (copyCount t) ≡ false → ltb 128 (boardCellCount t) ≡ false → PassedLent rs board bytes t
-  passed-lent e1 e2 e3 e4 e5 e6 e7 e8 e9 =
+  passed-lent e2 e3 e4 e5 e6 e7 e8 e9 =
       record {
-        somePiece = e1;
         fewPieces = ltb-false 16 (length rs) e2;
         sides = passes allFit e3;
         lie = passes allLie e4;
@@ -176,7 +174,7 @@ module _ (l : Call) where
   passed ok =
       let none : (n : ℕ) → testOf (table l) n ≡ false = none-applies (table l) table-numbered ok in
       record {
-        lent = passed-lent (l .pieces) (l .board) (l .bytes) (trayOf l) (none 1) (none 2) (none 3) (none 4) (none 5) (none 6) (none 7) (none 8) (none 9);
+        lent = passed-lent (l .pieces) (l .board) (l .bytes) (trayOf l) (none 2) (none 3) (none 4) (none 5) (none 6) (none 7) (none 8) (none 9);
         turnedToo = none 10;
         ported = holds (isPorted (l .config .solver)) (not-false (isPorted (l .config .solver)) (none 11));
         workLong = ltb-false (length (l .work)) 8192 (none 12);

@@ -10,7 +10,7 @@ use lib.ListN.{replicate}
 use Rattle.definitions.specs.Lists.{same}
 use Rattle.definitions.specs.Placements.{compile}
 use Rattle.definitions.specs.Refusals.{Call, trayOf, placementCount, linkCount, refusal}
-use Rattle.definitions.specs.Outcomes.{Outcome, outcome}
+use Rattle.definitions.specs.Outcomes.{outcome}
 use Rattle.definitions.specs.Texts.{text}
 use Rattle.definitions.specs.Fillings.{Line, piece, board, M, D, none, turned, mirrored, lists}
 use Rattle.definitions.specs.Files.{Written, callOn, packed}
@@ -74,12 +74,26 @@ gives n l = record { number = n; call = l }
 abbrev pub m₀ : Record
 m₀ = at 1 1 1 1 0
 
+-- an empty box: no piece, and a board of one unfilled cell
+abbrev pub bare : Call
+bare = lending (at 0 1 1 1 0) [] (0 ∷ [])
+
 unfoldable pub refusals : List Expected
 refusals =
     gives 0 plain ∷
-    -- 1, and before 3: no piece, and the board has a side of 0
-    gives 1 (lending m₀ [] (1 ∷ [])) ∷
-    gives 1 (lending (at 0 0 1 1 0) [] (1 ∷ [])) ∷
+    -- no piece, once 1, is taken: what is wrong with the board, the configuration or a slice refuses it still, in the same order
+    gives 0 (lending m₀ [] (1 ∷ [])) ∷
+    gives 0 (asking true true KnuthAlgorithm bare) ∷
+    gives 3 (lending (at 0 0 1 1 0) [] (1 ∷ [])) ∷
+    gives 3 (lending (at 0 9 1 1 5) [] (1 ∷ [])) ∷
+    gives 4 (lending (at 0 1 1 2 0) [] (2 ∷ [])) ∷
+    gives 5 (asking false true Fast (lending m₀ [] (2 ∷ []))) ∷
+    gives 10 (asking false true Auto bare) ∷
+    gives 11 (asking false false Auto (slices 8191 32767 bare)) ∷
+    gives 11 (asking true true Naive bare) ∷
+    gives 12 (asking false false KnuthAlgorithm (slices 8191 32767 bare)) ∷
+    gives 13 (asking false false KnuthAlgorithm (slices 8192 32767 bare)) ∷
+    gives 0 (slices 8192 0 bare) ∷
     -- 2: 16 pieces are taken, 17 are not; before 3
     gives 0 (lending m₀ (replicate 16 m₀) (1 ∷ [])) ∷
     gives 2 (lending m₀ (replicate 17 m₀) (1 ∷ [])) ∷
@@ -151,6 +165,8 @@ largeBoards =
     gives 9 (lending (at 0 8 8 3 0) (bar 1 ∷ []) (replicate 129 1 ++ replicate 63 0)) ∷
     gives 8 (lending (at 0 8 8 3 0) (bar 129 ∷ []) (replicate 129 1 ++ replicate 63 0)) ∷
     gives 9 (asking false true Fast (lending (at 0 8 8 3 0) (bar 1 ∷ []) (replicate 129 1 ++ replicate 63 0))) ∷
+    gives 0 (lending (at 0 8 8 3 0) [] (replicate 128 1 ++ replicate 64 0)) ∷
+    gives 9 (asking false true Fast (lending (at 0 8 8 3 0) [] (replicate 129 1 ++ replicate 63 0))) ∷
     []
 
 unfoldable pub isGiven : Expected → Bool
@@ -186,6 +202,8 @@ afterwards =
     leaves (roomy Fast plain) 0 (0 ∷ 0 ∷ 7 ∷ []) (replicate 8192 0 ++ 7 ∷ 7 ∷ []) (replicate 32769 7) ∷
     leaves (roomy KnuthAlgorithm plain) 0 (0 ∷ 0 ∷ 7 ∷ []) (replicate 8192 0 ++ 7 ∷ 7 ∷ []) (replicate 32768 0 ++ 7 ∷ []) ∷
     leaves (roomy Auto plain) 11 (7 ∷ 7 ∷ 7 ∷ []) (replicate 8194 7) (replicate 32769 7) ∷
+    leaves (roomy Fast bare) 0 (255 ∷ 255 ∷ 7 ∷ []) (replicate 8192 0 ++ 7 ∷ 7 ∷ []) (replicate 32769 7) ∷
+    leaves (roomy KnuthAlgorithm bare) 0 (255 ∷ 255 ∷ 7 ∷ []) (replicate 8192 0 ++ 7 ∷ 7 ∷ []) (replicate 32768 0 ++ 7 ∷ []) ∷
     []
 
 unfoldable pub isLeft : Left → Bool
@@ -209,6 +227,7 @@ counts =
     -- one kind counts once, however many pieces are of it; a kind without copies counts for 14 and has no rows for 15
     counted (board 1 2 3 (cells 6 111111)) (D 1 ∷ piece 1 1 2 1 (cells 2 11) ∷ piece 0 2 1 1 (cells 2 11) ∷ []) 7 28 ∷
     counted (board 1 2 3 (cells 6 111111)) (D 0 ∷ []) 7 7 ∷
+    counted (board 1 2 3 (cells 6 111101)) [] 0 5 ∷
     counted (board 1 2 3 (cells 6 111111)) (M 0 ∷ D 2 ∷ []) 13 29 ∷
     counted (board 2 2 2 (cells 8 11111111)) (piece 1 2 2 2 (cells 8 11100100) ∷ piece 0 2 2 2 (cells 8 11100010) ∷ D 1 ∷ []) 36 107 ∷
     counted (board 1 3 3 (cells 9 111101111)) (D 1 ∷ piece 1 1 2 2 (cells 4 1110) ∷ []) 12 50 ∷
@@ -272,8 +291,12 @@ files =
     -- an unfilled cell; no packing; `mirrored` identifies turned packings too; leading zeros
     prints "config\tfast\tmirrored\nboard\t1\t1\t2\t10\npiece\t000000001\t001\t1\t1\t1\n" "0\t0.0 -\npackings\t1\n" ∷
     prints "config\tknuth\tnone\nboard\t1\t1\t1\t1\npiece\t0\t1\t1\t1\t1\n" "packings\t0\n" ∷
-    -- refusals: no piece; sides of 0 (with no cells) and 9
-    prints "config\tfast\tnone\nboard\t1\t1\t1\t1\n" "refused\t1\n" ∷
+    -- no piece: a filled cell, none, two of four, and a side of 9
+    prints "config\tfast\tnone\nboard\t1\t1\t1\t1\n" "packings\t0\n" ∷
+    prints "config\tfast\tturned\nboard\t2\t1\t2\t0000\n" "0\t- - - -\npackings\t1\n" ∷
+    prints "config\tknuth\tmirrored\nboard\t1\t1\t4\t0110\n" "packings\t0\n" ∷
+    prints "config\tfast\tnone\nboard\t1\t1\t9\t111111111\n" "refused\t3\n" ∷
+    -- refusals: sides of 0 (with no cells) and 9
     prints "config\tfast\tnone\nboard\t1\t0\t1\t\npiece\t1\t1\t1\t1\t1\n" "refused\t3\n" ∷
     prints "config\tfast\tnone\nboard\t1\t1\t9\t111111111\npiece\t1\t1\t1\t1\t1\n" "refused\t3\n" ∷
     -- malformed: nothing; no board; a line not ended, an empty line, a carriage return; words; fields; digits; cells

@@ -1,4 +1,4 @@
--- Document 01, "Fillings to hold it to": the lines marked to be proved, as one table. proofs/FillingLaws has the one theorem, which antt computes. Each line
+-- Document 01, "Fillings to hold it to": the lines marked to be proved, as one table, and those of document 02's requests. proofs/FillingLaws has the one theorem, which antt computes. Each line
 -- is held for both engines. M is one cell, D two in a row.
 use Prim.Native.Nat.{ℕ}
 use mathlib.Core.Bool.{Bool, true, false, not, _&&_}
@@ -8,9 +8,8 @@ use lib.ListN.{length, drop}
 use Rattle.definitions.specs.Lists.{same, joined}
 use Rattle.definitions.specs.Refusals.{Call}
 use Rattle.definitions.specs.Files.{Written, callOn}
-use Rattle.definitions.specs.Outcomes.{Outcome, outcome}
+use Rattle.definitions.specs.Outcomes.{outcome}
 use Rattle.definitions.specs.declared.SolverKind.{SolverKind}
-use Rattle.definitions.specs.declared.SolverKind.the-variants.{Fast, KnuthAlgorithm}
 
 abbrev pub piece : ℕ → ℕ → ℕ → ℕ → List ℕ → Written
 piece n i j k cells = record { count = n; a = i; b = j; c = k; cells = cells }
@@ -61,6 +60,15 @@ fillings =
     none (board 1 1 1 (1 ∷ [])) (M 0 ∷ []) [] ∷
     -- "1 by 1 by 1, `mirrored`, M and a handed four-cell piece: one."
     mirrored (board 1 1 1 (1 ∷ [])) (M 1 ∷ piece 1 2 2 2 (1 ∷ 1 ∷ 1 ∷ 0 ∷ 0 ∷ 1 ∷ 0 ∷ 0 ∷ []) ∷ []) ((0 ∷ 0 ∷ []) ∷ []) ∷
+    -- Document 02, A1, an empty box: "a board without filled cells has the one empty packing, every other board has none" (nor is there a kind 0 to be placed
+    -- first, though all copies together have as many cells as the board)
+    none (board 1 1 1 (0 ∷ [])) [] ((255 ∷ 255 ∷ []) ∷ []) ∷
+    turned (board 1 1 1 (0 ∷ [])) [] ((255 ∷ 255 ∷ []) ∷ []) ∷
+    mirrored (board 1 1 1 (0 ∷ [])) [] ((255 ∷ 255 ∷ []) ∷ []) ∷
+    turned (board 2 1 2 (0 ∷ 0 ∷ 0 ∷ 0 ∷ [])) [] ((255 ∷ 255 ∷ 255 ∷ 255 ∷ 255 ∷ 255 ∷ 255 ∷ 255 ∷ []) ∷ []) ∷
+    none (board 1 1 1 (1 ∷ [])) [] [] ∷
+    turned (board 1 1 1 (1 ∷ [])) [] [] ∷
+    mirrored (board 1 1 4 (0 ∷ 1 ∷ 1 ∷ 0 ∷ [])) [] [] ∷
     []
 
 abbrev pub sameTest : Bool → Bool → Bool

@@ -22,5 +22,6 @@ pub mod Pruning
 pub mod Texts
 pub mod Files
 pub mod Printed
+pub mod EmptyBox
 pub mod Fillings
 pub mod Boundaries

@@ -1,13 +1,13 @@
 -- Document 01, "Page" and what follows the table: what a call returns, and every slice lent to it afterwards.
 use Prim.Native.Nat.{ℕ, _*_, _/_}
-use mathlib.Core.Bool.{Bool, true, false, cond}
+use mathlib.Core.Bool.{Bool, false, cond}
 use mathlib.Core.List.{List, _++_, map}
 use lib.Dec.{eqb}
 use lib.ListN.{length, drop, replicate}
 use Rattle.definitions.specs.Lists.{joined}
 use Rattle.definitions.specs.Grid.{Sides, volume}
 use Rattle.definitions.specs.Kinds.{Tray}
-use Rattle.definitions.specs.Placements.{Compiled, compile}
+use Rattle.definitions.specs.Placements.{compile}
 use Rattle.definitions.specs.Kept.{Identify}
 use Rattle.definitions.specs.Orders.{listed}
 use Rattle.definitions.specs.Answers.{answer}
@@ -15,7 +15,8 @@ use Rattle.definitions.specs.Page.{Page, page}
 use Rattle.definitions.specs.Refusals.{Call, sidesOf, trayOf, identifyOf, isKnuth, refusal}
 use Rattle.definitions.specs.declared.SolverKind.{SolverKind}
 use Rattle.definitions.specs.declared.Refusal.{Refusal}
-use Rattle.definitions.specs.declared.Refusal.the-variants.{NoPiece, TooManyPieces, SideOutOfRange, CellsOutsideBytes, CellNotZeroOrOne, PieceWithoutFilledCell, EmptyOuterLayer, TooManyCopies, TooManyBoardCells, MirroredWithoutTurned, EngineNotPorted, WorkTooShort, LinksTooShort, TooManyPlacements, TooManyLinks}
+use Rattle.definitions.specs.declared.Refusal.the-variants.{TooManyPieces, SideOutOfRange, CellsOutsideBytes, CellNotZeroOrOne, PieceWithoutFilledCell, EmptyOuterLayer}
+use Rattle.definitions.specs.declared.Refusal.the-variants.{TooManyCopies, TooManyBoardCells, MirroredWithoutTurned, EngineNotPorted, WorkTooShort, LinksTooShort, TooManyPlacements, TooManyLinks}
 use Rattle.definitions.specs.declared.Listing.{Listing}
 use Rattle.definitions.specs.declared.Listing.the-variants as listing
 
@@ -79,7 +80,6 @@ outcome l =
 -- ---- the types of the code
 -- the number of a refusal in document 01's table
 abbrev pub numberOf : Refusal → ℕ
-numberOf NoPiece = 1
 numberOf TooManyPieces = 2
 numberOf SideOutOfRange = 3
 numberOf CellsOutsideBytes = 4

@@ -1,12 +1,13 @@
--- Document 01, "Limits" and the table of what is returned: the tests 1 to 15, and the first that applies.
-use Prim.Native.Nat.{ℕ, suc, _+_, _*_}
+-- Document 01, "Limits" and the table of what is returned: the tests 2 to 15, and the first that applies. (1, no piece is lent, is
+-- no test any more: document 02, A1.)
+use Prim.Native.Nat.{ℕ, suc, _+_}
 use mathlib.Core.Bool.{Bool, true, false, cond, not, _&&_}
 use mathlib.Core.List.{List, [], _∷_, map}
 use lib.Dec.{ltb, leb, eqb}
 use lib.ListN.{length, getD, take, drop}
-use Rattle.definitions.specs.Lists.{any, all, keep, sum, isEmpty}
+use Rattle.definitions.specs.Lists.{any, all, keep, sum}
 use Rattle.definitions.specs.Grid.{Sides, Cell, Grid, volume, filledCells}
-use Rattle.definitions.specs.Kinds.{Piece, Tray}
+use Rattle.definitions.specs.Kinds.{Tray}
 use Rattle.definitions.specs.Placements.{Placement, Compiled, compile}
 use Rattle.definitions.specs.Packing.{limits}
 use Rattle.definitions.specs.Kept.{Identify}
@@ -123,7 +124,6 @@ table l =
     let turned = l .config .«identify_transformed_answers» in
     let mirrored = l .config .«identify_mirrored_answers» in
     let knuth = isKnuth (l .config .solver) in
-    row 1 (isEmpty (l .pieces)) ∷
     row 2 (ltb 16 (length (l .pieces))) ∷
     row 3 (not (all sidesFit (l .board ∷ l .pieces))) ∷
     row 4 (not (all (cellsLie (l .bytes)) (l .board ∷ l .pieces))) ∷

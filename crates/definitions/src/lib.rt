@@ -27,9 +27,8 @@ pub struct Config {
     pub solver: SolverKind,
 }
 
-// Why a call is refused: the rows 1 to 15 of document 01's table, in its order.
+// Why a call is refused: the rows 2 to 15 of document 01's table, in its order.
 pub enum Refusal {
-    NoPiece,
     TooManyPieces,
     SideOutOfRange,
     CellsOutsideBytes,
@@ -57,7 +56,6 @@ pub fn refusal_number(refusal: Refusal) -> u8
     ensures { λ r. ⌜ r ≡ numberOf refusal ⌝ }
 {
     match refusal {
-        Refusal::NoPiece => 1,
         Refusal::TooManyPieces => 2,
         Refusal::SideOutOfRange => 3,
         Refusal::CellsOutsideBytes => 4,

@@ -1,22 +1,22 @@
 -- A page of Fast: a search begins with all copies left and nothing covered, and what it
 -- lists is the list of which a call's page is a stretch. Assumes nothing.
-use Prim.Native.Nat.{ℕ, _+_, _*_, _≤_}
+use Prim.Native.Nat.{ℕ, _*_, _≤_}
 use mathlib.Core.Bool.{Bool, true, false, not, _&&_}
-use mathlib.Core.List.{List, [], _++_, map, List·Memᴰ·not-nil}
+use mathlib.Core.List.{List, [], _∷_, _++_, map, List·Memᴰ·not-nil}
 use mathlib.Core.Path.{_≡_, refl, sym, ap, ap₂, _∙_, subst}
 use native.Mathlib.Omega.{arith}
 use borrow.Author.Tests.{eq-eqb, ne-eqb}
 use lib.Dec.{eqb}
 use lib.ListN.{length, getD, take, drop, replicate, length-map}
-use lib.Seq.{getD-take}
-use Rattle.definitions.specs.Lists.{all, below}
-use Rattle.definitions.specs.Kinds.{Tray, Kind}
+use lib.Seq.{getD-take, take-at}
+use Rattle.definitions.specs.Lists.{below}
+use Rattle.definitions.specs.Kinds.{Tray}
 use Rattle.definitions.specs.Placements.{Compiled, compile}
 use Rattle.definitions.specs.Packing.{limits}
 use Rattle.definitions.specs.Kept.{Identify}
-use Rattle.definitions.specs.Orders.{State, start, identifiesTurned, kind0First, listed}
+use Rattle.definitions.specs.Orders.{State, start, identifiesTurned, kind0First}
 use Rattle.definitions.specs.Page.{Page}
-use Rattle.definitions.specs.Outcomes.{answersOf, capacity, cleared, refused, outcome, outcomeOf, numberOf}
+use Rattle.definitions.specs.Outcomes.{answersOf, capacity, cleared, refused, outcomeOf, numberOf}
 use Rattle.definitions.specs.Refusals.{Call, trayOf, identifies, identifyOf, isKnuth, placementCount, firstThatApplies, refusal}
 use Rattle.definitions.specs.declared.Record.{Record}
 use Rattle.definitions.specs.declared.Refusal.{Refusal}
@@ -42,7 +42,7 @@ use Rattle.kept.specs.Calls.{callOf, PageIs, pageFrom}
 use Rattle.fast.proofs.FastListLaws.{all-cells-same, start-same, fast-plain, fast-first}
 use Rattle.kept.proofs.ReadyLaws.{kinds-many}
 use Rattle.kept.proofs.BehindLaws.{outcomeFrom, from-accepted, from-refused}
-use Rattle.kept.proofs.PreparedLaws.{passes, kind-some, kinds-few}
+use Rattle.kept.proofs.PreparedLaws.{passes, kinds-few}
 
 and-none : (b : Bool) → (b && false) ≡ false
 and-none true = refl
@@ -66,10 +66,13 @@ module _ (t : Table) (board : Record) (bytes : List ℕ) (ok : Accepted9 t board
     S = systemIn d work images scans kinds pieces
 
     -- ---- the start of a search: all copies left
-    module _ (left : List ℕ) (short : length left ≡ 16) (full : take (d .kinds) left ≡ map (λ k. getD kinds (2 * k) 0) (below (d .kinds))) where
+    module _ (left : List ℕ) (short : length left ≡ 16) (full : left ≡ map (λ k. getD kinds (2 * k) 0) (below (d .kinds)) ++ drop (d .kinds) (replicate 16 0)) where
       left-in : take (d .kinds) left ≡ systemIn d work images scans kinds pieces .copies
       unfolding systemIn
-      left-in = full
+      left-in =
+          let copies = map (λ k. getD kinds (2 * k) 0) (below (d .kinds)) in
+          let many : length copies ≡ d .kinds = length-map (below (d .kinds)) (λ k. getD kinds (2 * k) 0) ∙ length-below (d .kinds) in
+          ap (take (d .kinds)) full ∙ take-at copies (drop (d .kinds) (replicate 16 0)) (d .kinds) many
 
       left-is : take (length (S .copies)) left ≡ S .copies
       left-is = ap (λ (n : ℕ). take n left) (kinds-many d work images scans kinds pieces) ∙ left-in
@@ -77,13 +80,17 @@ module _ (t : Table) (board : Record) (bytes : List ℕ) (ok : Accepted9 t board
       left-of : take (length (systemOf (trayIn (recordsOf t) board bytes) .copies)) left ≡ systemOf (trayIn (recordsOf t) board bytes) .copies
       left-of = subst (λ (s : System). take (length (s .copies)) left ≡ s .copies) is left-is
 
-      -- the copies of kind 0
+      -- the copies of kind 0; with no kind none
       pub left-first : getD left 0 0 ≡ getD (limits (compile (trayIn (recordsOf t) board bytes))) 0 0
       unfolding systemOf limits
-      left-first =
-          let many : length (limits C) ≡ length (C .kinds) = length-map (C .kinds) (λ (k : Kind). length (k .copies)) in
-          let k = kind-some t board bytes ok few work₀ long in
-          sym (getD-take (length (limits C)) left 0 0 (omega arith)) ∙ ap (λ (l : List ℕ). getD l 0 0) left-of
+      left-first = go (limits C) left-of many
+        where
+          many : d .kinds ≡ length (limits C)
+          many = sym (kinds-many d work images scans kinds pieces) ∙ ap (λ (s : System). length (s .copies)) is
+
+          go : (xs : List ℕ) → take (length xs) left ≡ xs → d .kinds ≡ length xs → getD left 0 0 ≡ getD xs 0 0
+          go [] e n = ap (λ (l : List ℕ). getD l 0 0) full ∙ ap (λ (m : ℕ). getD (map (λ k. getD kinds (2 * k) 0) (below m) ++ drop m (replicate 16 0)) 0 0) n
+          go (x ∷ xs) e n = sym (getD-take (length (x ∷ xs)) left 0 0 (omega arith)) ∙ ap (λ (l : List ℕ). getD l 0 0) e
 
       -- kind 0 is placed first as the code decides it
       module _ (turned mirrored : Bool) where

@@ -1,8 +1,8 @@
 // A page of Fast's list.
 ghost use mathlib.Core.Path.{_≡_};
 ghost use Prim.Native.Nat.{_*_, _≤_};
-ghost use mathlib.Core.List.{[], map};
-ghost use lib.ListN.{drop, getD, length, take};
+ghost use mathlib.Core.List.{[], _++_, map};
+ghost use lib.ListN.{drop, getD, length};
 ghost use Rattle.definitions.specs.Lists.{below};
 ghost use Rattle.definitions.specs.Refusals.{placementCount};
 ghost use Rattle.definitions.specs.Placements.{compile};
@@ -46,10 +46,10 @@ fn cells_of_all(t: Table, board: Record, bytes: &[u8]) -> usize
     cells
 }
 
-// The copies of each kind.
+// The copies of each kind; what lies behind them stays.
 fn all_left(kinds: &[u8], n: usize, left: &mut [u8])
     requires { ⌜ (2 * n ≤ length (now kinds)) × (n ≤ length (now left)) ⌝ }
-    ensures { λ _. ⌜ take n (now (left .exit)) ≡ map (λ k. getD (now (kinds .entry)) (2 * k) 0) (below n) ⌝ }
+    ensures { λ _. ⌜ now (left .exit) ≡ map (λ k. getD (now (kinds .entry)) (2 * k) 0) (below n) ++ drop n (now (left .entry)) ⌝ }
 {
     let mut k = 0;
     while k < n {

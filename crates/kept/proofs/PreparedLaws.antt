@@ -1,24 +1,22 @@
 -- The slices in which a tray's row system stands are as the engines ask. Assumes nothing.
 use Prim.Native.Nat.{ℕ, _*_, _≤_, _<_}
-use mathlib.Core.Bool.{false, _&&_}
-use mathlib.Core.List.{List, [], _∷_, map, List·Memᴰ, List·Memᴰ·head, List·Memᴰ·not-nil}
-use mathlib.Core.Path.{_≡_, refl, sym, ap, _∙_, subst}
+use mathlib.Core.Bool.{_&&_}
+use mathlib.Core.List.{List, map}
+use mathlib.Core.Path.{_≡_, sym, ap, _∙_, subst}
 use native.Mathlib.Nat.{mul-pos}
 use native.Mathlib.Omega.{arith}
 use lib.Dec.{T, leb, leb→le}
 use lib.ListN.{length, take, drop, length-map}
-use Rattle.definitions.specs.Lists.{below, from, isEmpty}
-use Rattle.definitions.specs.Grid.{Grid, volume, sameGrid, gridAhead}
+use Rattle.definitions.specs.Lists.{below, from}
+use Rattle.definitions.specs.Grid.{Grid, volume, sameGrid}
 use Rattle.definitions.specs.Maps.{Map, mapOf, turns, mirrorings, mapGrid}
-use Rattle.definitions.specs.Kinds.{Tray, smallest, sorted, shapes, kindsOf}
+use Rattle.definitions.specs.Kinds.{Tray}
 use Rattle.definitions.specs.Placements.{Compiled, compile}
 use Rattle.definitions.specs.Kept.{symmetries}
 use Rattle.definitions.specs.Orders.{start}
-use Rattle.definitions.specs.Refusals.{Call, trayOf, gridOf, sidesOf, isSide, sidesFit, placementCount, refusal}
+use Rattle.definitions.specs.Refusals.{Call, trayOf, sidesOf, isSide, sidesFit, placementCount, refusal}
 use Rattle.definitions.specs.declared.Record.{Record}
 use Rattle.definitions.proofs.ListLaws.{and-left, and-right, keep-length, length-from, length-below}
-use Rattle.definitions.proofs.ShapeLaws.{sort-of}
-use Rattle.definitions.proofs.PartnerLaws.{grids-tied}
 use Rattle.definitions.proofs.RefusalLaws.{passed}
 use Rattle.shape.proofs.PlaceLaws.{volume-small}
 use Rattle.placements.specs.declared.Table.{Table}
@@ -37,10 +35,6 @@ use Rattle.kept.specs.Ready.{Ready}
 use Rattle.kept.proofs.ReadyLaws.{few-rows, few-kinds}
 
 -- ---- what is lent
-member-some : {A : Type 0} (xs : List A) {x : A} → List·Memᴰ x xs → 0 < length xs
-member-some [] m = absurd (List·Memᴰ·not-nil m)
-member-some (x ∷ xs) m = omega arith
-
 side-some : (n : ℕ) → T (isSide n) → 0 < n
 unfolding isSide
 side-some n t = leb→le 1 n (and-left (leb 1 n) (leb n 8) t)
@@ -52,17 +46,6 @@ maps-few g ms start e =
     let a = keep-length (λ m. sameGrid (mapGrid m g) g) ms in
     let b : length ms ≡ length (from start 24) = ap (λ (l : List Map). length l) (sym e) ∙ length-map (from start 24) mapOf in
     let c = length-from start 24 in
-    omega arith
-
--- where there is a piece there is a kind
-kinds-some : (board : Record) (bytes : List ℕ) (rs : List Record) → isEmpty rs ≡ false → 0 < length (kindsOf (trayIn rs board bytes))
-unfolding kindsOf sorted shapes
-kinds-some board bytes [] e = absurd (subst T e tt)
-kinds-some board bytes (r ∷ rs) e =
-    let qs = sorted (trayIn (r ∷ rs) board bytes) in
-    let m : List·Memᴰ (smallest (gridOf bytes r)) (map (λ q. q .shape) qs) = List·Memᴰ·head refl in
-    let a = member-some (shapes qs) (sort-of gridAhead grids-tied (map (λ q. q .shape) qs) m) in
-    let b : length (kindsOf (trayIn (r ∷ rs) board bytes)) ≡ length (shapes qs) = length-map (shapes qs) _ in
     omega arith
 
 module _ (t : Table) (board : Record) (bytes : List ℕ) (ok : Accepted9 t board bytes) where
@@ -105,10 +88,6 @@ module _ (t : Table) (board : Record) (bytes : List ℕ) (ok : Accepted9 t board
       let b = length-map (recordsOf t) (pieceOf bytes) in
       let c : length (owned tray) ≡ length (map (pieceOf bytes) (recordsOf t)) = length-map (map (pieceOf bytes) (recordsOf t)) _ in
       omega arith
-
-  pub kind-some : 0 < length (C .kinds)
-  unfolding compile
-  kind-some = kinds-some board bytes (recordsOf t) (passed call passes .lent .somePiece)
 
   -- ---- the slices that the system stands in
   module _ (d : Dims) (work images scans kinds pieces : List ℕ) (is : systemIn d work images scans kinds pieces ≡ systemOf (trayIn (recordsOf t) board bytes)) where

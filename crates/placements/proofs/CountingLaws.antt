@@ -1,4 +1,4 @@
--- Counting: how many placements a kind has, how many placements and links a tray has, and what rows 1 to 9 tell of a tray that they let pass.
+-- Counting: how many placements a kind has, how many placements and links a tray has, and what rows 2 to 9 tell of a tray that they let pass.
 -- Assumes nothing.
 use Prim.Native.Nat.{ℕ, suc, _+_, _*_, _≤_, _<_}
 use mathlib.Core.Bool.{Bool, true, false, cond, not}
@@ -23,7 +23,7 @@ use Rattle.definitions.specs.Outcomes.{numberOf}
 use Rattle.definitions.specs.declared.Record.{Record}
 use Rattle.definitions.specs.declared.Config.{Config}
 use Rattle.definitions.specs.declared.Refusal.{Refusal}
-use Rattle.definitions.specs.declared.Refusal.the-variants.{NoPiece, TooManyPieces, SideOutOfRange, CellsOutsideBytes, CellNotZeroOrOne, PieceWithoutFilledCell, EmptyOuterLayer, TooManyCopies, TooManyBoardCells, MirroredWithoutTurned, EngineNotPorted, WorkTooShort, LinksTooShort, TooManyPlacements, TooManyLinks}
+use Rattle.definitions.specs.declared.Refusal.the-variants.{TooManyPieces, SideOutOfRange, CellsOutsideBytes, CellNotZeroOrOne, PieceWithoutFilledCell, EmptyOuterLayer, TooManyCopies, TooManyBoardCells, MirroredWithoutTurned, EngineNotPorted, WorkTooShort, LinksTooShort, TooManyPlacements, TooManyLinks}
 use Rattle.definitions.proofs.ListLaws.{and-left, and-right, all-at, all-of, keep-at, holds, decide, clash, not-T, eqb-of, is-true, is-false}
 use Rattle.definitions.proofs.CountLaws.{total, total-one, howMany-length, sum-map}
 use Rattle.definitions.proofs.MapLaws.{turn-fits, filled-at, filled-length, map-map-of}
@@ -235,7 +235,6 @@ first-decides (r ∷ xs) ys e = go (r .applies) e (λ (i : firstThatApplies xs �
 
 -- a refusal has a number from 1 on
 pub refused-some : (why : Refusal) → numberOf why ≡ 0 → ⊥
-refused-some NoPiece e = omega arith
 refused-some TooManyPieces e = omega arith
 refused-some SideOutOfRange e = omega arith
 refused-some CellsOutsideBytes e = omega arith
@@ -282,7 +281,7 @@ module _ (t : Table) (board : Record) (bytes : List ℕ) (config : Config) (work
   pub counts-decide : firstThatApplies lent ≡ 0 → firstThatApplies call ≡ 0 → firstThatApplies (lent ++ call ++ counts) ≡ firstThatApplies counts
   counts-decide e f = past-lent e ∙ first-passes call counts call-numbered f
 
--- ---- what rows 1 to 9 leave: their bounds, and so few records that the table lists them all
+-- ---- what rows 2 to 9 leave: their bounds, and so few records that the table lists them all
 pub record Lent (t : Table) (board : Record) (bytes : List ℕ) : Type 0 where
   pub few : t .n ≤ 16
   pub passed : PassedLent (recordsOf t) board bytes (trayIn (recordsOf t) board bytes)
@@ -300,7 +299,7 @@ unfolding Accepted9 lentRows gridRows
 lent-passes t board bytes ok =
     let rs = recordsOf t in
     let none : (n : ℕ) → testOf (lentRows rs board bytes) n ≡ false = none-applies (lentRows rs board bytes) tt ok in
-    let h = passed-lent rs board bytes (trayIn rs board bytes) (none 1) (none 2) (none 3) (none 4) (none 5) (none 6) (none 7) (none 8) (none 9) in
+    let h = passed-lent rs board bytes (trayIn rs board bytes) (none 2) (none 3) (none 4) (none 5) (none 6) (none 7) (none 8) (none 9) in
     record { few = few-records t (h .fewPieces); passed = h }
 
 -- ---- a tray's counts by a piece of each kind

@@ -6,13 +6,13 @@ use mathlib.Core.List.{List, [], _∷_, map}
 use mathlib.Core.Path.{_≡_, refl, sym, ap, ap₂, _∙_, subst}
 use native.Mathlib.Numerals.{add-one}
 use native.Mathlib.Omega.{arith}
-use borrow.Author.Tests.{leb-true, leb-false, le-leb, lt-leb, ne-eqb}
+use borrow.Author.Tests.{leb-true, leb-false, le-leb, lt-leb}
 use denote.Laws.{Is}
 use denote.Struct.Laws as LL
 use lib.Dec.{T, ltb, leb, eqb}
 use lib.ListN.{length, getD, take, drop, length-drop, length-map, length-replicate, drop-of-length-le}
 use lib.Seq.{length-take-le, drop-cons, getD-take}
-use Rattle.definitions.specs.Lists.{all, any, howMany, sum, isEmpty}
+use Rattle.definitions.specs.Lists.{all, any, howMany, sum}
 use Rattle.definitions.specs.Grid.{Sides, Grid, volume}
 use Rattle.definitions.specs.Refusals.{sidesOf, gridOf, isSide, sidesFit, cellsLie, areBits, someFilled, isTight, copyCount, boardCellCount, row}
 use Rattle.definitions.specs.declared.Record.{Record}
@@ -132,13 +132,6 @@ records-count t long = go (leb (t .n) 16) refl
     go : (b : Bool) → leb (t .n) 16 ≡ b → length (listed b t) ≡ t .n
     go true e = let l = leb-true (t .n) 16 e in length-take-le (t .n) (t .rows) (omega arith)
     go false e = length-replicate (t .n) noRecord
-
-pub records-empty : (t : Table) → length (t .rows) ≡ 16 → isEmpty (recordsOf t) ≡ eqb (t .n) 0
-records-empty t long = go (recordsOf t) ∙ ap (λ (n : ℕ). eqb n 0) (records-count t long)
-  where
-    go : (rs : List Record) → isEmpty rs ≡ eqb (length rs) 0
-    go [] = refl
-    go (r ∷ rs) = sym (ne-eqb (suc (length rs)) 0 (λ e. omega arith))
 
 all-get : {A : Type 0} (p : A → Bool) (d : A) (xs : List A) → T (all p xs) → (i : ℕ) → i < length xs → T (p (getD xs i d))
 all-get p d [] h i l = absurd (omega arith)

@@ -1,6 +1,6 @@
 -- How many placements a grid has on a board.
-use Prim.Native.Nat.{ℕ, _≤_, _<_}
-use mathlib.Core.List.{List, [], _∷_, map}
+use Prim.Native.Nat.{ℕ, _≤_}
+use mathlib.Core.List.{List, map}
 use mathlib.Core.Path.{_≡_}
 use lib.Dec.{T, ltb}
 use lib.ListN.{length, take}
@@ -9,10 +9,9 @@ use Rattle.definitions.specs.Grid.{Grid, volume}
 use Rattle.definitions.specs.Scan.{axes, scan}
 use Rattle.definitions.specs.Kinds.{variants}
 use Rattle.definitions.specs.Placements.{fits}
-use Rattle.definitions.specs.Refusals.{gridOf, sidesFit, cellsLie, firstThatApplies}
+use Rattle.definitions.specs.Refusals.{firstThatApplies}
 use Rattle.definitions.specs.declared.Record.{Record}
 use Rattle.shape.specs.Places.{cellAt}
-use Rattle.shape.specs.Scans.{IsOrder}
 use Rattle.placements.specs.declared.Table.{Table}
 use Rattle.placements.specs.Tables.{recordsOf}
 use Rattle.placements.specs.Stages.{lentRows}
@@ -32,6 +31,6 @@ fitsIn order board grids = let cs = scan order board in let vs = map (scan order
 unfoldable pub placementsIn : List ℕ → Grid → Grid → ℕ
 placementsIn order board g = fitsIn order board (variants g)
 
--- rows 1 to 9 let a tray pass
+-- rows 2 to 9 let a tray pass
 unfoldable pub Accepted9 : Table → Record → List ℕ → Type 0
 Accepted9 t board bytes = firstThatApplies (lentRows (recordsOf t) board bytes) ≡ 0

@@ -1,10 +1,10 @@
 -- The table of refusals in the stages in which the code tests it.
 use Prim.Native.Nat.{ℕ}
-use mathlib.Core.Bool.{Bool, true, false, not, _&&_}
+use mathlib.Core.Bool.{not, _&&_}
 use mathlib.Core.List.{List, [], _∷_}
 use lib.Dec.{ltb}
 use lib.ListN.{length}
-use Rattle.definitions.specs.Lists.{all, isEmpty}
+use Rattle.definitions.specs.Lists.{all}
 use Rattle.definitions.specs.Placements.{Compiled}
 use Rattle.definitions.specs.Refusals.{Row, row, sidesFit, cellsLie, areBits, someFilled, isTight, copyCount, boardCellCount, isPorted, isKnuth, placementCount, linkCount}
 use Rattle.definitions.specs.Outcomes.{numberOf}
@@ -18,7 +18,7 @@ abbrev pub verdictNumber : Verdict → ℕ
 verdictNumber Accepted = 0
 verdictNumber (Refused why) = numberOf why
 
--- rows 5 to 9, 1 to 9, 10 to 13, 14 and 15
+-- rows 5 to 9, 2 to 9, 10 to 13, 14 and 15
 unfoldable pub gridRows : List Record → Record → List ℕ → List Row
 gridRows rs board bytes =
     let t = trayIn rs board bytes in
@@ -31,7 +31,6 @@ gridRows rs board bytes =
 
 unfoldable pub lentRows : List Record → Record → List ℕ → List Row
 lentRows rs board bytes =
-    row 1 (isEmpty rs) ∷
     row 2 (ltb 16 (length rs)) ∷
     row 3 (not (all sidesFit (board ∷ rs))) ∷
     row 4 (not (all (cellsLie bytes) (board ∷ rs))) ∷

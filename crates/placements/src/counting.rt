@@ -111,7 +111,7 @@ pub fn count_tray(
     Counts { placements, links }
 }
 
-// Rows 14 and 15, of a tray that rows 1 to 9 let pass.
+// Rows 14 and 15, of a tray that rows 2 to 9 let pass.
 pub fn refusal_of_counts(t: Table, board: Record, bytes: &[u8], config: Config) -> Verdict
     requires { ⌜ Accepted9 t board (now bytes) ⌝ }
     ensures { λ r. ⌜ verdictNumber r ≡ firstThatApplies (countRows (compile (trayIn (recordsOf t) board (now (bytes .entry)))) config) ⌝ }

@@ -1,4 +1,4 @@
-// The table of refusals, rows 1 to 13. Each test over all grids is a function with one loop.
+// The table of refusals, rows 2 to 13. Each test over all grids is a function with one loop.
 ghost use mathlib.Core.Path.{_≡_};
 ghost use mathlib.Core.Bool.{_&&_};
 ghost use mathlib.Core.List.{_∷_, map};
@@ -118,13 +118,10 @@ fn copies_lent(t: Table) -> u64
     copies
 }
 
-// Rows 1 to 9: what is lent.
+// Rows 2 to 9: what is lent.
 pub fn refusal_of_lent(t: Table, board: Record, bytes: &[u8]) -> Verdict
     ensures { λ r. ⌜ verdictNumber r ≡ firstThatApplies (lentRows (recordsOf t) board (now (bytes .entry))) ⌝ }
 {
-    if t.n == 0 {
-        return Verdict::Refused(Refusal::NoPiece);
-    }
     if 16 < t.n {
         return Verdict::Refused(Refusal::TooManyPieces);
     }
@@ -145,7 +142,7 @@ pub fn refusal_of_lent(t: Table, board: Record, bytes: &[u8]) -> Verdict
 
 // Rows 5 to 9, of grids that lie in the bytes.
 fn refusal_of_grids(t: Table, board: Record, bytes: &[u8]) -> Verdict
-    requires { ⌜ (0 < t .n) × (t .n ≤ 16) × T (all sidesFit (board ∷ recordsOf t)) × T (all (cellsLie (now bytes)) (board ∷ recordsOf t)) ⌝ }
+    requires { ⌜ (t .n ≤ 16) × T (all sidesFit (board ∷ recordsOf t)) × T (all (cellsLie (now bytes)) (board ∷ recordsOf t)) ⌝ }
     ensures { λ r. ⌜ verdictNumber r ≡ firstThatApplies (gridRows (recordsOf t) board (now (bytes .entry))) ⌝ }
 {
     if !grids::are_bits(records::cells_of(bytes, board)) {

@@ -40,7 +40,7 @@ use Rattle.rows.proofs.SystemLaws.{few-cells, spread-placements}
 use Rattle.rows.proofs.TableLaws.{drop-later, append-first}
 
 -- ---- a call that lends an accepted tray
--- a call is accepted where its rows 1 to 9, 10 to 13, and 14 and 15 let it pass
+-- a call is accepted where its rows 2 to 9, 10 to 13, and 14 and 15 let it pass
 pub accepted-call : (l : Call) → firstThatApplies (lentRows (l .pieces) (l .board) (l .bytes)) ≡ 0 → firstThatApplies (callRows (l .config) (length (l .work)) (length (l .links))) ≡ 0
     → firstThatApplies (countRows (compile (trayIn (l .pieces) (l .board) (l .bytes))) (l .config)) ≡ 0 → refusal l ≡ 0
 accepted-call l a b d =

@@ -29,6 +29,8 @@ fn main() {
     list(b"listing_knuth.tray");
     list(b"no_packing.tray");
     list(b"unfilled_cell.tray");
+    list(b"empty_box_unfilled.tray");
+    list(b"empty_box_filled.tray");
     list(b"side_8.tray");
     list(b"side_9.tray");
     list(b"too_many_links.tray");

@@ -1,26 +1,24 @@
 //! Reads the oracle's stream of cases (oracle/README.md) and holds the page calls to
 //! it: each listing put together from pages of a random size, byte for byte, by skips and
 //! from behind each page's last entry; pages at random skips, and behind what is no entry;
-//! what a call must not touch. Status 1 on a difference.
+//! what a call must not touch. Trays without a piece are held to the stream's listing like
+//! all others: it is the model's there. Status 1 on a difference.
 
 use std::io::{self, Read};
 use std::process::ExitCode;
 
-use harness::{box_cells, Lent, Start};
+use harness::{box_cells, Lent, Start, STAIN};
 use oracle::listing::refused;
 use oracle::random::Random;
 use oracle::tray::{self, Engine};
 
-const STAIN: u8 = 170;
-const WORD_STAIN: u64 = 0xAAAA_AAAA_AAAA_AAAA;
 const WORDS: usize = 8_200;
-const LINK_STAIN: u16 = 0xAAAA;
 const NUMBERS: usize = 32_776;
 
 fn main() -> io::Result<ExitCode> {
     let mut stream = vec![];
     io::stdin().read_to_end(&mut stream)?;
-    let (mut rest, mut held, mut pages, mut differences) = (&stream[..], [0; 2], 0, 0);
+    let (mut rest, mut held, mut bare, mut pages, mut differences) = (&stream[..], [0; 2], 0, 0, 0);
     while !rest.is_empty() {
         let end = rest.iter().position(|&byte| byte == b'\n').unwrap();
         let header = String::from_utf8_lossy(&rest[..end]).to_string();
@@ -34,6 +32,7 @@ fn main() -> io::Result<ExitCode> {
             continue;
         };
         held[usize::from(tray.config.engine == Engine::Knuth)] += 1;
+        bare += usize::from(tray.pieces.is_empty());
         let mut random = Random::new(held[0], held[1]);
         match hold(&Lent::new(&tray), expected, &mut random) {
             Ok(count) => pages += count,
@@ -44,7 +43,7 @@ fn main() -> io::Result<ExitCode> {
         }
     }
     let [fast, knuth] = held;
-    println!("{fast} trays of fast and {knuth} of knuth, {pages} pages, {differences} differences");
+    println!("{fast} trays of fast and {knuth} of knuth, {bare} of these without a piece, {pages} pages, {differences} differences");
     Ok(if differences == 0 {
         ExitCode::SUCCESS
     } else {
@@ -115,26 +114,9 @@ fn hold(lent: &Lent, expected: &str, random: &mut Random) -> Result<usize, Strin
     Ok(pages)
 }
 
-/// One page from stained slices, `extra` bytes longer than so many answers; what it must not touch is looked at.
+/// One page from slices that are longer than needed, the answers by `extra` bytes.
 fn ask(lent: &Lent, start: Start, room: usize, extra: usize) -> Result<(Vec<u8>, harness::Answer), String> {
-    let mut answers = vec![STAIN; room * lent.size() + extra];
-    let mut work = vec![WORD_STAIN; WORDS];
-    let mut links = vec![LINK_STAIN; NUMBERS];
-    let answer = lent.page(start, &mut answers, &mut work, &mut links);
-    let is_accepted = answer.number == 0;
-    let cleared = if is_accepted { 8_192 } else { 0 };
-    let unlinked = if is_accepted && lent.engine == Engine::Knuth { 32_768 } else { 0 };
-    let behind = answer.written * lent.size();
-    let is_kept = answers[behind..].iter().all(|&byte| byte == STAIN)
-        && work[..cleared].iter().all(|&word| word == 0)
-        && work[cleared..].iter().all(|&word| word == WORD_STAIN)
-        && links[..unlinked].iter().all(|&link| link == 0)
-        && links[unlinked..].iter().all(|&link| link == LINK_STAIN);
-    if is_kept {
-        Ok((answers, answer))
-    } else {
-        Err("slices afterwards".to_string())
-    }
+    harness::ask(lent, start, room * lent.size() + extra, WORDS, NUMBERS)
 }
 
 fn same(found: &str, expected: &str, pages: usize) -> Result<usize, String> {

@@ -1,5 +1,6 @@
 //! Reads a tray in the file format of `pack` and prints what `pack` is to print,
-//! or the single line `panic` where the original panics.
+//! or the single line `panic` where the original panics. The original is not asked
+//! where no piece is lent: it always panics there.
 
 use std::io::{self, Read, Write};
 

@@ -9,7 +9,7 @@ use oracle::corners::{corners, round, Corner};
 use oracle::listing;
 use oracle::placements::{kinds, Kind};
 use oracle::random::Random;
-use oracle::tray::{self, Engine};
+use oracle::tray::{self, Engine, Tray};
 
 fn main() -> io::Result<ExitCode> {
     listing::silence_panics();
@@ -60,7 +60,16 @@ fn expect(file: &[u8], model: &mut Model) -> io::Result<(String, &'static str)> 
     if printed.starts_with("refused") {
         return Ok((printed, "refusal"));
     }
-    if printed == listing::PANIC || original_may_differ(file) {
+    let tray = tray::parse(file, tray::config_of_file).unwrap();
+    if tray.pieces.is_empty() {
+        // The original is not asked; the list of listing.rs is to be the model's.
+        let right = model.listing(file)?;
+        if right != printed {
+            return Err(io::Error::other("two lists for a tray without pieces"));
+        }
+        return Ok((right, "model"));
+    }
+    if printed == listing::PANIC || original_may_differ(&tray) {
         let right = model.listing(file)?;
         if right != printed {
             return Ok((right, "model"));
@@ -70,8 +79,7 @@ fn expect(file: &[u8], model: &mut Model) -> io::Result<(String, &'static str)> 
 }
 
 /// Rows of kinds without copies count in the original's Knuth search.
-fn original_may_differ(file: &[u8]) -> bool {
-    let tray = tray::parse(file, tray::config_of_file).unwrap();
+fn original_may_differ(tray: &Tray) -> bool {
     let has_rows_only = |kind: &Kind| kind.copies == 0 && !kind.rows.is_empty();
     tray.config.engine == Engine::Knuth
         && kinds(&tray.board, &tray.pieces).iter().any(has_rows_only)

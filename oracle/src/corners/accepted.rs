@@ -93,9 +93,11 @@ pub const ACCEPTED: &[(&str, fn(&mut Random) -> Option<Parts>)] = &[
         pieces.push(Piece { count: 0, grid: full([1, 1, 1]) });
         Some((board, pieces))
     }),
-    ("all_without_copies", |random| {
-        let (board, mut pieces) = plain(random)?;
-        pieces.iter_mut().for_each(|piece| piece.count = 0);
+    ("all_without_copies", all_without_copies),
+    ("all_without_copies_unfilled_board", |random| {
+        // Pieces are lent here, and none of them is in the box.
+        let (mut board, pieces) = all_without_copies(random)?;
+        board.cells.fill(0);
         Some((board, pieces))
     }),
     ("spare_pieces", |random| {
@@ -359,6 +361,12 @@ fn add_small(random: &mut Random, pieces: &mut Vec<Piece>) {
     pieces.push(Piece { count: random.between(0, 3), grid: full([1, 1, 1]) });
 }
 
+fn all_without_copies(random: &mut Random) -> Option<Parts> {
+    let (board, mut pieces) = plain(random)?;
+    pieces.iter_mut().for_each(|piece| piece.count = 0);
+    Some((board, pieces))
+}
+
 /// Some copies of a piece lent as a second piece, turned.
 fn lent_twice(random: &mut Random) -> Option<Parts> {
     let board = small_board(random);
@@ -467,11 +475,17 @@ pub fn with_copies(random: &mut Random, copies: u32) -> Option<Parts> {
 
 /// A board with exactly so many filled cells, cut into large pieces.
 pub fn with_filled(random: &mut Random, filled: usize) -> Option<Parts> {
+    let board = board_with_filled(random, filled)?;
+    cut_whole(random, board, [14, 40], true)
+}
+
+/// A board with exactly so many filled cells.
+pub fn board_with_filled(random: &mut Random, filled: usize) -> Option<Grid> {
     let sides = *random.pick(&[[4, 4, 8], [5, 5, 6], [8, 8, 3], [6, 5, 5], [2, 8, 8], [5, 6, 5]]);
     let mut board = full(sides);
     let mut order: Vec<usize> = (0..board.cells.len()).collect();
     random.shuffle(&mut order);
     let unfilled = order.len().checked_sub(filled)?;
     order[..unfilled].iter().for_each(|&cell| board.cells[cell] = 0);
-    cut_whole(random, board, [14, 40], true)
+    Some(board)
 }

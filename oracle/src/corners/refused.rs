@@ -1,7 +1,7 @@
 //! Corners of refused trays, also with the faults of two refusals at once, and
 //! well-formed files of unusual form.
 
-use super::accepted::{plain, random_piece, rotated, small_board, with_copies, with_filled};
+use super::accepted::{plain, random_piece, rotated, with_copies, with_filled};
 use super::Parts;
 use crate::grids::{self, full};
 use crate::limits;
@@ -12,7 +12,6 @@ use crate::refusals::MOST_LINKS;
 use crate::tray::{Grid, Piece, LONGEST_FILE};
 
 pub const REFUSED: &[(&str, u8, fn(&mut Random) -> Option<Parts>)] = &[
-    ("refused_1", 1, |random| Some((small_board(random), vec![]))),
     ("refused_2_pieces_17", 2, |random| {
         let (board, mut pieces) = plain(random)?;
         let piece = random.pick(&pieces).clone();
@@ -69,7 +68,7 @@ pub const REFUSED: &[(&str, u8, fn(&mut Random) -> Option<Parts>)] = &[
 ];
 
 /// The refusals that a fault of a board or of a piece leads to.
-pub const FAULTS: &[u8] = &[1, 2, 3, 6, 7, 8, 9, 14];
+pub const FAULTS: &[u8] = &[2, 3, 6, 7, 8, 9, 14];
 
 /// A plain tray with both faults built in, the later number first: the faults
 /// of the board set it anew, and a board at fault by 9 or 3 is to stay so.
@@ -83,9 +82,8 @@ pub fn with_faults(random: &mut Random, faults: [u8; 2]) -> Option<Parts> {
 
 fn add_fault(random: &mut Random, fault: u8, board: &mut Grid, pieces: &mut Vec<Piece>) {
     match fault {
-        1 => pieces.clear(),
         2 => pieces.resize(17 + random.below(20), pieces[0].clone()),
-        3 if pieces.is_empty() || random.one_in(3) => {
+        3 if random.one_in(3) => {
             // The box grows; the cells stay filled.
             let side = *random.pick(&[9, 10, 99]);
             *board = full([board.sides[0], board.sides[1], side]);
@@ -127,21 +125,15 @@ fn add_spoilt(random: &mut Random, pieces: &mut Vec<Piece>, grid: Grid) {
 
 /// Well-formed files; the refusal is None where the tray stays accepted.
 pub const FILES: &[(&str, Option<u8>, fn(&mut Random, String) -> Vec<u8>)] = &[
-    ("leading_zeros", None, |_, text| {
-        // Sides get three digits, counts nine; the last field is the cells.
-        let line = |line: &str| {
-            let mut fields: Vec<String> = line.split('\t').map(String::from).collect();
-            let is_piece = fields[0] == "piece";
-            let numbers = fields.len().saturating_sub(4)..fields.len() - 1;
-            if fields[0] != "config" {
-                fields[numbers].iter_mut().for_each(|side| *side = format!("{side:0>3}"));
-            }
-            if is_piece {
-                fields[1] = format!("{:0>9}", fields[1]);
-            }
-            fields.join("\t") + "\n"
-        };
-        text.lines().map(line).collect::<String>().into()
+    ("leading_zeros", None, |_, text| text.lines().map(with_zeros).collect::<String>().into()),
+    ("empty_box_leading_zeros", None, |random, text| {
+        let mut lines: Vec<String> = text.lines().take(2).map(with_zeros).collect();
+        if random.one_in(2) {
+            // The board's cells, behind the last tab, unfilled.
+            let cells = lines[1].rfind('\t').unwrap();
+            lines[1] = lines[1][..cells].to_string() + &lines[1][cells..].replace('1', "0");
+        }
+        lines.concat().into()
     }),
     ("file_of_16384_bytes", Some(2), |_, text| malformed::padded(text, LONGEST_FILE)),
     ("file_with_1000_pieces", Some(2), |_, text| {
@@ -152,9 +144,23 @@ pub const FILES: &[(&str, Option<u8>, fn(&mut Random, String) -> Vec<u8>)] = &[
         let cells = "1".repeat(side as usize * 12);
         format!("{text}piece\t1\t3\t4\t{side}\t{cells}\n").into()
     }),
-    ("side_0_and_no_piece", Some(1), |random, text| {
+    ("empty_box_side_0", Some(3), |random, text| {
         let config = text.lines().next().unwrap();
         let side = random.between(1, 9);
         format!("{config}\nboard\t{side}\t0\t000\t\n").into()
     }),
 ];
+
+/// A line whose sides have three digits and whose count has nine; the last field is the cells.
+fn with_zeros(line: &str) -> String {
+    let mut fields: Vec<String> = line.split('\t').map(String::from).collect();
+    let is_piece = fields[0] == "piece";
+    let numbers = fields.len().saturating_sub(4)..fields.len() - 1;
+    if fields[0] != "config" {
+        fields[numbers].iter_mut().for_each(|side| *side = format!("{side:0>3}"));
+    }
+    if is_piece {
+        fields[1] = format!("{:0>9}", fields[1]);
+    }
+    fields.join("\t") + "\n"
+}

@@ -1,4 +1,4 @@
--- `replay::show` meets its contract: a call that `refusal_of` accepts has a tray that rows 1 to 9 let pass, and at most 1024 placements. Assumes nothing.
+-- `replay::show` meets its contract: a call that `refusal_of` accepts has a tray that rows 2 to 9 let pass, and at most 1024 placements. Assumes nothing.
 use mathlib.Core.Path.{_≡_, sym, ap, _∙_}
 use mathlib.Core.List.{_++_}
 use denote.Ref.{now}

@@ -10,7 +10,7 @@ use borrow.Author.Needs.{needs}
 use Rattle.placements.proofs.counting.refusal_of.Statement.{statement}
 use Rattle.placements.proofs.counting.refusal_of.Tie as tie
 
--- rows 1 to 9 have passed, and rows 10 to 13
+-- rows 2 to 9 have passed, and rows 10 to 13
 past-lent : (c : tie.After-enum-told) → (let k = c .before .before .before .before .args in firstThatApplies (lentRows (recordsOf (k .t)) (k .board) (now (k .bytes))) ≡ 0)
 past-lent c = sym (c .before .before .refusal-of-lent .ensures) ∙ ap verdictNumber (c .enum-told .given .1)
 

@@ -20,14 +20,14 @@ board-sound : (k : tie.Start) → T (sidesFit (k .args .board)) × T (cellsLie (
 board-sound k =
     let rs = recordsOf (k .args .t) in
     let lies = cellsLie (now (k .args .bytes)) in
-    (and-left (sidesFit (k .args .board)) (all sidesFit rs) (k .pre .2), and-left (lies (k .args .board)) (all lies rs) (k .pre .3))
+    (and-left (sidesFit (k .args .board)) (all sidesFit rs) (k .pre .1), and-left (lies (k .args .board)) (all lies rs) (k .pre .2))
 
 pieces-sound : (k : tie.Start)
     → (k .args .t .n ≤ 16) × T (all sidesFit (recordsOf (k .args .t))) × T (all (cellsLie (now (k .args .bytes))) (recordsOf (k .args .t)))
 pieces-sound k =
     let rs = recordsOf (k .args .t) in
     let lies = cellsLie (now (k .args .bytes)) in
-    (k .pre .1, and-right (sidesFit (k .args .board)) (all sidesFit rs) (k .pre .2), and-right (lies (k .args .board)) (all lies rs) (k .pre .3))
+    (k .pre .0, and-right (sidesFit (k .args .board)) (all sidesFit rs) (k .pre .1), and-right (lies (k .args .board)) (all lies rs) (k .pre .2))
 
 cells-of-requires : tie.Need-cells-of-requires
 cells-of-requires c κs = board-sound (c .before)
