@@ -1,12 +1,11 @@
 -- A tray with an empty box (document 02, A1): its packings, its list, what can still refuse it, and that 1 no longer occurs. Assumes nothing.
-use Prim.Native.Nat.{ℕ, zero, suc, _*_, _≤_}
+use Prim.Native.Nat.{ℕ, zero, suc, _≤_}
 use mathlib.Core.Bool.{Bool, true, false, cond, not, _&&_, _||_}
 use mathlib.Core.List.{List, [], _∷_, map}
 use mathlib.Core.Path.{_≡_, refl, sym, ap, _∙_, subst}
 use mathlib.Core.Logic.{_⊎_, inl, inr, _↔_, _≢_}
-use native.Mathlib.Nat.{mul-le-mul}
 use native.Mathlib.Omega.{arith}
-use lib.Dec.{T, ltb, leb, eqb, eqb→eq, ltb→lt, leb→le}
+use lib.Dec.{T, ltb, eqb, eqb→eq, ltb→lt}
 use lib.ListN.{length, replicate}
 use Rattle.definitions.specs.Lists.{consIf, keep, all, any, each, below, isEmpty, member}
 use Rattle.definitions.specs.Grid.{Grid, Cell, box, byteAt, volume, filledCells}
@@ -18,20 +17,19 @@ use Rattle.definitions.specs.Kept.{Identify, compared, smaller, images, 
 use Rattle.definitions.specs.Orders.{State, start, choose, search, fastChoices, identifiesTurned, kind0First}
 use Rattle.definitions.specs.Orders.{fastList, knuthChoices, knuthList, packings, listed}
 use Rattle.definitions.specs.Answers.{taken, copyOn, answer}
-use Rattle.definitions.specs.Refusals.{Call, Row, sidesOf, gridOf, trayOf, identifyOf, isSide, sidesFit, copyCount}
+use Rattle.definitions.specs.Refusals.{Call, Row, gridOf, trayOf, identifyOf, sidesFit, copyCount}
 use Rattle.definitions.specs.Refusals.{isPorted, isKnuth, placementCount, rowsOf, linkCount, table, applies, refusal}
 use Rattle.definitions.specs.Outcomes.{Outcome, answersOf, answerSize, refused, outcome}
 use Rattle.definitions.specs.Demands.{Stretch, Pages, demand1}
 use Rattle.definitions.specs.Files.{callIn, listing}
 use Rattle.definitions.specs.EmptyBox.{emptyBoxList, emptyBox, never1, emptyBoxPrinted}
-use Rattle.definitions.specs.declared.Record.{Record}
 use Rattle.definitions.specs.declared.SolverKind.{SolverKind}
 use Rattle.definitions.specs.declared.SolverKind.the-variants.{Auto, Naive, Fast, KnuthAlgorithm}
 use Rattle.definitions.proofs.ListLaws.{and-left, and-right, and-both, or-left, or-right, or-cases, decide, clash}
 use Rattle.definitions.proofs.ListLaws.{is-true, eqb-of, all-at, all-of, any-at, keep-length}
 use Rattle.definitions.proofs.MoveLaws.{length-box}
 use Rattle.definitions.proofs.ShapeLaws.{scan-length}
-use Rattle.definitions.proofs.RefusalLaws.{passed, outcome-refused, demand1-holds}
+use Rattle.definitions.proofs.RefusalLaws.{passed, fit-volume, outcome-refused, demand1-holds}
 use Rattle.definitions.proofs.DemandLaws.{answer-length, pages-of}
 use Rattle.definitions.proofs.MeetLaws.{packed-listing}
 
@@ -147,19 +145,6 @@ module _ (g : Grid) where
       let d = length-box (g .sides) in
       omega arith
 
--- sides up to 8 make a box of 512 cells at most
-box-few : (r : Record) → T (sidesFit r) → volume (sidesOf r) ≤ 512
-unfolding isSide sidesFit volume sidesOf
-box-few r t =
-    let u = and-right (isSide (r .a)) (isSide (r .b) && isSide (r .c)) t in
-    let a = upper (r .a) (and-left (isSide (r .a)) (isSide (r .b) && isSide (r .c)) t) in
-    let b = upper (r .b) (and-left (isSide (r .b)) (isSide (r .c)) u) in
-    let ab : r .a * r .b ≤ 64 = mul-le-mul a b in
-    mul-le-mul ab (upper (r .c) (and-right (isSide (r .b)) (isSide (r .c)) u))
-  where
-    upper : (n : ℕ) → T (isSide n) → n ≤ 8
-    upper n t = leb→le n 8 (and-right (leb 1 n) (leb n 8) t)
-
 -- ---- a call that lends no piece
 -- the numbers, other than 0, that it can give
 abbrev numbers : List ℕ
@@ -213,7 +198,7 @@ module _ (l : Call) where
   -- 15: with no piece the links are the filled board cells, which are few where 3 does not apply
   few-links : T (sidesFit (l .board)) → linkCount (compile (trayOf bare)) ≤ 512
   unfolding linkCount rowsOf compile kindsOf shapes sorted trayOf gridOf
-  few-links t = let a = cells-few (trayOf bare .board) in let b = box-few (l .board) t in omega arith
+  few-links t = let a = cells-few (trayOf bare .board) in let b = fit-volume (l .board) t in omega arith
 
   -- the number that the call gives
   abbrev returned : ℕ

@@ -1,18 +1,20 @@
 -- The table of refusals: of an accepted call no test applies, so each bound of the table holds, by name; and Demand 1. Assumes nothing.
-use Prim.Native.Nat.{ℕ, _<_, _≤_}
+use Prim.Native.Nat.{ℕ, _*_, _<_, _≤_}
 use mathlib.Core.Bool.{Bool, true, false, cond, not, _&&_, _||_}
 use mathlib.Core.List.{List, [], _∷_, List·Memᴰ·head}
 use mathlib.Core.Path.{_≡_, refl, sym, ap, _∙_, subst}
 use mathlib.Core.Logic.{_⊎_, inl, inr, _≢_}
+use native.Mathlib.Nat.{mul-le-mul}
 use native.Mathlib.Omega.{arith}
 use borrow.Author.Tests.{ltb-false, not-false}
-use lib.Dec.{T, ltb, eqb, eqb→eq, ltb→lt, eqb-refl}
+use lib.Dec.{T, ltb, leb, eqb, eqb→eq, ltb→lt, leb→le, eqb-refl}
 use lib.ListN.{length}
 use Rattle.definitions.specs.Lists.{all, any}
+use Rattle.definitions.specs.Grid.{volume}
 use Rattle.definitions.specs.Kinds.{Tray}
 use Rattle.definitions.specs.Placements.{compile}
 use Rattle.definitions.proofs.ListLaws.{and-left, and-right, and-both, or-left, or-right, or-cases, eqb-of, is-true, is-false, holds, all-at}
-use Rattle.definitions.specs.Refusals.{Call, Row, table, applies, firstThatApplies, refusal, trayOf, sidesFit, cellsLie, areBits, someFilled, isTight}
+use Rattle.definitions.specs.Refusals.{Call, Row, table, applies, firstThatApplies, refusal, sidesOf, trayOf, isSide, sidesFit, cellsLie, areBits, someFilled, isTight}
 use Rattle.definitions.specs.Refusals.{copyCount, boardCellCount, isPorted, isKnuth, placementCount, linkCount}
 use Rattle.definitions.specs.declared.Record.{Record}
 use Rattle.definitions.specs.Outcomes.{Outcome, accepted, refused, outcome}
@@ -111,6 +113,19 @@ pub record PassedLent (rs : List Record) (board : Record) (bytes : List ℕ) (t 
   pub tight : T (all (λ q. isTight (q .grid)) (t .pieces))
   pub fewCopies : copyCount t ≤ 128
   pub fewCells : boardCellCount t ≤ 128
+
+-- sides up to 8 make a box of 512 cells at most
+pub fit-volume : (r : Record) → T (sidesFit r) → volume (sidesOf r) ≤ 512
+unfolding isSide sidesFit volume sidesOf
+fit-volume r t =
+    let u = and-right (isSide (r .a)) (isSide (r .b) && isSide (r .c)) t in
+    let a = upper (r .a) (and-left (isSide (r .a)) (isSide (r .b) && isSide (r .c)) t) in
+    let b = upper (r .b) (and-left (isSide (r .b)) (isSide (r .c)) u) in
+    let ab : r .a * r .b ≤ 64 = mul-le-mul a b in
+    mul-le-mul ab (upper (r .c) (and-right (isSide (r .b)) (isSide (r .c)) u))
+  where
+    upper : (n : ℕ) → T (isSide n) → n ≤ 8
+    upper n t = leb→le n 8 (and-right (leb 1 n) (leb n 8) t)
 
 -- where none of the tests 2 to 9 applies
 module _ (rs : List Record) (board : Record) (bytes : List ℕ) (t : Tray) where

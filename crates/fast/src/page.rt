@@ -102,6 +102,7 @@ fn list(
         written: 0,
         further: false,
     };
+    // Kind 0 first: where there is no kind, left[0] is the 0 that it began as.
     if turned {
         if left[0] == 1 {
             if cells_of_all(t, board, bytes) == d.cells {

@@ -17,12 +17,10 @@ use Rattle.definitions.specs.Orders.{start}
 use Rattle.definitions.specs.Refusals.{Call, trayOf, sidesOf, isSide, sidesFit, placementCount, refusal}
 use Rattle.definitions.specs.declared.Record.{Record}
 use Rattle.definitions.proofs.ListLaws.{and-left, and-right, keep-length, length-from, length-below}
-use Rattle.definitions.proofs.RefusalLaws.{passed}
-use Rattle.shape.proofs.PlaceLaws.{volume-small}
+use Rattle.definitions.proofs.RefusalLaws.{passed, fit-volume}
 use Rattle.placements.specs.declared.Table.{Table}
 use Rattle.placements.specs.Tables.{pieceOf, recordsOf, trayIn}
 use Rattle.placements.specs.Counting.{Accepted9}
-use Rattle.placements.proofs.RefusalLaws.{sides-small}
 use Rattle.placements.proofs.CountingLaws.{lent-passes, board-fits}
 use Rattle.rows.specs.declared.Dims.{Dims}
 use Rattle.rows.specs.Chains.{Chained}
@@ -62,7 +60,7 @@ module _ (t : Table) (board : Record) (bytes : List ℕ) (ok : Accepted9 t board
       mul-pos (mul-pos a b) c
 
   pub box-few : volume (sidesOf board) ≤ 512
-  box-few = volume-small (sidesOf board) (sides-small board sides) .1
+  box-few = fit-volume board sides
 
 module _ (t : Table) (board : Record) (bytes : List ℕ) (ok : Accepted9 t board bytes) (few : placementCount (compile (trayIn (recordsOf t) board bytes)) ≤ 1024) (work₀ : List ℕ) (long : 8192 ≤ length work₀) where
   abbrev tray : Tray
