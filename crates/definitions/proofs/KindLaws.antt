@@ -19,15 +19,15 @@ use Rattle.definitions.specs.Moves.Move.{turn, mirroring}
 use Rattle.definitions.specs.Refusals.{Call, trayOf, areBits, refusal}
 use Rattle.definitions.specs.PlacementsRight.{TurnsOnto, MirrorsOnto, noGrid, pieceAt, kindAt, copyAhead}
 use Rattle.definitions.proofs.GroupLaws.{identity-grid, sameGrid→eq, sameGrid-of}
-use Rattle.definitions.proofs.EngineLaws.{sort-at}
 use Rattle.definitions.proofs.WellMadeLaws.{Nth, nth-mem, nth-below, nth-getD, getD-nth, numbered-at, numbered-ascending, up-board}
-use Rattle.definitions.proofs.ShapeLaws.{bits, shape-facts, sort-of, smallest-at}
+use Rattle.definitions.proofs.ShapeLaws.{bits, shape-facts, smallest-at}
 use Rattle.definitions.proofs.ActLaws.{mapsOf, product-in, product-on, back-in}
 use Rattle.definitions.proofs.MoveLaws.{movesMap, moves-in, moves-grid, turn-moves, mirroring-moves, turns-alone, mapped-whole, mirror-in}
 use Rattle.definitions.proofs.CellLaws.{nth-unique, nth-value, grid-trans, grid-irrefl}
-use Rattle.definitions.proofs.PartnerLaws.{variant-of, variants-up, smallest-turned, grids-tied, before-holds, before-grid, gs-up, shapes-are, gs, one-kind}
+use Rattle.definitions.proofs.NameLaws.{name-at, name-nth, one-name}
+use Rattle.definitions.proofs.PartnerLaws.{variant-of, variants-up, smallest-turned, grids-ordered, before-holds, before-grid, gs-up, shapes-are, gs, one-kind}
 use Rattle.definitions.proofs.GeometryLaws.{piece-whole, to-filled, of-filled, turns-not-odd}
-use Rattle.definitions.proofs.AnswerLaws.{numbered-of, mem-nth-of}
+use Rattle.definitions.proofs.AnswerLaws.{numbered-of}
 use Rattle.definitions.proofs.OrderLaws.{each-ascending}
 
 -- ---- lists
@@ -162,14 +162,10 @@ module _ (l : Call) (ok : refusal l ≡ 0) where
   unfolding gs
   shapes-up = gs-up T₀ (piece-whole l ok)
 
-  shape-in : (n : ℕ) → n < length (T₀ .pieces) → List·Memᴰ (smallest (gridAt n)) G
-  unfolding shapes sort-piece
-  shape-in n h = sort-of gridAhead grids-tied (map (λ q. q .shape) (sorted T₀)) (Memᴰ·map (λ (q : Sorted). q .shape) (sorted-of n h))
-
   shape-at : (g : Grid) → List·Memᴰ g G → (n : ℕ) × (n < length (T₀ .pieces)) × (smallest (gridAt n) ≡ g)
   unfolding shapes sort-piece
   shape-at g m =
-      let r = Memᴰ·of-map (λ (q : Sorted). q .shape) (sorted T₀) (sort-at gridAhead (map (λ q. q .shape) (sorted T₀)) m) in
+      let r = name-at gridAhead sameGrid grids-ordered (λ (q : Sorted). q .shape) (sorted T₀) g m in
       let s = sorted-at (r .0) (r .1) in
       (s .0, s .1, sym (ap (λ (q : Sorted). q .shape) (s .2)) ∙ r .2)
 
@@ -178,7 +174,8 @@ module _ (l : Call) (ok : refusal l ≡ 0) where
   number-is n k h = before-grid G shapes-up k (smallest (gridAt n)) h
 
   number-nth : (n : ℕ) → n < length (T₀ .pieces) → Nth G (kindNumber n) (smallest (gridAt n))
-  number-nth n h = let r = mem-nth-of G (smallest (gridAt n)) (shape-in n h) in subst (λ (k : ℕ). Nth G k (smallest (gridAt n))) (sym (number-is n (r .0) (r .1))) (r .1)
+  unfolding kindNumber shapes sort-piece
+  number-nth n h = name-nth gridAhead sameGrid grids-ordered (λ (q : Sorted). q .shape) (sorted T₀) (sort-piece n (pieceAt T₀ n)) (sorted-of n h)
 
   -- ---- kinds
   -- the kind with a shape
@@ -210,7 +207,8 @@ module _ (l : Call) (ok : refusal l ≡ 0) where
       (s .0, s .1, number-is (s .0) k (subst (λ (g : Grid). Nth G k g) (sym (s .2)) (r .1)))
 
   one-shape : (n m : ℕ) → n < length (T₀ .pieces) → m < length (T₀ .pieces) → kindNumber n ≡ kindNumber m → smallest (gridAt n) ≡ smallest (gridAt m)
-  one-shape n m a b e = nth-unique G (kindNumber m) (smallest (gridAt n)) (smallest (gridAt m)) (subst (λ (k : ℕ). Nth G k (smallest (gridAt n))) e (number-nth n a)) (number-nth m b)
+  unfolding kindNumber shapes sort-piece
+  one-shape n m a b e = one-name gridAhead sameGrid grids-ordered (λ (q : Sorted). q .shape) (sorted T₀) (sort-piece n (pieceAt T₀ n)) (sort-piece m (pieceAt T₀ m)) (sorted-of n a) (sorted-of m b) e
 
   pub turns-by : (n : ℕ) → n < length (trayOf l .pieces) → (g : Grid) → TurnsOnto (pieceAt (trayOf l) n .grid) g → (m : Map) × List·Memᴰ m turns × (mapGrid m (pieceAt (trayOf l) n .grid) ≡ g)
   turns-by n h g r = by-map (gridAt n) (grid-bits n h) (grid-all n h) false (r .moves) g (not-T (isOdd (r .moves)) (turns-not-odd l ok (r .moves) (r .byTurns))) (r .equal)

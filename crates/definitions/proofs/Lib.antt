@@ -16,6 +16,7 @@ pub mod ImageLaws
 pub mod ActLaws
 pub mod MoveLaws
 pub mod CellLaws
+pub mod NameLaws
 pub mod PartnerLaws
 pub mod GeometryLaws
 pub mod AnswerLaws

@@ -8,8 +8,8 @@ use native.Mathlib.Omega.{arith}
 use lib.Dec.{T, leb, eqb, leb→le}
 use lib.ListN.{length, getD, take, drop, length-map, length-drop, length-take}
 use lib.Seq.{length-take-le}
-use Rattle.definitions.specs.Lists.{all, any, same, before, sort, ascending, headOr, less}
-use Rattle.definitions.proofs.ListLaws.{and-left, and-right, all-at, ascending-unique, sort-ascending, less-total, same-refl, decide, clash, is-true, is-false, not-again}
+use Rattle.definitions.specs.Lists.{any, same, before, sort, ascending, headOr, less}
+use Rattle.definitions.proofs.ListLaws.{and-left, all-at, ascending-unique, sort-ascending, less-total, same-refl, decide, clash}
 use Rattle.definitions.specs.Grid.{Sides, Cell, Grid, volume, filledCells, sameGrid, gridAhead, sidesThenCells}
 use Rattle.definitions.specs.Maps.{Map, mapGrid, turns, mirrorings, mirror, product, identity}
 use Rattle.definitions.proofs.MapLaws.{turn-fits, map-map-of}
@@ -23,7 +23,7 @@ use Rattle.definitions.proofs.ShapeLaws.{sort-of, variant-at, smallest-
 use Rattle.definitions.proofs.ActLaws.{plus, mapsOf, product-in, product-on, back-in}
 use Rattle.definitions.proofs.MoveLaws.{mapped-whole, mirror-in}
 use Rattle.definitions.proofs.CellLaws.{grid-trans, grid-irrefl}
-use Rattle.definitions.proofs.EngineLaws.{sort-at}
+use Rattle.definitions.proofs.NameLaws.{StrictOrder, before-entry, names-up}
 
 -- ---- variants
 pub grids-tied : (g h : Grid) → T (not (gridAhead g h)) → T (not (gridAhead h g)) → g ≡ h
@@ -92,12 +92,12 @@ before-holds p (y ∷ ys) x h = go (p y) refl h (λ (k : Nth ys (before p ys) x)
     go true e k f = subst T (sym (ap p k ∙ e)) tt
     go false e k f = f k
 
+-- grids by their order; each grid of an ascending list is its own first
+pub grids-ordered : StrictOrder Grid gridAhead sameGrid
+grids-ordered = record { trans = grid-trans; irrefl = grid-irrefl; tied = grids-tied; equal = sameGrid→eq; alike = λ g h e. sameGrid-of e }
+
 pub before-grid : (xs : List Grid) → T (ascending gridAhead xs) → (n : ℕ) (g : Grid) → Nth xs n g → before (sameGrid g) xs ≡ n
-before-grid [] t n g h = absurd h
-before-grid (y ∷ ys) t zero g h = ap {B = ℕ} (λ (b : Bool). cond b 0 (suc (before (sameGrid g) ys))) (is-true (sameGrid g y) (sameGrid-of h))
-before-grid (y ∷ ys) t (suc n) g h =
-    ap {B = ℕ} (λ (b : Bool). cond b 0 (suc (before (sameGrid g) ys))) (is-false (sameGrid g y) (λ s. not-again gridAhead grid-trans grid-irrefl y ys t (nth-mem ys n h) (sameGrid→eq g y s)))
-    ∙ ap suc (before-grid ys (and-right (all (gridAhead y) ys) (ascending gridAhead ys) t) n g h)
+before-grid xs t n g h = before-entry gridAhead sameGrid grids-ordered xs t n g h
 
 nth-map : {A B : Type 0} (f : A → B) (xs : List A) (n : ℕ) (x : A) → Nth xs n x → Nth (map f xs) n (f x)
 nth-map f [] n x h = absurd h
@@ -110,7 +110,7 @@ module _ (t : Tray) (wholes : (q : Piece) → List·Memᴰ q (t .pieces) → len
 
   pub gs-up : T (ascending gridAhead gs)
   unfolding gs shapes
-  gs-up = sort-ascending gridAhead grid-trans (map (λ q. q .shape) (sorted t))
+  gs-up = names-up gridAhead sameGrid grids-ordered (λ (q : Sorted). q .shape) (sorted t)
 
   pub shapes-are : map (λ d. d .shape) (kindsOf t) ≡ gs
   unfolding kindsOf gs

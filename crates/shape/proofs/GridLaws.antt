@@ -1,8 +1,9 @@
 -- Grids: how numbers, sides and grids compare, the cells of a box by their places, and filled layers. Assumes nothing.
 use Prim.Native.Nat.{ℕ, zero, suc, _+_, _-_, _≤_, _<_}
-use mathlib.Core.Bool.{Bool, true, false, cond, _&&_, _||_}
+use mathlib.Core.Bool.{Bool, true, false, cond, not, _&&_, _||_}
 use mathlib.Core.List.{List, [], _∷_, map, List·Memᴰ}
 use mathlib.Core.Path.{_≡_, refl, sym, ap, ap₂, _∙_, subst}
+use mathlib.Core.Logic.{_⊎_, inl, inr}
 use native.Mathlib.Numerals.{add-one}
 use native.Mathlib.Omega.{arith}
 use borrow.Author.Tests.{lt-ltb, le-ltb, eq-eqb, ne-eqb, eqb-true, eqb-false}
@@ -13,7 +14,9 @@ use Rattle.definitions.specs.Lists.{consIf, all, any, keep, howMany, less, same
 use Rattle.definitions.specs.Grid.{Sides, Cell, Grid, box, volume, placeOf, byteAt, filledCells, sidesThenCells, sameGrid, gridAhead}
 use Rattle.definitions.specs.Maps.{maps, turns, transform, parity, permutations, mapOf, identity, mapSides, mapGrid, side, coordinate}
 use Rattle.definitions.specs.Refusals.{filledWhere, isTight}
-use Rattle.definitions.proofs.ListLaws.{length-below, same→eq, less-irrefl, any-at, holds, is-false}
+use Rattle.definitions.proofs.ListLaws.{length-below, any-at, holds, decide}
+use Rattle.definitions.proofs.NameLaws.{StrictOrder, ahead-other}
+use Rattle.definitions.proofs.PartnerLaws.{grids-ordered}
 use Rattle.definitions.proofs.MapLaws.{map-map-of, box-at, filled-at, mapped-sides}
 use Rattle.definitions.proofs.MoveLaws.{mapped-whole}
 use Rattle.definitions.proofs.GroupLaws.{map-same, bytes-whole, coordinate-below, identity-grid, sameGrid→eq}
@@ -153,6 +156,35 @@ order-greater true y e = let z : _≡_ {A = ℕ} 0 1 = cc in absurd (omega arith
 order-greater false true e = let z : _≡_ {A = ℕ} 0 1 = cc in absurd (omega arith)
 order-greater false false e = refl
 
+less-not-greater : (x y : Bool) → T x → orderBy x y ≡ Greater → ⊥
+less-not-greater true y t e = let z : _≡_ {A = ℕ} 0 1 = cc in absurd (omega arith)
+less-not-greater false y t e = absurd t
+
+-- what it tells of two entries, for any order that is strict
+module _ {A : Type 0} (ahead same : A → A → Bool) (o : StrictOrder A ahead same) (x y : A) where
+  pub told-less : orderBy (ahead x y) (same x y) ≡ Less → T (ahead x y)
+  told-less e = holds (ahead x y) (order-less (ahead x y) (same x y) e)
+
+  pub told-equal : orderBy (ahead x y) (same x y) ≡ Equal → x ≡ y
+  told-equal e = o .equal x y (holds (same x y) (order-equal (ahead x y) (same x y) e))
+
+  pub told-greater : orderBy (ahead x y) (same x y) ≡ Greater → T (ahead y x)
+  told-greater e = go (decide (ahead y x)) (decide (ahead x y))
+    where
+      apart : x ≡ y → ⊥
+      apart i = absurd (subst T (order-greater (ahead x y) (same x y) e) (o .alike x y i))
+
+      go : T (ahead y x) ⊎ T (not (ahead y x)) → T (ahead x y) ⊎ T (not (ahead x y)) → T (ahead y x)
+      go (inl t) s = t
+      go (inr t) (inl s) = absurd (less-not-greater (ahead x y) (same x y) s e)
+      go (inr t) (inr s) = absurd (apart (o .tied x y s t))
+
+  pub other-less : orderBy (ahead x y) (same x y) ≡ Less → same x y ≡ false
+  other-less e = ahead-other ahead same o x y (told-less e)
+
+  pub other-greater : orderBy (ahead x y) (same x y) ≡ Greater → same x y ≡ false
+  other-greater e = order-greater (ahead x y) (same x y) e
+
 pub sides-equal : (s t : Sides) → sidesOrder s t ≡ Equal → s ≡ t
 unfolding sidesOrder sameGrid sidesThenCells
 sides-equal s t e =
@@ -170,15 +202,8 @@ turned-order m n g h o e =
 
 module _ (g h : Grid) where
   pub same-less : gridOrder g h ≡ Less → sameGrid g h ≡ false
-  unfolding gridOrder sameGrid gridAhead
-  same-less e =
-      is-false (same xs ys) (λ t. less-irrefl xs (subst (λ (l : List ℕ). T (less xs l)) (sym (same→eq xs ys t)) (holds (less xs ys) (order-less (less xs ys) (same xs ys) e))))
-    where
-      xs : List ℕ
-      xs = sidesThenCells g
-
-      ys : List ℕ
-      ys = sidesThenCells h
+  unfolding gridOrder
+  same-less e = other-less gridAhead sameGrid grids-ordered g h e
 
   pub same-equal : gridOrder g h ≡ Equal → sameGrid g h ≡ true
   unfolding gridOrder
