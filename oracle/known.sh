@@ -20,7 +20,8 @@ differs() {
 
 # Trays with a listing beside them: the model prints it byte for byte, and so
 # does the original, save where it is known to panic. (With no piece, trays
-# empty_box_*, the original is not asked: the oracle has a list of its own.)
+# empty_box_*, the original is not asked: the oracle has a list of its own. Nor
+# is it where woods are mixed: the oracle says so. Of one wood are woods_one*.)
 for listing in trays/*.listing ../trays/*.listing; do
     tray=${listing%.listing}.tray
     python3 model.py <"$tray" >"$got"
@@ -30,6 +31,9 @@ for listing in trays/*.listing ../trays/*.listing; do
     case $tray in
     trays/no_copies_knuth.tray | trays/spare_handed_*.tray)
         [ "$(cat "$got")" = panic ] || differs "$tray (original, panic expected)" ;;
+    trays/woods_two*.tray | trays/woods_handed.tray | trays/woods_order.tray | \
+        trays/woods_eight.tray)
+        [ "$(cat "$got")" = mixed ] || differs "$tray (oracle, mixed expected)" ;;
     *)
         cmp -s "$got" "$listing" || differs "$tray (original)" ;;
     esac
@@ -58,15 +62,29 @@ counts() {
     done
 }
 
-# limits TRAY PLACEMENTS LINKS
+# mixed TRAY NONE TURNED MIRRORED: the same of a tray of several woods, by the model
+mixed() {
+    for engine in fast knuth; do
+        for expected in none/$2 turned/$3 mirrored/$4; do
+            for program in "python3 model.py" $pack; do
+                line=$(under "$1" $engine "${expected%/*}" | $program | tail -n 1)
+                [ "$line" = "$(printf 'packings\t%s' "${expected#*/}")" ] ||
+                    differs "$1 $engine ${expected%/*} ($program): $line"
+            done
+        done
+    done
+}
+
+# limits TRAY PLACEMENTS LINKS [FOLDER]
 limits() {
-    numbers=$(python3 model.py limits <"../trays/$1.tray")
+    numbers=$(python3 model.py limits <"${4:-../trays}/$1.tray")
     [ "$numbers" = "$(printf 'placements\t%s\nlinks\t%s' "$2" "$3")" ] || differs "$1: $numbers"
 }
 
 counts soma 11520 480 240
 counts tetracubes 11120 1390 695
 counts slothouber_graatsma 8 1 1
+mixed two_woods 160 8 4
 counts dominoes 6728 930 930
 counts t_tetrominoes 84 15 15
 counts pentominoes 856 107 107
@@ -76,6 +94,8 @@ limits slothouber_graatsma 63 263
 limits dominoes 60 217
 limits t_tetrominoes 168 905
 limits conway 769 4965
+limits woods_eight 1024 392 trays
+limits woods_nine 1152 393 trays
 last conway knuth none "refused\t15"
 
 # The long listings agree with the model line for line.

@@ -2,7 +2,8 @@
 """A plain model of document 01, written from its sentences and not from the
 original: parsing, refusals, kinds, placements, packings, which is kept, both
 engines' orders, answers and pages. No piece lent is a list like any other
-(document 02, A1): no kinds and no placements, and no refusal 1.
+(document 02, A1): no kinds and no placements, and no refusal 1. A piece has a
+wood (A5): kinds and mirror partners are of one wood.
 
     model.py < tray                      what `pack` prints
     model.py page SKIP CAPACITY < tray   the entries of one page, how many were
@@ -17,6 +18,7 @@ MALFORMED = 16
 LONGEST_FILE = 16384
 WORK_WORDS = 8192
 LINK_NUMBERS = 32768
+LAST_WOOD = 255
 
 
 # ---------------------------------------------------------------- the file
@@ -27,7 +29,7 @@ class Malformed(Exception):
 
 def parse(file):
     """The file as (engine, identified, board, pieces); a grid is (sides, cells),
-    a piece (count, grid)."""
+    a piece (count, grid, wood)."""
     if len(file) > LONGEST_FILE:
         raise Malformed
     lines = file.split(b"\n")
@@ -45,13 +47,16 @@ def parse(file):
     if len(board) != 5 or board[0] != b"board":
         raise Malformed
     for piece in pieces:
-        if len(piece) != 6 or piece[0] != b"piece":
+        if len(piece) not in (6, 7) or piece[0] != b"piece":
             raise Malformed
     return (
         engine.decode(),
         identified.decode(),
         parse_grid(board[1:]),
-        [(parse_number(piece[1], 9), parse_grid(piece[2:])) for piece in pieces],
+        [
+            (parse_number(piece[1], 9), parse_grid(piece[2:6]), parse_wood(piece[6:]))
+            for piece in pieces
+        ],
     )
 
 
@@ -61,6 +66,14 @@ def parse_number(field, most_digits):
     if any(byte not in b"0123456789" for byte in field):
         raise Malformed
     return int(field)
+
+
+def parse_wood(fields):
+    """The wood of a piece line from what stands behind its cells, 0 where nothing does."""
+    wood = parse_number(fields[0], 3) if fields else 0
+    if wood > LAST_WOOD:
+        raise Malformed
+    return wood
 
 
 def parse_grid(fields):
@@ -176,21 +189,22 @@ class Problem:
         self.all_packings = None
 
     def find_kinds(self):
-        smallest = [variants(grid)[0] for _, grid in self.pieces]
-        self.kinds = sorted(set(smallest))
+        # A kind is (smallest grid, wood): by the grid first, then by the wood.
+        kind_of = [(variants(grid)[0], wood) for _, grid, wood in self.pieces]
+        self.kinds = sorted(set(kind_of))
         # A kind's copies as (piece as lent, copy of that piece).
         self.copies = [
             [
                 (number, copy)
-                for number, (count, _) in enumerate(self.pieces)
-                if smallest[number] == kind
+                for number, (count, _, _) in enumerate(self.pieces)
+                if kind_of[number] == kind
                 for copy in range(count)
             ]
             for kind in self.kinds
         ]
         self.partners = []
-        for kind in self.kinds:
-            mirrored = variants(moved_grid((mirror,), kind))[0]
+        for grid, wood in self.kinds:
+            mirrored = variants(moved_grid((mirror,), grid))[0], wood
             known = mirrored in self.kinds
             self.partners.append(self.kinds.index(mirrored) if known else None)
 
@@ -203,8 +217,8 @@ class Problem:
         self.scan_number = {cell: p for p, cell in enumerate(self.scanned)}
         # By kind, then (p, j).
         self.placements = []
-        for number, kind in enumerate(self.kinds):
-            grids = [filled_cells(variant) for variant in variants(kind)]
+        for number, (grid, _) in enumerate(self.kinds):
+            grids = [filled_cells(variant) for variant in variants(grid)]
             origins = [min(cells, key=self.scan_key) for cells in grids]
             for p, cell in enumerate(self.scanned):
                 j = 0
@@ -226,7 +240,8 @@ class Problem:
         return covers
 
     def kind_cells(self, kind):
-        return sum(self.kinds[kind][1])
+        grid, _ = self.kinds[kind]
+        return sum(grid[1])
 
     def rows(self):
         """The placements that a packing can use: kinds without copies have none."""
@@ -392,17 +407,18 @@ def page(entries, skip, capacity):
 
 def refusal(engine, turned, mirrored, board, pieces, cells, work_words, link_numbers):
     """The refusal 2 to 15 of a call, None if it is accepted. Records are (sides,
-    count, start), the board's too; engines are auto, naive, fast, knuth."""
+    count, wood, start), the board's too, whose count and wood are not read; engines
+    are auto, naive, fast, knuth."""
     records = [board] + pieces
     if len(pieces) > 16:
         return 2
-    if any(not 1 <= side <= 8 for sides, _, _ in records for side in sides):
+    if any(not 1 <= side <= 8 for sides, _, _, _ in records for side in sides):
         return 3
-    if any(start + a * b * c > len(cells) for (a, b, c), _, start in records):
+    if any(start + a * b * c > len(cells) for (a, b, c), _, _, start in records):
         return 4
     grids = [
         (sides, tuple(cells[start:start + sides[0] * sides[1] * sides[2]]))
-        for sides, _, start in records
+        for sides, _, _, start in records
     ]
     if any(cell not in (0, 1) for _, grid_cells in grids for cell in grid_cells):
         return 5
@@ -410,7 +426,7 @@ def refusal(engine, turned, mirrored, board, pieces, cells, work_words, link_num
         return 6
     if any(has_empty_outer_layer(grid) for grid in grids[1:]):
         return 7
-    if sum(count for _, count, _ in pieces) > 128:
+    if sum(count for _, count, _, _ in pieces) > 128:
         return 8
     if len(filled_cells(grids[0])) > 128:
         return 9
@@ -422,8 +438,10 @@ def refusal(engine, turned, mirrored, board, pieces, cells, work_words, link_num
         return 12
     if engine == "knuth" and link_numbers < LINK_NUMBERS:
         return 13
-    counts = [count for _, count, _ in pieces]
-    problem = Problem(grids[0], list(zip(counts, grids[1:])))
+    problem = Problem(
+        grids[0],
+        [(count, grid, wood) for (_, count, wood, _), grid in zip(pieces, grids[1:])],
+    )
     if len(problem.placements) > 1024:
         return 14
     if engine == "knuth" and problem.links() > 4096:
@@ -435,8 +453,8 @@ def refusal_of_tray(engine, identified, board, pieces):
     """The refusal of a well-formed file, whose slices are always big enough."""
     cells = []
     records = []
-    for count, (sides, grid_cells) in [(0, board)] + pieces:
-        records.append((sides, count, len(cells)))
+    for count, (sides, grid_cells), wood in [(0, board, 0)] + pieces:
+        records.append((sides, count, wood, len(cells)))
         cells += grid_cells
     return refusal(
         engine, identified != "none", identified == "mirrored",

@@ -9,7 +9,8 @@ the calls with a random page; then REFUSED calls at or beyond the limits. What
 is expected comes from the original (`oracle`; `raw refusal` for what only a
 call can ask for), and from model.py where the original panics (as it does where
 no piece is lent), where the order is document 01's alone (knuth, a kind without
-copies), or where no file can express a refused call. Each call is a line of a
+copies), where woods are mixed, or where no file can express a refused call. The
+board's record has any wood, which is not to be read. Each call is a line of a
 table in a crate `sample`, in a temporary repository beside a copy of
 crates/definitions, and each table has a theorem that is proved by computing.
 Needs `rt`, and `cargo build --release` here before. Prints what differs, the
@@ -46,7 +47,7 @@ STEPS_A_CRATE = 600e6
 
 
 # ------------------------------------------------------------ random trays
-# A grid is (sides, cells) and a piece (count, grid), as in model.py.
+# A grid is (sides, cells) and a piece (count, grid, wood), as in model.py.
 
 HANDED = (2, 2, 2), (1, 1, 1, 0, 0, 1, 0, 0)
 SPARE_PIECES = [
@@ -65,8 +66,10 @@ SPARE_PIECES = [
 THEMES = (
     "solid", "holes", "long", "flat", "outer layers", "no filled cell", "apart", "lent twice",
     "partner", "no partner", "unequal partners", "no copies", "spare", "several", "any",
-    "empty box",
+    "empty box", "woods", "woods of partners",
 )
+HANDED_THEMES = ("partner", "no partner", "unequal partners", "woods of partners")
+WOODS = (0, 1, 2, 9, 10, 100, 254, 255)
 
 
 def volume(sides):
@@ -135,7 +138,7 @@ def random_board(rng, theme):
     if theme == "no filled cell":
         sides = box(rng, 1, 8, 4)
         return sides, (0,) * volume(sides)
-    if theme in ("partner", "no partner", "unequal partners"):
+    if theme in HANDED_THEMES:
         return rng.choice((
             ((2, 2, 2), (1,) * 8),
             with_holes(rng, (2, 2, 2), rng.randint(4, 7)),
@@ -184,7 +187,7 @@ def random_pieces(rng, theme, board):
         return []
     cells = model.filled_cells(board)
     parts = []
-    if theme in ("partner", "no partner", "unequal partners") and rng.random() < 0.7:
+    if theme in HANDED_THEMES and rng.random() < 0.7:
         # A handed piece out of the board, then the rest.
         fours = [rng.sample(cells, 4) for _ in range(200)]
         handed = kind_of(HANDED), partner_of(HANDED)
@@ -194,10 +197,10 @@ def random_pieces(rng, theme, board):
     copies = collections.Counter(kind_of(tight(part)) for part in parts)
 
     handed = [kind for kind in copies if partner_of(kind) != kind]
-    if theme in ("partner", "no partner", "unequal partners") and not handed:
+    if theme in HANDED_THEMES and not handed:
         handed = [kind_of(HANDED) if rng.random() < 0.5 else partner_of(HANDED)]
         copies[handed[0]] = rng.randint(0, 1)
-    if theme == "partner":
+    if theme in ("partner", "woods of partners"):
         copies[partner_of(handed[0])] = copies[handed[0]]
     if theme == "unequal partners":
         copies[partner_of(handed[0])] = rng.choice((0, copies[handed[0]] + 1))
@@ -214,13 +217,21 @@ def random_pieces(rng, theme, board):
     if not copies:
         copies[kind_of(rng.choice(SPARE_PIECES))] += rng.randint(0, 2)
 
+    # The handed kinds first, with their partners beside them.
+    kinds = sorted(copies, key=lambda kind: (partner_of(kind) == kind, min(kind, partner_of(kind))))
     pieces = []
-    for kind, count in copies.items():
+    for kind in kinds:
+        count = copies[kind]
         counts = [count]
-        if theme == "lent twice" or rng.random() < 0.2:
+        if theme in ("lent twice", "woods") or rng.random() < 0.2:
             first = rng.randint(0, count)
             counts = [first, count - first]
         pieces += [(count, turned(rng, kind)) for count in counts]
+    # Two woods in turn where the theme is of woods: for a shape lent twice, for a pair.
+    woods = [rng.choice((0, 0, 0, 7, 255))] * 2
+    if theme in ("woods", "woods of partners"):
+        woods = rng.sample(WOODS, 2)
+    pieces = [(*piece, woods[number % 2]) for number, piece in enumerate(pieces)]
     rng.shuffle(pieces)
     return pieces
 
@@ -234,13 +245,30 @@ def random_tray(rng, theme):
         problem = model.Problem(board, pieces)
         if len(problem.kinds) > 3 or len(problem.packings()) > 10:
             continue
+        if not has_its_woods(theme, problem):
+            continue
         if steps(problem, "mirrored") <= STEPS_A_TABLE:
             return problem
 
 
+def has_its_woods(theme, problem):
+    """Whether a tray of the themes of woods has what they are for: copies of one shape
+    in two woods, or copies of a handed kind and of its mirror image in two woods."""
+    kinds = [kind for kind, copies in zip(problem.kinds, problem.copies) if copies]
+    if theme == "woods":
+        return len({grid for grid, _ in kinds}) < len(kinds)
+    if theme == "woods of partners":
+        mirrored = {(partner_of(grid), wood) for grid, wood in kinds}
+        return any(
+            (grid, wood) not in mirrored and grid in {other for other, _ in mirrored}
+            for grid, wood in kinds
+        )
+    return True
+
+
 def steps(problem, identified):
     """About how many steps the prover takes for a call, as measured on samples."""
-    grids = sum(24 * volume(kind[0]) for kind in problem.kinds)
+    grids = sum(24 * volume(grid[0]) for grid, _ in problem.kinds)
     maps = {"none": 0, "turned": 24, "mirrored": 48}[identified]
     return (
         6e5
@@ -260,7 +288,9 @@ def corners(problem):
     partners = [
         (own, partner) for own, partner in enumerate(problem.partners) if partner != own
     ]
-    grids = [grid for _, grid in problem.pieces]
+    lent = [(grid, wood) for _, grid, wood in problem.pieces]
+    woods = {wood for _, wood in lent}
+    shapes = {grid for grid, _ in problem.kinds}
     room = sum(count * problem.kind_cells(kind) for kind, count in enumerate(used))
     ones = sides.count(1)
     return [
@@ -275,13 +305,18 @@ def corners(problem):
             ("deep", ones == 0),
             ("equal sides", len(set(sides)) < 3),
             ("unequal sides", len(set(sides)) == 3),
-            ("apart", any(is_apart(grid) for grid in grids)),
-            ("lent twice", len(grids) > len(problem.kinds)),
-            ("lent twice, turned", len(set(grids)) > len(problem.kinds)),
-            ("no piece", not grids),
+            ("apart", any(is_apart(grid) for grid, _ in lent)),
+            ("lent twice", len(lent) > len(problem.kinds)),
+            ("lent twice, turned", len(set(lent)) > len(problem.kinds)),
+            ("no piece", not lent),
+            ("one wood, not 0", len(woods) == 1 and woods != {0}),
+            ("several woods", len(woods) > 1),
+            ("one shape in several woods", len(shapes) < len(problem.kinds)),
+            ("handed, partner of another wood",
+             any(p is None and partner_of(problem.kinds[own][0]) in shapes for own, p in partners)),
             ("several of a kind", max(used, default=0) > 1),
             ("kind without copies", 0 in used),
-            ("piece without copies", any(count == 0 for count, _ in problem.pieces)),
+            ("piece without copies", any(count == 0 for count, _, _ in problem.pieces)),
             ("spare cells", room > len(filled)),
             ("handed, no partner", any(partner is None for _, partner in partners)),
             ("handed, equal copies",
@@ -309,11 +344,14 @@ def is_apart(grid):
 
 def file_of(engine, identified, board, pieces):
     def fields(grid):
-        return "\t".join(map(str, grid[0])) + "\t" + "".join(map(str, grid[1])) + "\n"
+        return "\t".join(map(str, grid[0])) + "\t" + "".join(map(str, grid[1]))
 
     return (
-        "config\t%s\t%s\nboard\t%s" % (engine, identified, fields(board))
-        + "".join("piece\t%d\t%s" % (count, fields(grid)) for count, grid in pieces)
+        "config\t%s\t%s\nboard\t%s\n" % (engine, identified, fields(board))
+        + "".join(
+            "piece\t%d\t%s%s\n" % (count, fields(grid), "\t%d" % wood if wood else "")
+            for count, grid, wood in pieces
+        )
     )
 
 
@@ -328,11 +366,14 @@ def run(program, file, *words):
 def expected_list(file, problem):
     """The list that a file's listing has, and who printed it."""
     listing, source = run("oracle", file), "original"
-    # The cases of docs/DIFFERENCES.md: a panic, an order of document 01's, no piece.
+    # The cases of docs/DIFFERENCES.md: a panic, an order of document 01's, no piece,
+    # several woods.
     if not problem.pieces:
         assert listing == model.listing(file.encode()), file
         source = "model"
-    elif listing == "panic\n" or file.startswith("config\tknuth") and [] in problem.copies:
+    elif listing in ("panic\n", "mixed\n") or (
+        file.startswith("config\tknuth") and [] in problem.copies
+    ):
         listing, source = model.listing(file.encode()), "model"
     *entries, last = listing.splitlines()
     assert last == "packings\t%d" % len(entries), (file, listing)
@@ -394,13 +435,13 @@ def page_lines(rng, problem):
             room_bytes = room * size + rng.randrange(size)
             written = answers[skip:skip + room]
             further = skip + len(written) < len(answers)
-            lent, (board_start, *starts) = layout(rng, [board] + [grid for _, grid in pieces])
+            lent, (board_start, *starts) = layout(rng, [board] + [grid for _, grid, _ in pieces])
             call = "call %s %s %s (%s) (%s) (%s) %d %d 8192 32768" % (
                 ENGINE_NAMES[engine], *IDENTIFIED_TERMS[identified],
-                record(board[0], 0, board_start),
+                record(board[0], 0, rng.choice(WOODS), board_start),
                 listed(
-                    record(grid[0], count, start)
-                    for (count, grid), start in zip(pieces, starts)
+                    record(grid[0], count, wood, start)
+                    for (count, grid, wood), start in zip(pieces, starts)
                 ),
                 bytes_term(lent), skip, room_bytes,
             )
@@ -448,7 +489,7 @@ def random_refusal(rng, aim):
         "turned": rng.random() < 0.5,
         "board": with_holes(rng, box(rng, 1, 8, 4), rng.randint(0, 8)),
         "pieces": [
-            (rng.randint(0, 3), turned(rng, rng.choice(SPARE_PIECES)))
+            (rng.randint(0, 3), turned(rng, rng.choice(SPARE_PIECES)), rng.choice(WOODS))
             for _ in range(0 if is_bare else rng.randint(1, 3))
         ],
         "work": 8192,
@@ -475,7 +516,7 @@ def spoil(rng, made, number):
         if on_board:
             made["board"] = grid
         else:
-            pieces[at] = (pieces[at][0], grid)
+            pieces[at] = (pieces[at][0], grid, pieces[at][2])
     elif number in (4, 5):
         made["spoils"].append(number)
     elif number in (6, 7) and pieces:
@@ -485,13 +526,13 @@ def spoil(rng, made, number):
             axis = rng.choice([axis for axis in range(3) if sides[axis] > 1])
             bare = 0 if rng.random() < 0.5 else sides[axis] - 1
             cells = [int(cell[axis] != bare) for cell in model.cells_of(sides)]
-        pieces[at] = (rng.choice((0, pieces[at][0])), (sides, tuple(cells)))
+        pieces[at] = (rng.choice((0, pieces[at][0])), (sides, tuple(cells)), pieces[at][2])
     elif number == 8 and pieces:
         left = rng.choice((around(rng, 128), around(rng, 128), 999999999, 256, 300))
         for other in range(len(pieces)):
             count = left if other == len(pieces) - 1 else rng.randint(0, left)
             left -= count
-            pieces[other] = (count, pieces[other][1])
+            pieces[other] = (count, *pieces[other][1:])
     elif number == 9:
         sides = rng.choice(((8, 8, 3), (3, 7, 8), (6, 5, 5), (5, 6, 8), (2, 8, 8), (8, 4, 5)))
         made["board"] = with_holes(rng, sides, max(129, around(rng, 128)))
@@ -510,7 +551,7 @@ def refusal_line(rng, aim):
     """A line for a random call, None where it is accepted and large."""
     made = random_refusal(rng, aim)
     board, pieces = made["board"], made["pieces"]
-    grids = [board] + [grid for _, grid in pieces]
+    grids = [board] + [grid for _, grid, _ in pieces]
     lent, starts = [], []
     for sides, cells in grids:
         starts.append(len(lent))
@@ -535,8 +576,8 @@ def refusal_line(rng, aim):
         number = 0 if printed == "accepted\n" else int(printed.split("\t")[1])
     else:
         records = [
-            (grid[0], count, start)
-            for (count, grid), start in zip([(0, board)] + pieces, starts)
+            (grid[0], count, wood, start)
+            for (count, grid, wood), start in zip([(0, board, 0)] + pieces, starts)
         ]
         number, source = model.refusal(
             made["engine"], made["turned"], made["mirrored"], records[0], records[1:], lent,
@@ -550,9 +591,10 @@ def refusal_line(rng, aim):
     call = "call %s %s %s (%s) (%s) (%s) 0 0 %d %d" % (
         ENGINE_NAMES[made["engine"]],
         str(made["turned"]).lower(), str(made["mirrored"]).lower(),
-        record(board[0], 0, starts[0]),
+        record(board[0], 0, rng.choice(WOODS), starts[0]),
         listed(
-            record(grid[0], count, start) for (count, grid), start in zip(pieces, starts[1:])
+            record(grid[0], count, wood, start)
+            for (count, grid, wood), start in zip(pieces, starts[1:])
         ),
         bytes_term(lent), made["work"], made["links"],
     )
@@ -588,8 +630,8 @@ abbrev pub digits : ℕ → ℕ → List ℕ → List ℕ
 digits zero k rest = rest
 digits (suc n) k rest = digits n (k / 10) (k % 10 ∷ rest)
 
-abbrev pub at : ℕ → ℕ → ℕ → ℕ → ℕ → Record
-at n i j k s = record { a = i; b = j; c = k; count = n; start = s }
+abbrev pub at : ℕ → ℕ → ℕ → ℕ → ℕ → ℕ → Record
+at n w i j k s = record { a = i; b = j; c = k; count = n; wood = w; start = s }
 
 abbrev pub call : SolverKind → Bool → Bool → Record → List Record → List ℕ → ℕ → ℕ → ℕ → ℕ → Call
 call engine turned mirrored b ps bytes skip room work links =
@@ -649,8 +691,8 @@ placeIn (c ∷ cs) e = let n = placeIn cs e in cond (same c e) 0 (suc n)
 NAMES_OF_LINES = {"pages": ("page", "isPage", "Line"), "refusals": ("gives", "isGiven", "Given")}
 
 
-def record(sides, count, start):
-    return "at %d %d %d %d %d" % (count, *sides, start)
+def record(sides, count, wood, start):
+    return "at %d %d %d %d %d %d" % (count, wood, *sides, start)
 
 
 def listed(terms):

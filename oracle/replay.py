@@ -7,8 +7,8 @@
 A call is: how many pieces, the engine (0 to 3), turned, mirrored, words of the work
 slice, numbers of the links slice, what is shown (0 its row system, 1 its pages too,
 2 its pages alone); for the board, then
-for each of the first 16 pieces, three sides, a count and the place where its cells
-begin; the lent bytes, a digit each.
+for each of the first 16 pieces, three sides, a count, a wood and the place where its
+cells begin; the lent bytes, a digit each. The board's count and wood are not read.
 
 `calls` needs the oracle built (it takes random trays from target/release/trays).
 """
@@ -61,7 +61,7 @@ def refusal(call):
         return 2
     if any(not 1 <= side <= 8 for record in records for side in record[:3]):
         return 3
-    if any(start + a * b * c > len(data) for a, b, c, _, start in records):
+    if any(start + a * b * c > len(data) for a, b, c, _, _, start in records):
         return 4
     grids = [grid_of(record, data) for record in records]
     if any(cell > 1 for _, cells in grids for cell in cells):
@@ -70,7 +70,7 @@ def refusal(call):
         return 6
     if any(model.has_empty_outer_layer(grid) for grid in grids[1:]):
         return 7
-    if sum(count for _, _, _, count, _ in pieces) > 128:
+    if sum(count for _, _, _, count, _, _ in pieces) > 128:
         return 8
     if sum(grids[0][1]) > 128:
         return 9
@@ -91,14 +91,14 @@ def refusal(call):
 
 
 def grid_of(record, data):
-    a, b, c, _, start = record
+    a, b, c, _, _, start = record
     return (a, b, c), tuple(data[start:start + a * b * c])
 
 
 def problem_of(records, data):
     return model.Problem(
         grid_of(records[0], data),
-        [(record[3], grid_of(record, data)) for record in records[1:]],
+        [(record[3], grid_of(record, data), record[4]) for record in records[1:]],
     )
 
 
@@ -113,7 +113,7 @@ def show(call):
     size, kinds = len(problem.scanned), len(problem.kinds)
     sides = problem.board[0]
     turns, mirrorings = (symmetries(problem.board, maps) for maps in transforms())
-    smallest = [model.variants(grid)[0] for _, grid in problem.pieces]
+    kind_of = [(model.variants(grid)[0], wood) for _, grid, wood in problem.pieces]
     lines = [
         f"cells {size} kinds {kinds} rows {len(problem.placements)} "
         f"turns {len(turns)} mirrorings {len(mirrorings)}",
@@ -123,8 +123,8 @@ def show(call):
                       kinds if problem.partners[kind] is None else problem.partners[kind])
         ]),
         words("pieces", [
-            n for shape, (count, _) in zip(smallest, problem.pieces)
-            for n in (problem.kinds.index(shape), count)
+            n for kind, (count, _, _) in zip(kind_of, problem.pieces)
+            for n in (problem.kinds.index(kind), count)
         ]),
     ]
     if size <= 30:
@@ -191,10 +191,11 @@ def tray(path, engine=None, turned=0, mirrored=0):
 
 
 def lent(grids, engine=FAST, turned=0, mirrored=0, work=8192, links=32768, paged=0):
-    """A call whose grids' cells stand one behind the other; the first is the board."""
+    """A call whose grids' cells stand one behind the other; the first is the board. A wood
+    may follow a grid."""
     records, data = [], []
-    for count, (sides, cells) in grids:
-        records.append((*sides, count, len(data)))
+    for count, (sides, cells), *wood in grids:
+        records.append((*sides, count, *(wood or [0]), len(data)))
         data += cells
     return [len(records) - 1, engine, turned, mirrored, work, links, paged, records, data]
 
@@ -226,7 +227,7 @@ def changed(call, **fields):
 
 
 def record(call, number, **fields):
-    names = ("a", "b", "c", "count", "start")
+    names = ("a", "b", "c", "count", "wood", "start")
     records = [list(entry) for entry in call[7]]
     for name, value in fields.items():
         records[number][names.index(name)] = value
@@ -407,7 +408,7 @@ def without_pieces():
 def empty_pairs(row):
     ways = {
         3: lambda call: record(call, 0, b=9),
-        4: lambda call: record(call, 0, start=call[7][0][4] + 1),
+        4: lambda call: record(call, 0, start=call[7][0][5] + 1),
         5: lambda call: changed(call, data=call[8][:-1] + [2]),
         10: lambda call: changed(call, turned=0, mirrored=1),
         11: lambda call: changed(call, engine=1),
@@ -421,6 +422,51 @@ def empty_pairs(row):
     large = lent([(1, part((3, 8, 8), 129))], engine=KNUTH)
     for number in ways:
         yield ways[number](large)
+
+
+def woods():
+    """Calls with woods, with pages of both engines where the board is small."""
+    identifications = ((0, 0), (1, 0), (1, 1))
+    two = [(1, full(1, 1, 2)), (1, M, 9), (1, M, 2)]
+    mixed = (
+        two,
+        # by grid, then by wood: M is kind 0
+        [(1, full(1, 1, 3)), (1, D, 0), (1, M, 9)],
+        # one shape in three woods, lent turned; one piece more than fits
+        [(1, full(1, 2, 4)), (2, D, 10), (1, full(2, 1, 1), 9), (2, full(1, 2, 1), 255)],
+        # handed pieces: no partner, and partners in one of two woods
+        [(1, full(2, 2, 2)), (2, HANDED), (2, PARTNER, 1)],
+        [(1, full(2, 2, 2)), (1, HANDED, 3), (1, PARTNER, 3), (1, HANDED, 200), (2, M, 3)],
+    )
+    for grids in mixed:
+        for turned, mirrored in identifications:
+            yield lent(grids, FAST, turned, mirrored, paged=2 if turned else 1)
+    # two woods, in one of them lent twice; a wood without copies; no board cell
+    yield lent([(1, full(1, 1, 4)), (1, M, 5), (1, M, 6), (2, M, 5)], FAST, 1, paged=1)
+    yield lent([(1, full(1, 1, 3)), (0, M, 1), (1, M, 2), (1, D, 1)], KNUTH, 1, 1, paged=1)
+    yield lent([(1, part((1, 2, 2), 0)), (1, M, 1), (0, M, 2)], FAST, 1, 1, paged=1)
+    # one wood all through, and the board's, which is not read
+    yield lent([(1, full(1, 1, 3)), (1, M, 7), (1, D, 7)], FAST, 1, paged=1)
+    yield lent([(1, full(2, 2, 2)), (2, HANDED, 255), (2, PARTNER, 255)], KNUTH, 1, 1, paged=1)
+    for wood in (2, 9, 255):
+        yield record(lent(two, FAST, 1, 1, paged=2), 0, wood=wood)
+    # copies are counted over the woods, placements and links in each
+    for count in (100, 101):
+        yield lent([(1, full(1, 1, 2)), (count, M, 1), (28, M, 2)], paged=1)
+    board = full(4, 4, 8)
+    for number in (8, 9):
+        for engine in (FAST, KNUTH):
+            yield shared(board, [(16 if wood % 2 else 0, M, wood) for wood in range(number)], engine)
+    for number in (2, 3):
+        for engine in (FAST, KNUTH):
+            yield shared(board, [(1, full(2, 2, 4), wood) for wood in range(253, 253 + number)], engine)
+
+
+def shared(board, pieces, engine):
+    """A call without pages whose full grids all begin where the board's cells do."""
+    call = lent([(1, board)] + pieces, engine)
+    records = [(*entry[:5], 0) for entry in call[7]]
+    return changed(call, records=records, data=call[8][:len(board[1])])
 
 
 def is_small(call):
@@ -466,8 +512,8 @@ def read(source):
         at += 7
         records = []
         for _ in range(min(head[0], 16) + 1):
-            records.append(tuple(int(field) for field in fields[at:at + 5]))
-            at += 5
+            records.append(tuple(int(field) for field in fields[at:at + 6]))
+            at += 6
         yield [*head, records, [int(digit) for digit in fields[at]]]
         at += 1
 
@@ -479,8 +525,9 @@ def main():
         for part_of in (limits, pairs):
             for call in part_of():
                 print(text(changed(call, paged=int(is_small(call)))))
-        for call in empty_boxes():
-            print(text(call))
+        for part_of in (empty_boxes, woods):
+            for call in part_of():
+                print(text(call))
         for call in trays(31, 700, 220):
             print(text(call))
         return

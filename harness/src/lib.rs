@@ -9,6 +9,7 @@ pub struct Record {
     pub b: usize,
     pub c: usize,
     pub count: u32,
+    pub wood: u8,
     pub start: usize,
 }
 
@@ -80,11 +81,11 @@ pub struct Lent {
 impl Lent {
     pub fn new(tray: &Tray) -> Lent {
         let mut bytes = vec![];
-        let board = record(&tray.board, 0, &mut bytes);
+        let board = record(&tray.board, 0, 0, &mut bytes);
         let pieces = tray
             .pieces
             .iter()
-            .map(|piece| record(&piece.grid, piece.count, &mut bytes))
+            .map(|piece| record(&piece.grid, piece.count, piece.wood, &mut bytes))
             .collect();
         Lent {
             pieces,
@@ -156,7 +157,7 @@ impl Lent {
     }
 }
 
-fn record(grid: &Grid, count: u32, bytes: &mut Vec<u8>) -> Record {
+fn record(grid: &Grid, count: u32, wood: u8, bytes: &mut Vec<u8>) -> Record {
     let [a, b, c] = grid.sides.map(|side| side as usize);
     let start = bytes.len();
     bytes.extend(&grid.cells);
@@ -165,6 +166,7 @@ fn record(grid: &Grid, count: u32, bytes: &mut Vec<u8>) -> Record {
         b,
         c,
         count,
+        wood,
         start,
     }
 }

@@ -4,6 +4,7 @@
 mod accepted;
 mod empty_box;
 mod refused;
+mod woods;
 
 use crate::effort::{self, Bound};
 use crate::malformed;
@@ -63,12 +64,18 @@ impl Corner {
     }
 
     fn attempt(&self, random: &mut Random, config: (&str, &str)) -> Option<Vec<u8>> {
-        let (board, pieces) = match self.make {
+        let (board, mut pieces) = match self.make {
             Make::Parts(parts) => parts(random)?,
             Make::Board(board) => (board(random)?, vec![]),
             Make::Faults(one, other) => with_faults(random, [one, other])?,
             Make::File(_) | Make::Spoilt(_) => plain(random)?,
         };
+        // Some trays are all of one wood, which changes nothing.
+        let is_plain = pieces.iter().all(|piece| piece.wood == 0);
+        if is_plain && !matches!(self.make, Make::File(_) | Make::Spoilt(_)) && random.one_in(4) {
+            let wood = random.between(1, 255) as u8;
+            pieces.iter_mut().for_each(|piece| piece.wood = wood);
+        }
         let file = tray::write(config, &board, &pieces);
         let text = |file| String::from_utf8(file).unwrap();
         Some(match self.make {
@@ -118,10 +125,10 @@ pub fn corners() -> Vec<Corner> {
     let mut add_with = |name: String, make, refused, bound, configs| {
         corners.push(Corner { name, make, refused, bound, configs })
     };
-    for &(name, parts) in WHEN_MIRRORED {
+    for &(name, parts) in WHEN_MIRRORED.iter().chain(woods::WHEN_MIRRORED) {
         add_with(name.into(), Make::Parts(parts), None, SHORT, MIRRORED);
     }
-    for &(name, parts) in WHEN_IDENTIFIED_FAST {
+    for &(name, parts) in WHEN_IDENTIFIED_FAST.iter().chain(woods::WHEN_IDENTIFIED_FAST) {
         add_with(name.into(), Make::Parts(parts), None, SHORT, IDENTIFIED_FAST);
     }
     let mut add = |name, make, refused, bound| add_with(name, make, refused, bound, &CONFIGS);
@@ -134,10 +141,16 @@ pub fn corners() -> Vec<Corner> {
     for &(name, board) in empty_box::LISTED {
         add(name.into(), Make::Board(board), None, SHORT);
     }
+    for &(name, parts) in woods::LISTED {
+        add(name.into(), Make::Parts(parts), None, SHORT);
+    }
+    for &(name, parts) in woods::WITH_LONG_SEARCHES {
+        add(name.into(), Make::Parts(parts), None, LONG);
+    }
     for &(name, refused, board) in empty_box::REFUSED {
         add(name.into(), Make::Board(board), Some(refused), SHORT);
     }
-    for &(name, refused, parts) in REFUSED {
+    for &(name, refused, parts) in REFUSED.iter().chain(woods::REFUSED) {
         add(name.into(), Make::Parts(parts), Some(refused), LONG);
     }
     for (index, &one) in FAULTS.iter().enumerate() {
@@ -146,7 +159,7 @@ pub fn corners() -> Vec<Corner> {
             add(name, Make::Faults(one, other), Some(one), SHORT);
         }
     }
-    for &(name, refused, change) in FILES {
+    for &(name, refused, change) in FILES.iter().chain(woods::FILES) {
         add(name.into(), Make::File(change), refused, SHORT);
     }
     for (way, name) in malformed::names().enumerate() {

@@ -84,7 +84,7 @@ pub fn lend(random: &mut Random, mut grids: Vec<Grid>) -> Vec<Piece> {
     for grid in grids {
         match pieces.iter_mut().find(|piece| is_same_kind(&piece.grid, &grid)) {
             Some(piece) => piece.count += 1,
-            None => pieces.push(Piece { count: 1, grid }),
+            None => pieces.push(Piece::new(1, grid)),
         }
     }
     pieces
@@ -98,6 +98,7 @@ pub fn mirrored(grid: &Grid) -> Grid {
     grid_of(&shape(grid).mirror())
 }
 
+/// Whether pieces with these grids are of one kind if their woods agree.
 pub fn is_same_kind(one: &Grid, other: &Grid) -> bool {
     shape(one).normalize() == shape(other).normalize()
 }

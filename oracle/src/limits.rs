@@ -71,7 +71,7 @@ fn with_spares(mut pieces: Vec<Piece>, grids: Vec<Grid>, count: u32) -> Option<V
         if pieces.iter().any(|piece| grids::is_same_kind(&piece.grid, &grid)) {
             return None;
         }
-        pieces.push(Piece { count, grid });
+        pieces.push(Piece::new(count, grid));
     }
     Some(pieces)
 }
@@ -83,7 +83,7 @@ pub fn with_placements(random: &mut Random, number: usize) -> Option<(Grid, Vec<
     let board = grids::with_holes(random, grids::full(sides), 12);
     let filled = placements::filled_cells(&board);
     let pieces = if random.one_in(2) {
-        vec![Piece { count: filled as u32, grid: grids::full([1, 1, 1]) }]
+        vec![Piece::new(filled as u32, grids::full([1, 1, 1]))]
     } else {
         let grids = grids::cut(random, &board, [8, 20], true);
         grids::lend(random, grids)
@@ -117,7 +117,7 @@ pub fn with_links(random: &mut Random, number: usize) -> Option<(Grid, Vec<Piece
     let missing = number - links(&board, &pieces);
     for thickness in 1..=missing as u32 {
         let grid = grids::full([1, thickness, 8]);
-        pieces.push(Piece { count: random.between(0, 2), grid });
+        pieces.push(Piece::new(random.between(0, 2), grid));
     }
     (pieces.len() <= MOST_PIECES).then_some((board, pieces))
 }

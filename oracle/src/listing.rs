@@ -10,15 +10,18 @@ use crate::solver::{self, SolverKind};
 use crate::tray::{self, Engine, Grid, Tray};
 
 pub const PANIC: &str = "panic\n";
+pub const MIXED: &str = "mixed\n";
 
 /// What `pack` is to print for a file, or `panic` where the original panics. With
-/// no piece it always does, so it is not asked there.
+/// no piece it always does, so it is not asked there. It knows no woods, so where
+/// the pieces are of several it is not asked either: `mixed`.
 pub fn of_file(file: &[u8]) -> String {
     match tray::parse(file, tray::config_of_file) {
         None => refused(MALFORMED),
         Some(tray) => match refusal_of_tray(&tray) {
             Some(number) => refused(number),
             None if tray.pieces.is_empty() => of_empty_box(&tray.board),
+            None if tray.is_mixed() => MIXED.to_string(),
             None => of_original(&tray),
         },
     }
@@ -37,7 +40,7 @@ pub fn of_empty_box(board: &Grid) -> String {
     format!("0\t{}\npackings\t1\n", vec!["-"; board.cells.len()].join(" "))
 }
 
-/// The listing of what the original's `solve` returns, or `panic`.
+/// The listing of what the original's `solve` returns, or `panic`. Woods are left out.
 pub fn of_original(tray: &Tray) -> String {
     panic::catch_unwind(|| solve(tray)).unwrap_or_else(|_| PANIC.to_string())
 }

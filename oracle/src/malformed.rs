@@ -51,6 +51,12 @@ impl Fields {
         &mut self.0[line][1]
     }
 
+    /// Puts a further field behind a piece's line, where its wood stands.
+    fn add_wood(&mut self, random: &mut Random, field: &str) {
+        let line = self.piece_line(random);
+        self.0[line].push(field.into())
+    }
+
     fn word(&mut self, line: usize) -> &mut String {
         &mut self.0[line][0]
     }
@@ -90,7 +96,12 @@ const OF_FIELDS: &[(&str, Spoil)] = &[
     }),
     ("field_extra", |random, file| {
         let line = file.any_line(random);
-        file.0[line].push(random.pick(&["1", "0", "11", "none"]).to_string())
+        let field = random.pick(&["1", "0", "11", "none"]).to_string();
+        if line >= FIRST_PIECE {
+            // One more would be its wood.
+            file.0[line].push(random.pick(&["0", "1", "255"]).to_string());
+        }
+        file.0[line].push(field)
     }),
     ("tab_at_end", |random, file| {
         let line = file.any_line(random);
@@ -164,6 +175,83 @@ const OF_FIELDS: &[(&str, Spoil)] = &[
     ("cells_parted", |random, file| {
         let cells = file.cells(random);
         *cells = cells.chars().map(|cell| format!("{cell} ")).collect()
+    }),
+    ("wood_256", |random, file| file.add_wood(random, "256")),
+    ("wood_999", |random, file| file.add_wood(random, "999")),
+    ("wood_above_255", |random, file| {
+        let wood = random.between(256, 999).to_string();
+        file.add_wood(random, &wood)
+    }),
+    ("wood_0255", |random, file| file.add_wood(random, "0255")),
+    ("wood_of_four_digits", |random, file| {
+        let wood = *random.pick(&["0000", "0007", "0256", "1000", "2550", "9999"]);
+        file.add_wood(random, wood)
+    }),
+    ("wood_of_many_digits", |random, file| {
+        // At most 255 if a number of 16, 32 or 64 bits wraps, or by leading zeros.
+        let wood = *random.pick(&[
+            "65536",
+            "4294967297",
+            "18446744073709551616",
+            "00000000000000000001",
+            "000000255",
+        ]);
+        file.add_wood(random, wood)
+    }),
+    ("wood_empty", |random, file| file.add_wood(random, "")),
+    ("wood_signed", |random, file| {
+        let wood = *random.pick(&["+7", "-7", "+0", "-0", "-1", "+"]);
+        file.add_wood(random, wood)
+    }),
+    ("wood_with_blank", |random, file| {
+        let wood = *random.pick(&[" 7", "7 ", " ", "1 2", "  7", " 0 ", "7\r", "7\u{a0}"]);
+        file.add_wood(random, wood)
+    }),
+    ("wood_no_number", |random, file| {
+        let wood = *random.pick(&["x", "7x", "x7", "0x1", "1.", "1e1", "oak", "\u{661}", "7\0"]);
+        file.add_wood(random, wood)
+    }),
+    ("wood_and_an_eighth_field", |random, file| {
+        let field = *random.pick(&["7\t7", "0\t0", "255\t1", "1\t11", "\t7", "7\t256"]);
+        file.add_wood(random, field)
+    }),
+    ("wood_and_a_tab", |random, file| {
+        let wood = *random.pick(&["7\t", "0\t", "255\t", "\t"]);
+        file.add_wood(random, wood)
+    }),
+    ("wood_of_the_board", |random, file| {
+        let wood = *random.pick(&["0", "7", "255", "00", "", "256"]);
+        file.0[BOARD].push(wood.into())
+    }),
+    ("wood_of_the_config", |random, file| {
+        let wood = *random.pick(&["0", "7", "255"]);
+        file.0[CONFIG].push(wood.into())
+    }),
+    ("wood_in_place_of_the_cells", |random, file| {
+        let line = file.piece_line(random);
+        *file.0[line].last_mut().unwrap() = random.pick(&["2", "7", "255", "12"]).to_string()
+    }),
+    ("wood_and_a_field_missing", |random, file| {
+        // The count or a side; 9 is then no cells.
+        let line = file.piece_line(random);
+        let field = 1 + random.below(4);
+        file.0[line].remove(field);
+        file.0[line].push("9".into())
+    }),
+    ("wood_spoilt_among_others", |random, file| {
+        for line in FIRST_PIECE..file.0.len() {
+            let wood = random.between(0, 255).to_string();
+            file.0[line].push(wood);
+        }
+        let line = file.piece_line(random);
+        let wood = *random.pick(&["256", "", "-1", "0001", " 1"]);
+        *file.0[line].last_mut().unwrap() = wood.into()
+    }),
+    ("wood_beside_a_refusal", |random, file| {
+        // Seventeen pieces: 2 if none of them were spoilt.
+        let piece = file.0[FIRST_PIECE].clone();
+        file.0.resize(FIRST_PIECE + 17, piece);
+        file.add_wood(random, "256")
     }),
     ("side_0_without_its_tab", |random, file| {
         let line = file.piece_line(random);

@@ -24,25 +24,26 @@ pub fn filled_cells(grid: &Grid) -> usize {
     grid.cells.iter().filter(|&&cell| cell == 1).count()
 }
 
-/// The kinds of the pieces, in order, with their placements on a board of at
-/// most `MOST_CELLS` filled cells. No piece may be empty or have an empty
-/// outer layer.
+/// The kinds of the pieces, by smallest grid, then by wood, with their placements
+/// on a board of at most `MOST_CELLS` filled cells. No piece may be empty or have
+/// an empty outer layer.
 pub fn kinds(board: &Grid, pieces: &[Piece]) -> Vec<Kind> {
     let numbers = scan_numbers(board);
 
-    let mut lent: Vec<(Shape, u64)> = pieces
+    let mut lent: Vec<((Shape, u8), u64)> = pieces
         .iter()
-        .map(|piece| (shape(&piece.grid).normalize(), u64::from(piece.count)))
+        .map(|piece| ((shape(&piece.grid).normalize(), piece.wood), u64::from(piece.count)))
         .collect();
     lent.sort();
 
     let mut kinds: Vec<Kind> = vec![];
-    let mut last: Option<Shape> = None;
-    for (smallest, copies) in lent {
-        if last.as_ref() == Some(&smallest) {
+    let mut last: Option<(Shape, u8)> = None;
+    for (kind, copies) in lent {
+        if last.as_ref() == Some(&kind) {
             kinds.last_mut().unwrap().copies += copies;
             continue;
         }
+        let smallest = &kind.0;
         let variants = smallest.enumerate_transforms();
         let mut rows: Vec<u128> =
             variants.iter().flat_map(|variant| rows(board, &numbers, variant)).collect();
@@ -50,14 +51,14 @@ pub fn kinds(board: &Grid, pieces: &[Piece]) -> Vec<Kind> {
         rows.sort_by_key(|row| row.trailing_zeros());
         let cells = smallest.data.iter().filter(|&&cell| cell).count();
         kinds.push(Kind { copies, cells, rows });
-        last = Some(smallest);
+        last = Some(kind);
     }
     kinds
 }
 
 /// How many placements one piece has on the board, in any of its turns.
 pub fn placements_of(board: &Grid, piece: &Grid) -> usize {
-    let one = Piece { count: 1, grid: piece.clone() };
+    let one = Piece::new(1, piece.clone());
     kinds(board, &[one])[0].rows.len()
 }
 

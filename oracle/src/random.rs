@@ -35,6 +35,10 @@ impl Random {
         &choices[self.below(choices.len())]
     }
 
+    pub fn pick_mut<'a, T>(&mut self, choices: &'a mut [T]) -> &'a mut T {
+        &mut choices[self.below(choices.len())]
+    }
+
     pub fn shuffle<T>(&mut self, list: &mut [T]) {
         for end in (1..list.len()).rev() {
             list.swap(end, self.below(end + 1));

@@ -15,11 +15,13 @@ pub const MOST_LINKS: usize = 4_096;
 pub const WORK_WORDS: usize = 8_192;
 pub const LINK_NUMBERS: usize = 32_768;
 
-/// A grid as it is lent: sides, count, and where its cells begin.
+/// A grid as it is lent: sides, count, wood, and where its cells begin. The
+/// board's count and wood are not read.
 #[derive(Clone, Copy, Debug)]
 pub struct Record {
     pub sides: [u32; 3],
     pub count: u32,
+    pub wood: u8,
     pub start: u64,
 }
 
@@ -55,7 +57,10 @@ pub fn refusal(call: &Call) -> Option<u8> {
     let board = read(&call.board, call.cells);
     let pieces: Vec<Piece> = pieces
         .iter()
-        .map(|record| Piece { count: record.count, grid: read(record, call.cells) })
+        .map(|record| {
+            let grid = read(record, call.cells);
+            Piece { count: record.count, grid, wood: record.wood }
+        })
         .collect();
 
     if pieces.iter().any(|piece| placements::filled_cells(&piece.grid) == 0) {
@@ -97,14 +102,14 @@ pub fn refusal(call: &Call) -> Option<u8> {
 /// The refusal of a well-formed file: `pack` lends slices that are big enough.
 pub fn refusal_of_tray(tray: &Tray) -> Option<u8> {
     let mut cells = vec![];
-    let mut lend = |grid: &Grid, count| {
+    let mut lend = |grid: &Grid, count, wood| {
         let start = cells.len() as u64;
         cells.extend(&grid.cells);
-        Record { sides: grid.sides, count, start }
+        Record { sides: grid.sides, count, wood, start }
     };
-    let board = lend(&tray.board, 0);
+    let board = lend(&tray.board, 0, 0);
     let pieces: Vec<Record> =
-        tray.pieces.iter().map(|piece| lend(&piece.grid, piece.count)).collect();
+        tray.pieces.iter().map(|piece| lend(&piece.grid, piece.count, piece.wood)).collect();
     refusal(&Call {
         config: tray.config,
         board,
@@ -145,7 +150,7 @@ mod tests {
     use super::*;
 
     /// One cell in a board of one cell, everything big enough.
-    const CELL: Record = Record { sides: [1, 1, 1], count: 1, start: 0 };
+    const CELL: Record = Record { sides: [1, 1, 1], count: 1, wood: 0, start: 0 };
     const CONFIG: Config = Config { engine: Engine::Knuth, turned: true, mirrored: true };
 
     fn call<'a>(pieces: &'a [Record], cells: &'a [u8]) -> Call<'a> {
@@ -203,6 +208,40 @@ mod tests {
         rows.push(Record { sides: [1, 2, 2], ..CELL });
         assert_eq!(with(&rows, Engine::Fast), Some(14));
         assert_eq!(with(&rows, Engine::Knuth), Some(14));
+    }
+
+    #[test]
+    fn the_woods() {
+        let full = [1; 128];
+        let with = |sides, pieces: &[Record], engine| {
+            refusal(&Call {
+                config: Config { engine, ..CONFIG },
+                board: Record { sides, ..CELL },
+                ..call(pieces, &full)
+            })
+        };
+        let in_woods = |record: Record, woods: std::ops::Range<u8>| -> Vec<Record> {
+            woods.map(|wood| Record { wood, ..record }).collect()
+        };
+        // One cell in one wood, and on 128 cells in eight woods and in nine.
+        assert_eq!(with([4, 4, 8], &[CELL; 9], Engine::Knuth), None);
+        assert_eq!(with([4, 4, 8], &in_woods(CELL, 200..208), Engine::Knuth), None);
+        assert_eq!(with([4, 4, 8], &in_woods(CELL, 0..9), Engine::Knuth), Some(14));
+        assert_eq!(with([4, 4, 8], &in_woods(CELL, 0..9), Engine::Fast), Some(14));
+        // A box of two by two by four has 87 placements there: 3,088 links in two
+        // woods and 4,568 in three; without copies a wood is one link.
+        let block = Record { sides: [2, 2, 4], ..CELL };
+        assert_eq!(with([4, 4, 8], &[block; 3], Engine::Knuth), None);
+        assert_eq!(with([4, 4, 8], &in_woods(block, 0..2), Engine::Knuth), None);
+        assert_eq!(with([4, 4, 8], &in_woods(block, 0..3), Engine::Knuth), Some(15));
+        assert_eq!(with([4, 4, 8], &in_woods(block, 0..3), Engine::Fast), None);
+        let spare = Record { count: 0, ..block };
+        assert_eq!(with([4, 4, 8], &in_woods(spare, 0..4), Engine::Knuth), None);
+        // The board's wood is not read.
+        for wood in [1, 255] {
+            let call = Call { board: Record { wood, ..CELL }, ..call(&[CELL], &full) };
+            assert_eq!(refusal(&call), None);
+        }
     }
 
     #[test]
@@ -277,7 +316,7 @@ mod tests {
         odd[0] = 2;
         let mut call = Call {
             config: Config { engine: Engine::Naive, turned: false, mirrored: true },
-            board: Record { sides: [8, 8, 9], count: 0, start: 1 },
+            board: Record { sides: [8, 8, 9], count: 0, wood: 0, start: 1 },
             pieces: &[],
             cells: &odd,
             work_words: WORK_WORDS - 1,

@@ -29,6 +29,14 @@ pub struct Grid {
 pub struct Piece {
     pub count: u32,
     pub grid: Grid,
+    pub wood: u8,
+}
+
+impl Piece {
+    /// A piece of wood 0.
+    pub fn new(count: u32, grid: Grid) -> Piece {
+        Piece { count, grid, wood: 0 }
+    }
 }
 
 #[derive(Clone, Debug, PartialEq, Eq)]
@@ -36,6 +44,13 @@ pub struct Tray {
     pub config: Config,
     pub board: Grid,
     pub pieces: Vec<Piece>,
+}
+
+impl Tray {
+    /// Whether its pieces are of more than one wood. The original knows of none.
+    pub fn is_mixed(&self) -> bool {
+        self.pieces.iter().any(|piece| piece.wood != self.pieces[0].wood)
+    }
 }
 
 /// The six configurations that a file can name, as words of its first line.
@@ -99,13 +114,14 @@ pub fn parse(file: &[u8], config_of: fn(&[u8], &[u8]) -> Option<Config>) -> Opti
     };
     let mut pieces = vec![];
     for line in lines {
-        let piece = match line[..] {
-            [b"piece", count, a, b, c, cells] => {
-                Piece { count: number(count, 9)?, grid: grid([a, b, c], cells)? }
-            }
+        // The wood alone may be absent: 0.
+        let (count, sides, cells, wood) = match line[..] {
+            [b"piece", count, a, b, c, cells] => (count, [a, b, c], cells, &b"0"[..]),
+            [b"piece", count, a, b, c, cells, wood] => (count, [a, b, c], cells, wood),
             _ => return None,
         };
-        pieces.push(piece);
+        let wood = u8::try_from(number(wood, 3)?).ok()?;
+        pieces.push(Piece { count: number(count, 9)?, grid: grid(sides, cells)?, wood });
     }
     Some(Tray { config, board, pieces })
 }
@@ -133,12 +149,16 @@ fn grid(sides: [&[u8]; 3], cells: &[u8]) -> Option<Grid> {
     Some(Grid { sides, cells: cells.iter().map(|&cell| cell - b'0').collect() })
 }
 
-/// The tray as a file, its first line made from the two words.
+/// The tray as a file, its first line made from the two words; wood 0 is left out.
 pub fn write(config: (&str, &str), board: &Grid, pieces: &[Piece]) -> Vec<u8> {
     let mut file = format!("config\t{}\t{}\n", config.0, config.1);
     file.push_str(&format!("board\t{}\n", grid_fields(board)));
     for piece in pieces {
-        file.push_str(&format!("piece\t{}\t{}\n", piece.count, grid_fields(&piece.grid)));
+        file.push_str(&format!("piece\t{}\t{}", piece.count, grid_fields(&piece.grid)));
+        if piece.wood > 0 {
+            file.push_str(&format!("\t{}", piece.wood));
+        }
+        file.push('\n');
     }
     file.into_bytes()
 }

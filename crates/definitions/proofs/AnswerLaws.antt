@@ -1,20 +1,18 @@
 -- No two packings share an answer. Assumes nothing.
-use Prim.Native.Nat.{ℕ, zero, suc, _+_, _≤_, _<_}
-use mathlib.Core.Bool.{Bool, true, false, cond, not, _&&_}
-use mathlib.Core.List.{List, [], _∷_, _++_, map, List·Memᴰ, List·Memᴰ·head, List·Memᴰ·tail, List·Memᴰ·not-nil, List·Memᴰ·cases-cons, Memᴰ·append-left, Memᴰ·append-right, Memᴰ·cast, Memᴰ·map, Memᴰ·of-map, head-eq-of-cons-eq, tail-eq-of-cons-eq}
+use Prim.Native.Nat.{ℕ, zero, suc, _+_, _<_}
+use mathlib.Core.List.{List, [], _∷_, _++_, map, List·Memᴰ, List·Memᴰ·head, List·Memᴰ·tail, List·Memᴰ·not-nil, List·Memᴰ·cases-cons, Memᴰ·append-left, Memᴰ·append-right, Memᴰ·cast, Memᴰ·of-map, head-eq-of-cons-eq, tail-eq-of-cons-eq}
 use mathlib.Core.Path.{_≡_, refl, sym, ap, ap₂, _∙_, subst}
 use mathlib.Core.Logic.{_⊎_, inl, inr}
 use native.Mathlib.Omega.{arith}
-use lib.Dec.{T, ltb, eqb, eqb→eq, eqb-refl, ltb→lt, lt→ltb}
+use lib.Dec.{ltb, eqb, eqb→eq, eqb-refl, lt→ltb}
 use lib.ListN.{length, getD}
-use Rattle.definitions.specs.Lists.{all, any, howMany, keep, each, joined, numbered, numberedFrom, headOr, member, below, ascending, sort, Apart}
-use Rattle.definitions.proofs.ListLaws.{keep-at, keep-of, keep-ascending, each-at, member-at, member-of, eqb-of, apart-each, apart-keep, apart-ascending, ascending-unique, from-ascending, ltb-trans, ltb-irrefl, below-at}
+use Rattle.definitions.specs.Lists.{keep, each, joined, numbered, numberedFrom, headOr, member, below, Apart}
+use Rattle.definitions.proofs.ListLaws.{keep-at, keep-of, each-at, member-at, member-of, apart-each, apart-keep, apart-ascending, ascending-unique, from-ascending, ltb-trans, ltb-irrefl, below-at}
 use Rattle.definitions.proofs.CountLaws.{howMany-length}
-use Rattle.definitions.specs.Grid.{Cell, Grid, box, volume, filledCells, sameGrid, gridAhead, InBox}
-use Rattle.definitions.proofs.MapLaws.{box-of, filled-at}
-use Rattle.definitions.proofs.GroupLaws.{sameGrid→eq}
+use Rattle.definitions.specs.Grid.{Cell, box, volume, InBox}
+use Rattle.definitions.proofs.MapLaws.{box-of}
 use Rattle.definitions.specs.Scan.{scanNumber}
-use Rattle.definitions.specs.Kinds.{Tray, Piece, Sorted, sorted, shapes, smallest, Copy, copiesOf, Kind, kindsOf}
+use Rattle.definitions.specs.Kinds.{Tray, Piece, Form, sameForm, formAhead, Sorted, sortPiece, sorted, forms, Copy, copiesOf, Kind, kindsOf, formOf}
 use Rattle.definitions.specs.Placements.{Placement, Compiled, compile}
 use Rattle.definitions.specs.Packing.{ahead, used, limits, Packing}
 use Rattle.definitions.proofs.PackingLaws.{ahead-trans, ahead-irrefl, packing-placed, packing-once, packing-at, packing-within}
@@ -24,12 +22,10 @@ use Rattle.definitions.proofs.SearchLaws.{WellMade}
 use Rattle.definitions.proofs.WellMadeLaws.{Nth, nth-mem, nth-below, nth-getD, getD-nth, joined-at, numbered-at, numbered-ascending}
 use Rattle.definitions.proofs.CellLaws.{nth-unique, nth-apart, apart-map-in}
 use Rattle.definitions.proofs.ImageLaws.{Numbered}
-use Rattle.definitions.proofs.PartnerLaws.{gs, gs-up, shape-nth}
+use Rattle.definitions.proofs.PartnerLaws.{sameForm→eq, form-irrefl, fs, fs-up, form-nth}
 use Rattle.definitions.proofs.GeometryLaws.{numbered-cells, acts, onto-itself, only-itself, W, in-box, piece-whole}
-use Rattle.definitions.proofs.CellLaws.{grid-irrefl}
-use Rattle.definitions.specs.Kept.Identify.{None, Turned, Mirrored}
+use Rattle.definitions.specs.Kept.Identify.{Turned, Mirrored}
 use Rattle.definitions.proofs.KeptLaws.{Geometry}
-use Rattle.definitions.proofs.ShapeLaws.{accepted-well-made}
 
 -- ---- lists
 two-at : {A : Type 0} (a b a′ b′ : A → ℕ) (xs : List A) → each xs (λ x. a x ∷ b x ∷ []) ≡ each xs (λ x. a′ x ∷ b′ x ∷ []) → (x : A) → List·Memᴰ x xs → (a x ≡ a′ x) × (b x ≡ b′ x)
@@ -218,83 +214,80 @@ answers-at c P Q e u k =
 
 -- ---- copies are numbered apart
 module _ (t : Tray) where
-  sort-piece : ℕ → Piece → Sorted
-  sort-piece i q = record { piece = i; count = q .count; shape = smallest (q .grid) }
-
   same-piece : (x y : Sorted) → List·Memᴰ x (sorted t) → List·Memᴰ y (sorted t) → x .piece ≡ y .piece → x ≡ y
-  unfolding sorted sort-piece
+  unfolding sorted
   same-piece x y a b e =
-      let r = numbered-at sort-piece 0 (t .pieces) a in
-      let s = numbered-at sort-piece 0 (t .pieces) b in
+      let r = numbered-at sortPiece 0 (t .pieces) a in
+      let s = numbered-at sortPiece 0 (t .pieces) b in
       let i : r .0 + 0 ≡ s .0 + 0 = sym (ap (λ (z : Sorted). z .piece) (r .3)) ∙ e ∙ ap (λ (z : Sorted). z .piece) (s .3) in
       let j : r .0 ≡ s .0 = omega arith in
       let p : r .1 ≡ s .1 = nth-unique (t .pieces) (s .0) (r .1) (s .1) (subst (λ (n : ℕ). Nth (t .pieces) n (r .1)) j (r .2)) (s .2) in
-      r .3 ∙ ap₂ (λ (n : ℕ) (q : Piece). sort-piece n q) i p ∙ sym (s .3)
+      r .3 ∙ ap₂ (λ (n : ℕ) (q : Piece). sortPiece n q) i p ∙ sym (s .3)
 
   sorted-apart : Apart (sorted t)
-  unfolding sorted sort-piece
+  unfolding sorted
   sorted-apart =
-      apart-ascending (λ (x y : Sorted). ltb (x .piece) (y .piece)) (λ x s. ltb-irrefl (x .piece) s) (numbered (t .pieces) sort-piece)
-      (numbered-ascending sort-piece (λ (x y : Sorted). ltb (x .piece) (y .piece)) (λ n m x y h. lt→ltb n m h) 0 (t .pieces))
+      apart-ascending (λ (x y : Sorted). ltb (x .piece) (y .piece)) (λ x s. ltb-irrefl (x .piece) s) (numbered (t .pieces) sortPiece)
+      (numbered-ascending sortPiece (λ (x y : Sorted). ltb (x .piece) (y .piece)) (λ n m x y h. lt→ltb n m h) 0 (t .pieces))
 
   copy-of : Sorted → ℕ → Copy
   copy-of q n = record { piece = q .piece; copy = n }
 
-  copies-at : (g : Grid) (x : Copy) → List·Memᴰ x (copiesOf (sorted t) g) → (q : Sorted) × List·Memᴰ q (sorted t) × (q .shape ≡ g) × (x .piece ≡ q .piece)
+  copies-at : (f : Form) (x : Copy) → List·Memᴰ x (copiesOf (sorted t) f) → (q : Sorted) × List·Memᴰ q (sorted t) × (q .form ≡ f) × (x .piece ≡ q .piece)
   unfolding copiesOf copy-of
-  copies-at g x m =
-      let r = each-at (λ (q : Sorted). map (copy-of q) (below (q .count))) (keep (λ (q : Sorted). sameGrid (q .shape) g) (sorted t)) m in
-      let k = keep-at (λ (q : Sorted). sameGrid (q .shape) g) (sorted t) (r .1) in
+  copies-at f x m =
+      let r = each-at (λ (q : Sorted). map (copy-of q) (below (q .count))) (keep (λ (q : Sorted). sameForm (q .form) f) (sorted t)) m in
+      let k = keep-at (λ (q : Sorted). sameForm (q .form) f) (sorted t) (r .1) in
       let n = Memᴰ·of-map (copy-of (r .0)) (below (r .0 .count)) (r .2) in
-      (r .0, k .0, sameGrid→eq (r .0 .shape) g (k .1), sym (ap (λ (z : Copy). z .piece) (n .2)))
+      (r .0, k .0, sameForm→eq (r .0 .form) f (k .1), sym (ap (λ (z : Copy). z .piece) (n .2)))
 
   -- a copy is numbered below the count of the piece that it is of
-  copy-below : (g : Grid) (x : Copy) → List·Memᴰ x (copiesOf (sorted t) g) → (q : Piece) × Nth (t .pieces) (x .piece) q × (x .copy < q .count)
-  unfolding copiesOf copy-of sorted sort-piece
-  copy-below g x m =
-      let r = each-at (λ (q : Sorted). map (copy-of q) (below (q .count))) (keep (λ (q : Sorted). sameGrid (q .shape) g) (sorted t)) m in
-      let k = keep-at (λ (q : Sorted). sameGrid (q .shape) g) (sorted t) (r .1) in
+  copy-below : (f : Form) (x : Copy) → List·Memᴰ x (copiesOf (sorted t) f) → (q : Piece) × Nth (t .pieces) (x .piece) q × (x .copy < q .count)
+  unfolding copiesOf copy-of sorted
+  copy-below f x m =
+      let r = each-at (λ (q : Sorted). map (copy-of q) (below (q .count))) (keep (λ (q : Sorted). sameForm (q .form) f) (sorted t)) m in
+      let k = keep-at (λ (q : Sorted). sameForm (q .form) f) (sorted t) (r .1) in
       let n = Memᴰ·of-map (copy-of (r .0)) (below (r .0 .count)) (r .2) in
-      let y = numbered-at sort-piece 0 (t .pieces) (k .0) in
+      let y = numbered-at sortPiece 0 (t .pieces) (k .0) in
       let e : x .piece ≡ y .0 = let p = ap (λ (z : Copy). z .piece) (n .2) in let i = ap (λ (z : Sorted). z .piece) (y .3) in omega arith in
-      let f : r .0 .count ≡ y .1 .count = ap (λ (z : Sorted). z .count) (y .3) in
+      let o₁ : r .0 .count ≡ y .1 .count = ap (λ (z : Sorted). z .count) (y .3) in
       let h = below-at (r .0 .count) (n .1) in
       let o : n .0 ≡ x .copy = ap (λ (z : Copy). z .copy) (n .2) in
       (y .1, subst (λ (i : ℕ). Nth (t .pieces) i (y .1)) (sym e) (y .2), omega arith)
 
-  copies-apart : (g : Grid) → Apart (copiesOf (sorted t) g)
+  copies-apart : (f : Form) → Apart (copiesOf (sorted t) f)
   unfolding copiesOf copy-of
-  copies-apart g =
-      apart-each (λ (q : Sorted). map (copy-of q) (below (q .count))) (keep (λ (q : Sorted). sameGrid (q .shape) g) (sorted t)) (apart-keep (λ (q : Sorted). sameGrid (q .shape) g) (sorted t) sorted-apart)
+  copies-apart f =
+      apart-each (λ (q : Sorted). map (copy-of q) (below (q .count))) (keep (λ (q : Sorted). sameForm (q .form) f) (sorted t)) (apart-keep (λ (q : Sorted). sameForm (q .form) f) (sorted t) sorted-apart)
       (λ q m. apart-map-in (copy-of q) (below (q .count)) (apart-ascending ltb ltb-irrefl (below (q .count)) (from-ascending 0 (q .count))) (λ a b k l e. ap (λ (z : Copy). z .copy) e))
       (λ q r m k x a b.
       let n = Memᴰ·of-map (copy-of q) (below (q .count)) a in
       let o = Memᴰ·of-map (copy-of r) (below (r .count)) b in
-      same-piece q r (keep-at (λ (z : Sorted). sameGrid (z .shape) g) (sorted t) m .0) (keep-at (λ (z : Sorted). sameGrid (z .shape) g) (sorted t) k .0) (ap (λ (z : Copy). z .piece) (n .2 ∙ sym (o .2))))
+      same-piece q r (keep-at (λ (z : Sorted). sameForm (z .form) f) (sorted t) m .0) (keep-at (λ (z : Sorted). sameForm (z .form) f) (sorted t) k .0) (ap (λ (z : Copy). z .piece) (n .2 ∙ sym (o .2))))
 
-  copies-are : (d : Kind) → List·Memᴰ d (kindsOf t) → d .copies ≡ copiesOf (sorted t) (d .shape)
-  unfolding kindsOf
-  copies-are d k = let r = Memᴰ·of-map _ (shapes (sorted t)) k in sym (ap (λ (x : Kind). x .copies) (r .2)) ∙ ap (copiesOf (sorted t)) (ap (λ (x : Kind). x .shape) (r .2))
+  copies-are : (d : Kind) → List·Memᴰ d (kindsOf t) → d .copies ≡ copiesOf (sorted t) (formOf d)
+  unfolding kindsOf formOf
+  copies-are d k = let r = Memᴰ·of-map _ (forms (sorted t)) k in sym (ap (λ (x : Kind). x .copies) (r .2)) ∙ ap (copiesOf (sorted t)) (ap formOf (r .2))
 
   pub kind-copy-below : (d : Kind) → List·Memᴰ d (kindsOf t) → (x : Copy) → List·Memᴰ x (d .copies) → (q : Piece) × Nth (t .pieces) (x .piece) q × (x .copy < q .count)
-  kind-copy-below d k x m = copy-below (d .shape) x (subst (λ (l : List Copy). List·Memᴰ x l) (copies-are d k) m)
+  kind-copy-below d k x m = copy-below (formOf d) x (subst (λ (l : List Copy). List·Memᴰ x l) (copies-are d k) m)
 
   module _ (wholes : (q : Piece) → List·Memᴰ q (t .pieces) → length (q .grid .cells) ≡ volume (q .grid .sides)) where
     pub one-copy-of : (k k′ j j′ : ℕ) (d d′ : Kind) (x : Copy) → Nth (kindsOf t) k d → Nth (kindsOf t) k′ d′ → Nth (d .copies) j x → Nth (d′ .copies) j′ x → (k ≡ k′) × (j ≡ j′)
-    one-copy-of k k′ j j′ d d′ x a b h i = (k-same, nth-apart (d′ .copies) (subst Apart (sym (copies-are d′ (nth-mem (kindsOf t) k′ b))) (copies-apart (d′ .shape))) j j′ x (subst (λ (e : Kind). Nth (e .copies) j x) d-same h) i)
+    one-copy-of k k′ j j′ d d′ x a b h i = (k-same, nth-apart (d′ .copies) (subst Apart (sym (copies-are d′ (nth-mem (kindsOf t) k′ b))) (copies-apart (formOf d′))) j j′ x (subst (λ (e : Kind). Nth (e .copies) j x) d-same h) i)
       where
-        q : (z : Sorted) × List·Memᴰ z (sorted t) × (z .shape ≡ d .shape) × (x .piece ≡ z .piece)
-        q = copies-at (d .shape) x (subst (λ (l : List Copy). List·Memᴰ x l) (copies-are d (nth-mem (kindsOf t) k a)) (nth-mem (d .copies) j h))
+        q : (z : Sorted) × List·Memᴰ z (sorted t) × (z .form ≡ formOf d) × (x .piece ≡ z .piece)
+        q = copies-at (formOf d) x (subst (λ (l : List Copy). List·Memᴰ x l) (copies-are d (nth-mem (kindsOf t) k a)) (nth-mem (d .copies) j h))
 
-        q′ : (z : Sorted) × List·Memᴰ z (sorted t) × (z .shape ≡ d′ .shape) × (x .piece ≡ z .piece)
-        q′ = copies-at (d′ .shape) x (subst (λ (l : List Copy). List·Memᴰ x l) (copies-are d′ (nth-mem (kindsOf t) k′ b)) (nth-mem (d′ .copies) j′ i))
+        q′ : (z : Sorted) × List·Memᴰ z (sorted t) × (z .form ≡ formOf d′) × (x .piece ≡ z .piece)
+        q′ = copies-at (formOf d′) x (subst (λ (l : List Copy). List·Memᴰ x l) (copies-are d′ (nth-mem (kindsOf t) k′ b)) (nth-mem (d′ .copies) j′ i))
 
-        shape-same : d .shape ≡ d′ .shape
-        shape-same = sym (q .2) ∙ ap (λ (z : Sorted). z .shape) (same-piece (q .0) (q′ .0) (q .1) (q′ .1) (sym (q .3) ∙ q′ .3)) ∙ q′ .2
+        form-same : formOf d ≡ formOf d′
+        form-same = sym (q .2) ∙ ap (λ (z : Sorted). z .form) (same-piece (q .0) (q′ .0) (q .1) (q′ .1) (sym (q .3) ∙ q′ .3)) ∙ q′ .2
 
         k-same : k ≡ k′
         k-same =
-            nth-apart (gs t wholes) (apart-ascending gridAhead grid-irrefl (gs t wholes) (gs-up t wholes)) k k′ (d′ .shape) (subst (λ (g : Grid). Nth (gs t wholes) k g) shape-same (shape-nth t wholes k d a)) (shape-nth t wholes k′ d′ b)
+            nth-apart (fs t wholes) (apart-ascending formAhead form-irrefl (fs t wholes) (fs-up t wholes)) k k′ (formOf d′) (subst (λ (f : Form). Nth (fs t wholes) k f) form-same (form-nth t wholes k d a)) (form-nth t wholes k′ d′ b)
 
         d-same : d ≡ d′
         d-same = nth-unique (kindsOf t) k′ d d′ (subst (λ (n : ℕ). Nth (kindsOf t) n d) k-same a) b

@@ -16,7 +16,7 @@ use Rattle.definitions.specs.Scan.{scanNumber}
 use Rattle.definitions.specs.Kinds.{Copy, Kind}
 use Rattle.definitions.specs.Placements.{Placement, Compiled, compile}
 use Rattle.definitions.specs.Packing.{ahead, Packing}
-use Rattle.definitions.specs.PlacementsRight.{noGrid, kindAt}
+use Rattle.definitions.specs.PlacementsRight.{noKind, kindAt}
 use Rattle.definitions.specs.Answers.{Taken, taken, copyOn, answer}
 use Rattle.definitions.specs.Refusals.{Call, trayOf, refusal}
 use Rattle.definitions.specs.Outcomes.{answerSize}
@@ -96,7 +96,7 @@ module _ (c : Compiled) (w : WellMade c) (P : List Placement) (g : Packing c P) 
 
       at : Nth (kindAt c (h .by .kind) .copies) (numberIn P (h .by)) d
       at =
-          subst₂ (λ (k : Kind) (j : ℕ). Nth (k .copies) j d) (sym (nth-value (c .kinds) (h .by .kind) (h .kind) (record { shape = noGrid; partner = 0; copies = [] }) (h .isKind)))
+          subst₂ (λ (k : Kind) (j : ℕ). Nth (k .copies) j d) (sym (nth-value (c .kinds) (h .by .kind) (h .kind) noKind (h .isKind)))
           (sym (place-is (h .by) (h .place) (h .isPlace))) (h .copyIs)
 
   copy-is : (q : Placement) → List·Memᴰ q P → (n : ℕ) → List·Memᴰ n (q .cells) → copyOn (taken c P) n ≡ copyFor c P q

@@ -8,15 +8,15 @@ use native.Mathlib.Nat.{le-refl}
 use native.Mathlib.Omega.{arith}
 use lib.Dec.{T, leb, eqb, eqb→eq, le→leb}
 use lib.ListN.{length, getD}
-use Rattle.definitions.specs.Lists.{all, any, howMany, keep, before, below, member, Apart}
+use Rattle.definitions.specs.Lists.{all, any, howMany, keep, below, member, Apart}
 use Rattle.definitions.proofs.ListLaws.{and-both, all-of, any-of, keep-at, keep-of, below-at, member-of, member-at, howMany-pos, without, apart-keep, apart-length, apart-ascending, eqb-of}
 use Rattle.definitions.proofs.CountLaws.{howMany-length}
-use Rattle.definitions.specs.Grid.{Sides, Cell, Grid, volume, sameCell, sameGrid, filledCells, InBox}
+use Rattle.definitions.specs.Grid.{Sides, Cell, Grid, volume, sameCell, filledCells, InBox}
 use Rattle.definitions.specs.Maps.{Map, side, coordinate, fromEnd, mapSides, mapCell, inverse, mapGrid, turns, mirror, product, identity, axisAt, flipAt}
 use Rattle.definitions.proofs.MapLaws.{Fits, filled-at, filled-there, filled-back, mapped-sides}
-use Rattle.definitions.proofs.GroupLaws.{coordinate-at, coordinate-below, identity-turn, identity-grid, sameGrid→eq}
+use Rattle.definitions.proofs.GroupLaws.{coordinate-at, coordinate-below, identity-turn, identity-grid}
 use Rattle.definitions.specs.Scan.{axes, scan, scanNumber}
-use Rattle.definitions.specs.Kinds.{Tray, Piece, Kind, kindsOf, variants, smallest}
+use Rattle.definitions.specs.Kinds.{Tray, Piece, Form, Kind, kindsOf, variants, smallest, mirroredForm, formOf}
 use Rattle.definitions.specs.Placements.{origin, lies, reaches, fits, Placement, Compiled, compile}
 use Rattle.definitions.specs.Packing.{ahead, samePlacement, covering, used, limits, placed, coversOnce, withinCopies, Packing}
 use Rattle.definitions.proofs.PackingLaws.{ahead-irrefl, samePlacement-refl, packing-placed, packing-once, packing-at, packing-within}
@@ -26,7 +26,7 @@ use Rattle.definitions.proofs.WellMadeLaws.{Nth, nth-mem, nth-getD, get
 use Rattle.definitions.proofs.ShapeLaws.{shape-facts, variant-at, smallest-at}
 use Rattle.definitions.proofs.CellLaws.{cell-by, scan-filled, filled-scan}
 use Rattle.definitions.proofs.MoveLaws.{mirror-in}
-use Rattle.definitions.proofs.PartnerLaws.{variant-of, before-holds, gs, partner-is, shape-nth, shape-whole}
+use Rattle.definitions.proofs.PartnerLaws.{variant-of, partner-form, shape-whole}
 use Rattle.definitions.proofs.ImageLaws.{Numbered, Onto, Onto-placement, after-below, after-after, after-still, image-at, image-of, image-ascending, same-cells, numbers-inj}
 use Rattle.definitions.proofs.ActLaws.{plus, mapsOf, fits-of, product-in, product-on, back-in, Allowed, allowed-back, identity-then-cell, on-cells, kinds-back}
 use Rattle.definitions.proofs.GeometryLaws.{piece-whole, good, W, numbered-cells, to-filled, of-filled, whole, partners, in-box}
@@ -171,7 +171,7 @@ variant-carried odd m n a b t k s e =
 kind-after : (t : Tray) → ((q : Piece) → List·Memᴰ q (t .pieces) → length (q .grid .cells) ≡ volume (q .grid .sides))
     → (odd : Bool) (k : ℕ) (d : Kind) → Nth (kindsOf t) k d → kindAfter (compile t) odd k < length (compile t .kinds)
     → (e : Kind) × Nth (kindsOf t) (kindAfter (compile t) odd k) e × ((n : Map) × List·Memᴰ n (mapsOf odd) × (mapGrid n (d .shape) ≡ e .shape))
-unfolding kindAfter compile
+unfolding kindAfter compile mirroredForm formOf
 kind-after t wholes false k d h b = (d, h, (identity, identity-turn, identity-grid (d .shape) (shape-whole t wholes d (nth-mem (kindsOf t) k h) .0)))
 kind-after t wholes true k d h b =
     (e .0, e .1, (product (s .0) mirror, product-in false true (s .0) mirror (s .1) mirror-in, sym (product-on false true (s .0) mirror (s .1) mirror-in (d .shape)) ∙ s .2 ∙ e-is))
@@ -185,13 +185,8 @@ kind-after t wholes true k d h b =
     s : (m : Map) × List·Memᴰ m turns × (mapGrid m (mapGrid mirror (d .shape)) ≡ smallest (mapGrid mirror (d .shape)))
     s = smallest-at (mapGrid mirror (d .shape))
 
-    j-is : j ≡ before (sameGrid (smallest (mapGrid mirror (d .shape)))) (gs t wholes)
-    j-is = nth-getD (λ (x : Kind). x .partner) (length (kindsOf t)) (kindsOf t) k h ∙ partner-is t wholes d (nth-mem (kindsOf t) k h)
-
     e-is : smallest (mapGrid mirror (d .shape)) ≡ e .0 .shape
-    e-is =
-        sameGrid→eq (smallest (mapGrid mirror (d .shape))) (e .0 .shape)
-        (before-holds (sameGrid (smallest (mapGrid mirror (d .shape)))) (gs t wholes) (e .0 .shape) (subst (λ (i : ℕ). Nth (gs t wholes) i (e .0 .shape)) j-is (shape-nth t wholes j (e .0) (e .1))))
+    e-is = ap (λ (f : Form). f .grid) (partner-form t wholes k j d (e .0) h (e .1) (nth-getD (λ (x : Kind). x .partner) (length (kindsOf t)) (kindsOf t) k h))
 
 -- ---- placements that there are
 placement-of : (t : Tray) (k : ℕ) (d : Kind) → Nth (kindsOf t) k d → (v : Cell) → List·Memᴰ v (scan (axes (t .board .sides)) (t .board)) → (us : List Cell)

@@ -22,7 +22,7 @@ use Rattle.definitions.specs.Kept.Identify.{None}
 use Rattle.definitions.specs.Orders.{listed, packings, fastList, fastAhead}
 use Rattle.definitions.specs.Answers.{Taken, taken, copyOn, answer}
 use Rattle.definitions.specs.Page.{page}
-use Rattle.definitions.specs.Refusals.{Call, sidesOf, gridOf, trayOf, identifyOf, isSide, sidesFit, copyCount, isPorted, isKnuth, refusal}
+use Rattle.definitions.specs.Refusals.{Call, sidesOf, gridOf, trayOf, identifyOf, isSide, sidesFit, copyCount, isPorted, isKnuth, refusal, pieceOf}
 use Rattle.definitions.specs.Outcomes.{Outcome, answersOf, answerSize, capacity, pageOf, overStart, cleared, accepted, outcome}
 use Rattle.definitions.specs.Demands.{Stretch, Pages, placementsIn, coverAnswer, Covers, Demand2, demand2, OneList, demand3}
 use Rattle.definitions.specs.declared.SolverKind.{SolverKind}
@@ -226,7 +226,7 @@ module _ (l : Call) (ok : refusal l ≡ 0) where
   unfolding trayOf
   few-pieces =
       let a = passed l ok .lent .fewPieces in
-      let b = length-map {B = Piece} (l .pieces) (λ r. record { grid = gridOf (l .bytes) r; count = r .count }) in
+      let b = length-map {B = Piece} (l .pieces) (pieceOf (l .bytes)) in
       omega arith
 
   pub copy-fits : (d : Kind) → List·Memᴰ d (compile (trayOf l) .kinds) → (x : Copy) → List·Memᴰ x (d .copies) → (x .piece < 16) × (x .copy < 128)

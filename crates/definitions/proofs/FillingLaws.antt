@@ -5,7 +5,7 @@ use Rattle.definitions.specs.Lists.{all}
 use Rattle.definitions.specs.Grid.{sameCell, box, volume, byteAt, gridWith, filledCells, sidesThenCells, sameGrid, gridAhead}
 use Rattle.definitions.specs.Maps.{side, coordinate, fromEnd, mapSides, mapCell, axisOf, flipOf, inverse, mapGrid, permutations, transform, parity, turns, mirrorings, mirror}
 use Rattle.definitions.specs.Scan.{axisAhead, axes, cellAhead, scan, scanNumber}
-use Rattle.definitions.specs.Kinds.{variants, smallest, sorted, shapes, copiesOf, partnerOf, kindsOf}
+use Rattle.definitions.specs.Kinds.{variants, smallest, sameForm, formAhead, sorted, forms, mirroredForm, copiesOf, partnerOf, kindsOf}
 use Rattle.definitions.specs.Placements.{origin, lies, reaches, fits, placementsAt, placementsOf, compile}
 use Rattle.definitions.specs.Packing.{rank, ahead, samePlacement, covering, used, limits, placed, coversOnce, withinCopies, isPacking}
 use Rattle.definitions.specs.Kept.{compared, smaller, kindAfter, cellAfter, moved, image, symmetries, turnedImages, mirroredImages, images, kept}
@@ -19,5 +19,5 @@ use Rattle.definitions.specs.Files.{callOn}
 use Rattle.definitions.specs.declared.SolverKind.the-variants.{Fast, KnuthAlgorithm}
 
 pub fillings-hold : T (all (λ l. holds Fast l && holds KnuthAlgorithm l) fillings)
-unfolding callOn fillings lists holds sameCell box volume byteAt gridWith filledCells sidesThenCells sameGrid gridAhead side coordinate fromEnd mapSides mapCell axisOf flipOf inverse mapGrid permutations transform parity turns mirrorings mirror axisAhead axes cellAhead scan scanNumber variants smallest sorted shapes copiesOf partnerOf kindsOf origin lies reaches fits placementsAt placementsOf compile rank ahead samePlacement covering used limits placed coversOnce withinCopies isPacking compared smaller kindAfter cellAfter moved image symmetries turnedImages mirroredImages images kept start possible choose search fastChoices identifiesTurned sizes allCells kind0First fastList tallyAhead tallies knuthChoices knuthList packings listed taken copyOn answer page sidesOf gridOf trayOf identifies identifyOf isSide sidesFit cellsLie areBits someFilled filledWhere isTight copyCount boardCellCount isPorted isKnuth placementCount rowsOf linkCount table refusal answersOf answerSize capacity pageOf overStart refused accepted outcome
+unfolding callOn fillings lists holds sameCell box volume byteAt gridWith filledCells sidesThenCells sameGrid gridAhead side coordinate fromEnd mapSides mapCell axisOf flipOf inverse mapGrid permutations transform parity turns mirrorings mirror axisAhead axes cellAhead scan scanNumber variants smallest sameForm formAhead sorted forms mirroredForm copiesOf partnerOf kindsOf origin lies reaches fits placementsAt placementsOf compile rank ahead samePlacement covering used limits placed coversOnce withinCopies isPacking compared smaller kindAfter cellAfter moved image symmetries turnedImages mirroredImages images kept start possible choose search fastChoices identifiesTurned sizes allCells kind0First fastList tallyAhead tallies knuthChoices knuthList packings listed taken copyOn answer page sidesOf gridOf trayOf identifies identifyOf isSide sidesFit cellsLie areBits someFilled filledWhere isTight copyCount boardCellCount isPorted isKnuth placementCount rowsOf linkCount table refusal answersOf answerSize capacity pageOf overStart refused accepted outcome
 fillings-hold = tt

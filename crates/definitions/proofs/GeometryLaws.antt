@@ -21,7 +21,7 @@ use Rattle.definitions.specs.Kept.{Identify, kindAfter, image, images}
 use Rattle.definitions.specs.Kept.Identify.{None, Turned, Mirrored}
 use Rattle.definitions.specs.Moves.{Quarter, Move, Carries, inReach, bringsBack, isOdd, areTurns, gridAfter, cellAfterAll}
 use Rattle.definitions.specs.Moves.Move.{turn, mirroring}
-use Rattle.definitions.specs.Refusals.{Call, sidesOf, gridOf, trayOf, cellsLie, areBits, refusal}
+use Rattle.definitions.specs.Refusals.{Call, sidesOf, gridOf, trayOf, cellsLie, areBits, refusal, pieceOf}
 use Rattle.definitions.specs.declared.Record.{Record}
 use Rattle.definitions.proofs.SearchLaws.{WellMade}
 use Rattle.definitions.proofs.WellMadeLaws.{nth-mem, getD-nth, nth-number, mem-nth, number-below, up-board, ShapeFacts}
@@ -59,7 +59,7 @@ module _ (l : Call) (ok : refusal l ≡ 0) where
   pub piece-whole : (q : Piece) → List·Memᴰ q (T₀ .pieces) → length (q .grid .cells) ≡ volume (q .grid .sides)
   unfolding trayOf
   piece-whole q m =
-      let r = Memᴰ·of-map (λ (r : Record). record { grid = gridOf (l .bytes) r; count = r .count }) (l .pieces) m in
+      let r = Memᴰ·of-map (pieceOf (l .bytes)) (l .pieces) m in
       subst (λ (g : Grid). length (g .cells) ≡ volume (g .sides)) (ap (λ (p : Piece). p .grid) (r .2)) (grid-whole (r .0) (all-at (cellsLie (l .bytes)) (l .board ∷ l .pieces) (tested .lie) (List·Memᴰ·tail (r .1))))
 
   pub good : (d : Kind) → List·Memᴰ d (kindsOf T₀) → (v : Grid) → List·Memᴰ v (variants (d .shape)) → Tight v × T (areBits v) × (length (v .cells) ≡ volume (v .sides))

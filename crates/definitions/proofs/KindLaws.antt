@@ -1,5 +1,5 @@
--- The kinds of an accepted call's tray are its pieces' grids up to quarter turns, with their mirror partners and the copies lent. Assumes nothing.
-use Prim.Native.Nat.{ℕ, zero, suc, _+_, _<_}
+-- The kinds of an accepted call's tray are its pieces' grids up to quarter turns and their woods, with their mirror partners and the copies lent. Assumes nothing.
+use Prim.Native.Nat.{ℕ, _+_, _<_}
 use mathlib.Core.Bool.{Bool, true, false, _&&_}
 use mathlib.Core.List.{List, [], _∷_, map, List·Memᴰ, List·Memᴰ·not-nil, List·Memᴰ·cases-cons, Memᴰ·cast, Memᴰ·map, Memᴰ·of-map}
 use mathlib.Core.Path.{_≡_, sym, ap, ap₂, _∙_, subst}
@@ -9,23 +9,23 @@ use lib.Dec.{T, ltb, eqb, lt→ltb, eqb-refl}
 use lib.ListN.{length, getD, length-map}
 use Rattle.definitions.specs.Lists.{all, keep, each, before, headOr, ascending, below, less}
 use Rattle.definitions.proofs.ListLaws.{and-left, and-right, and-both, or-left, or-right, all-at, all-of, keep-at, keep-of, each-at, each-of, not-T, is-true, first-ahead, keep-ascending, from-ascending, below-at, below-of}
-use Rattle.definitions.specs.Grid.{Cell, Grid, volume, filledCells, sameGrid, gridAhead}
+use Rattle.definitions.specs.Grid.{Cell, Grid, volume, filledCells, gridAhead}
 use Rattle.definitions.specs.Maps.{Map, mapGrid, turns, mirrorings, mirror, product}
 use Rattle.definitions.specs.Scan.{axes, cellAhead}
-use Rattle.definitions.specs.Kinds.{Piece, Tray, variants, smallest, Sorted, sorted, shapes, Copy, copiesOf, partnerOf, Kind, kindsOf}
+use Rattle.definitions.specs.Kinds.{Piece, Tray, variants, smallest, Form, sameForm, formAhead, Sorted, sortPiece, sorted, forms, Copy, copiesOf, mirroredForm, partnerOf, Kind, kindNamed, kindsOf, formOf}
 use Rattle.definitions.specs.Placements.{Compiled, compile}
 use Rattle.definitions.specs.Moves.{Move, isOdd, gridAfter}
 use Rattle.definitions.specs.Moves.Move.{turn, mirroring}
 use Rattle.definitions.specs.Refusals.{Call, trayOf, areBits, refusal}
-use Rattle.definitions.specs.PlacementsRight.{TurnsOnto, MirrorsOnto, noGrid, pieceAt, kindAt, copyAhead}
-use Rattle.definitions.proofs.GroupLaws.{identity-grid, sameGrid→eq, sameGrid-of}
+use Rattle.definitions.specs.PlacementsRight.{TurnsOnto, MirrorsOnto, noGrid, noKind, pieceAt, kindAt, kindAhead, copyAhead}
+use Rattle.definitions.proofs.GroupLaws.{identity-grid}
 use Rattle.definitions.proofs.WellMadeLaws.{Nth, nth-mem, nth-below, nth-getD, getD-nth, numbered-at, numbered-ascending, up-board}
 use Rattle.definitions.proofs.ShapeLaws.{bits, shape-facts, smallest-at}
 use Rattle.definitions.proofs.ActLaws.{mapsOf, product-in, product-on, back-in}
 use Rattle.definitions.proofs.MoveLaws.{movesMap, moves-in, moves-grid, turn-moves, mirroring-moves, turns-alone, mapped-whole, mirror-in}
 use Rattle.definitions.proofs.CellLaws.{nth-unique, nth-value, grid-trans, grid-irrefl}
 use Rattle.definitions.proofs.NameLaws.{name-at, name-nth, one-name}
-use Rattle.definitions.proofs.PartnerLaws.{variant-of, variants-up, smallest-turned, grids-ordered, before-holds, before-grid, gs-up, shapes-are, gs, one-kind}
+use Rattle.definitions.proofs.PartnerLaws.{variant-of, variants-up, smallest-turned, form-path, sameForm→eq, sameForm-of, forms-ordered, before-holds, before-form, fs-up, forms-are, fs, one-smallest}
 use Rattle.definitions.proofs.GeometryLaws.{piece-whole, to-filled, of-filled, turns-not-odd}
 use Rattle.definitions.proofs.AnswerLaws.{numbered-of}
 use Rattle.definitions.proofs.OrderLaws.{each-ascending}
@@ -55,6 +55,14 @@ map-up first rel f h (x ∷ xs) t =
     let r = Memᴰ·of-map f xs m in
     subst (λ (w : _). T (rel (f x) w)) (r .2) (h x (r .0) (all-at (first x) xs (and-left (all (first x) xs) (ascending first xs) t) (r .1)))))
     (map-up first rel f h xs (and-right (all (first x) xs) (ascending first xs) t))
+
+up-map : {A B : Type 0} (rel : B → B → Bool) (first : A → A → Bool) (f : A → B) → ((x y : A) → T (rel (f x) (f y)) → T (first x y))
+    → (xs : List A) → T (ascending rel (map f xs)) → T (ascending first xs)
+up-map rel first f h [] t = tt
+up-map rel first f h (x ∷ xs) t =
+    and-both (all (first x) xs) (ascending first xs)
+    (all-of (first x) xs (λ z m. h x z (all-at (rel (f x)) (map f xs) (and-left (all (rel (f x)) (map f xs)) (ascending rel (map f xs)) t) (Memᴰ·map f m))))
+    (up-map rel first f h xs (and-right (all (rel (f x)) (map f xs)) (ascending rel (map f xs)) t))
 
 -- ---- sequences of moves and maps, on a grid of 0 and 1 with all its cells
 abbrev Whole : Grid → Type 0
@@ -96,7 +104,7 @@ mirror-kind g h wg wh = (there, λ r. smallest-partner g wg ∙ smallest-mirrore
   where
     there : smallest (mapGrid mirror (smallest g)) ≡ smallest h → (m : Map) × List·Memᴰ m mirrorings × (mapGrid m g ≡ h)
     there e =
-        let r = one-kind (mapGrid mirror g) h (mapped-whole mirror g) wh .0 (sym (smallest-partner g wg) ∙ e) in
+        let r = one-smallest (mapGrid mirror g) h (mapped-whole mirror g) wh .0 (sym (smallest-partner g wg) ∙ e) in
         (product (r .0) mirror, product-in false true (r .0) mirror (r .1) mirror-in, sym (product-on false true (r .0) mirror (r .1) mirror-in g) ∙ r .2)
 
 -- ---- accepted calls
@@ -107,15 +115,18 @@ module _ (l : Call) (ok : refusal l ≡ 0) where
   abbrev C : Compiled
   C = compile (trayOf l)
 
-  abbrev G : List Grid
-  G = shapes (sorted T₀)
+  abbrev G : List Form
+  G = forms (sorted T₀)
 
   abbrev gridAt : ℕ → Grid
   gridAt n = pieceAt (trayOf l) n .grid
 
-  -- a piece's kind is the place of its smallest turned grid among those of all pieces
+  -- a piece's form, and its kind: the place of its form among those of all pieces
+  unfoldable pub formAt : ℕ → Form
+  formAt n = record { grid = smallest (pieceAt (trayOf l) n .grid); wood = pieceAt (trayOf l) n .wood }
+
   unfoldable pub kindNumber : ℕ → ℕ
-  kindNumber n = before (sameGrid (smallest (pieceAt (trayOf l) n .grid))) (shapes (sorted (trayOf l)))
+  kindNumber n = before (sameForm (formAt n)) (forms (sorted (trayOf l)))
 
   -- ---- the board's cells
   pub cells-filled : (u : Cell) → List·Memᴰ u (compile (trayOf l) .cells) ↔ List·Memᴰ u (filledCells (trayOf l .board))
@@ -129,11 +140,11 @@ module _ (l : Call) (ok : refusal l ≡ 0) where
   -- ---- pieces
   pub piece-nth : (n : ℕ) → n < length (trayOf l .pieces) → Nth (trayOf l .pieces) n (pieceAt (trayOf l) n)
   unfolding pieceAt
-  piece-nth n h = nth-at (record { grid = noGrid; count = 0 }) (T₀ .pieces) n h
+  piece-nth n h = nth-at (record { grid = noGrid; count = 0; wood = 0 }) (T₀ .pieces) n h
 
   piece-is : (n : ℕ) (q : Piece) → Nth (T₀ .pieces) n q → pieceAt T₀ n ≡ q
   unfolding pieceAt
-  piece-is n q h = nth-value (T₀ .pieces) n q (record { grid = noGrid; count = 0 }) h
+  piece-is n q h = nth-value (T₀ .pieces) n q (record { grid = noGrid; count = 0; wood = 0 }) h
 
   pub grid-bits : (n : ℕ) → n < length (trayOf l .pieces) → T (areBits (pieceAt (trayOf l) n .grid))
   grid-bits n h = bits l ok (pieceAt T₀ n) (nth-mem (T₀ .pieces) n (piece-nth n h))
@@ -141,88 +152,92 @@ module _ (l : Call) (ok : refusal l ≡ 0) where
   pub grid-all : (n : ℕ) → n < length (trayOf l .pieces) → length (pieceAt (trayOf l) n .grid .cells) ≡ volume (pieceAt (trayOf l) n .grid .sides)
   grid-all n h = piece-whole l ok (pieceAt T₀ n) (nth-mem (T₀ .pieces) n (piece-nth n h))
 
-  -- ---- smallest turned grids: those of the pieces, sorted, are the kinds' shapes
-  sort-piece : ℕ → Piece → Sorted
-  sort-piece i q = record { piece = i; count = q .count; shape = smallest (q .grid) }
-
-  sorted-at : (x : Sorted) → List·Memᴰ x (sorted T₀) → (n : ℕ) × (n < length (T₀ .pieces)) × (x ≡ sort-piece n (pieceAt T₀ n))
-  unfolding sorted sort-piece
+  -- ---- forms: those of the pieces, sorted, are the kinds'
+  sorted-at : (x : Sorted) → List·Memᴰ x (sorted T₀) → (n : ℕ) × (n < length (T₀ .pieces)) × (x ≡ sortPiece n (pieceAt T₀ n))
+  unfolding sorted
   sorted-at x m =
-      let r = numbered-at sort-piece 0 (T₀ .pieces) m in
+      let r = numbered-at sortPiece 0 (T₀ .pieces) m in
       let e : r .0 + 0 ≡ r .0 = omega arith in
-      (r .0, nth-below (T₀ .pieces) (r .0) (r .1) (r .2), r .3 ∙ ap₂ (λ (n : ℕ) (q : Piece). sort-piece n q) e (sym (piece-is (r .0) (r .1) (r .2))))
+      (r .0, nth-below (T₀ .pieces) (r .0) (r .1) (r .2), r .3 ∙ ap₂ (λ (n : ℕ) (q : Piece). sortPiece n q) e (sym (piece-is (r .0) (r .1) (r .2))))
 
-  sorted-of : (n : ℕ) → n < length (T₀ .pieces) → List·Memᴰ (sort-piece n (pieceAt T₀ n)) (sorted T₀)
-  unfolding sorted sort-piece
+  sorted-of : (n : ℕ) → n < length (T₀ .pieces) → List·Memᴰ (sortPiece n (pieceAt T₀ n)) (sorted T₀)
+  unfolding sorted
   sorted-of n h =
       let e : n ≡ n + 0 = omega arith in
-      Memᴰ·cast (ap (λ (i : ℕ). sort-piece i (pieceAt T₀ n)) e) (numbered-of sort-piece 0 (T₀ .pieces) n (pieceAt T₀ n) (piece-nth n h))
+      Memᴰ·cast (ap (λ (i : ℕ). sortPiece i (pieceAt T₀ n)) e) (numbered-of sortPiece 0 (T₀ .pieces) n (pieceAt T₀ n) (piece-nth n h))
 
-  shapes-up : T (ascending gridAhead G)
-  unfolding gs
-  shapes-up = gs-up T₀ (piece-whole l ok)
+  forms-up : T (ascending formAhead G)
+  unfolding fs
+  forms-up = fs-up T₀ (piece-whole l ok)
 
-  shape-at : (g : Grid) → List·Memᴰ g G → (n : ℕ) × (n < length (T₀ .pieces)) × (smallest (gridAt n) ≡ g)
-  unfolding shapes sort-piece
-  shape-at g m =
-      let r = name-at gridAhead sameGrid grids-ordered (λ (q : Sorted). q .shape) (sorted T₀) g m in
+  form-at : (f : Form) → List·Memᴰ f G → (n : ℕ) × (n < length (T₀ .pieces)) × (formAt n ≡ f)
+  unfolding forms formAt
+  form-at f m =
+      let r = name-at formAhead sameForm forms-ordered (λ (q : Sorted). q .form) (sorted T₀) f m in
       let s = sorted-at (r .0) (r .1) in
-      (s .0, s .1, sym (ap (λ (q : Sorted). q .shape) (s .2)) ∙ r .2)
+      (s .0, s .1, sym (ap (λ (q : Sorted). q .form) (s .2)) ∙ r .2)
 
-  number-is : (n k : ℕ) → Nth G k (smallest (gridAt n)) → kindNumber n ≡ k
+  number-is : (n k : ℕ) → Nth G k (formAt n) → kindNumber n ≡ k
   unfolding kindNumber
-  number-is n k h = before-grid G shapes-up k (smallest (gridAt n)) h
+  number-is n k h = before-form G forms-up k (formAt n) h
 
-  number-nth : (n : ℕ) → n < length (T₀ .pieces) → Nth G (kindNumber n) (smallest (gridAt n))
-  unfolding kindNumber shapes sort-piece
-  number-nth n h = name-nth gridAhead sameGrid grids-ordered (λ (q : Sorted). q .shape) (sorted T₀) (sort-piece n (pieceAt T₀ n)) (sorted-of n h)
+  number-nth : (n : ℕ) → n < length (T₀ .pieces) → Nth G (kindNumber n) (formAt n)
+  unfolding kindNumber forms formAt
+  number-nth n h = name-nth formAhead sameForm forms-ordered (λ (q : Sorted). q .form) (sorted T₀) (sortPiece n (pieceAt T₀ n)) (sorted-of n h)
 
   -- ---- kinds
-  -- the kind with a shape
-  made : Grid → Kind
-  made g = record { shape = g; partner = partnerOf G g; copies = copiesOf (sorted T₀) g }
+  -- the kind with a form
+  made : Form → Kind
+  made f = kindNamed (sorted T₀) G f
 
-  kind-made : (k : ℕ) (g : Grid) → Nth G k g → kindAt C k ≡ made g
+  kind-made : (k : ℕ) (f : Form) → Nth G k f → kindAt C k ≡ made f
   unfolding kindAt compile kindsOf made
-  kind-made k g h = nth-getD made (record { shape = noGrid; partner = 0; copies = [] }) G k h
+  kind-made k f h = nth-getD made noKind G k h
 
   kinds-length : length (C .kinds) ≡ length G
   unfolding compile kindsOf made
   kinds-length = length-map G made
 
-  kind-nth : (k : ℕ) → k < length (C .kinds) → (g : Grid) × Nth G k g
+  kind-nth : (k : ℕ) → k < length (C .kinds) → (f : Form) × Nth G k f
   kind-nth k h = getD-nth G k (subst (λ (n : ℕ). k < n) kinds-length h)
 
   pub kind-shape : (n : ℕ) → n < length (trayOf l .pieces) → kindAt (compile (trayOf l)) (kindNumber n) .shape ≡ smallest (pieceAt (trayOf l) n .grid)
-  unfolding made
-  kind-shape n h = ap (λ (d : Kind). d .shape) (kind-made (kindNumber n) (smallest (gridAt n)) (number-nth n h))
+  unfolding made formAt
+  kind-shape n h = ap (λ (d : Kind). d .shape) (kind-made (kindNumber n) (formAt n) (number-nth n h))
+
+  pub kind-wood : (n : ℕ) → n < length (trayOf l .pieces) → kindAt (compile (trayOf l)) (kindNumber n) .wood ≡ pieceAt (trayOf l) n .wood
+  unfolding made formAt
+  kind-wood n h = ap (λ (d : Kind). d .wood) (kind-made (kindNumber n) (formAt n) (number-nth n h))
 
   pub is-kind : (n : ℕ) → n < length (trayOf l .pieces) → kindNumber n < length (compile (trayOf l) .kinds)
-  is-kind n h = subst (λ (k : ℕ). kindNumber n < k) (sym kinds-length) (nth-below G (kindNumber n) (smallest (gridAt n)) (number-nth n h))
+  is-kind n h = subst (λ (k : ℕ). kindNumber n < k) (sym kinds-length) (nth-below G (kindNumber n) (formAt n) (number-nth n h))
 
   pub some-lent : (k : ℕ) → k < length (compile (trayOf l) .kinds) → (n : ℕ) × (n < length (trayOf l .pieces)) × (kindNumber n ≡ k)
   some-lent k h =
       let r = kind-nth k h in
-      let s = shape-at (r .0) (nth-mem G k (r .1)) in
-      (s .0, s .1, number-is (s .0) k (subst (λ (g : Grid). Nth G k g) (sym (s .2)) (r .1)))
+      let s = form-at (r .0) (nth-mem G k (r .1)) in
+      (s .0, s .1, number-is (s .0) k (subst (λ (f : Form). Nth G k f) (sym (s .2)) (r .1)))
 
-  one-shape : (n m : ℕ) → n < length (T₀ .pieces) → m < length (T₀ .pieces) → kindNumber n ≡ kindNumber m → smallest (gridAt n) ≡ smallest (gridAt m)
-  unfolding kindNumber shapes sort-piece
-  one-shape n m a b e = one-name gridAhead sameGrid grids-ordered (λ (q : Sorted). q .shape) (sorted T₀) (sort-piece n (pieceAt T₀ n)) (sort-piece m (pieceAt T₀ m)) (sorted-of n a) (sorted-of m b) e
+  one-form : (n m : ℕ) → n < length (T₀ .pieces) → m < length (T₀ .pieces) → kindNumber n ≡ kindNumber m → formAt n ≡ formAt m
+  unfolding kindNumber forms formAt
+  one-form n m a b e = one-name formAhead sameForm forms-ordered (λ (q : Sorted). q .form) (sorted T₀) (sortPiece n (pieceAt T₀ n)) (sortPiece m (pieceAt T₀ m)) (sorted-of n a) (sorted-of m b) e
 
   pub turns-by : (n : ℕ) → n < length (trayOf l .pieces) → (g : Grid) → TurnsOnto (pieceAt (trayOf l) n .grid) g → (m : Map) × List·Memᴰ m turns × (mapGrid m (pieceAt (trayOf l) n .grid) ≡ g)
   turns-by n h g r = by-map (gridAt n) (grid-bits n h) (grid-all n h) false (r .moves) g (not-T (isOdd (r .moves)) (turns-not-odd l ok (r .moves) (r .byTurns))) (r .equal)
 
   pub one-kind-turns : (n m : ℕ) → n < length (trayOf l .pieces) → m < length (trayOf l .pieces)
-      → (kindNumber n ≡ kindNumber m) ↔ TurnsOnto (pieceAt (trayOf l) n .grid) (pieceAt (trayOf l) m .grid)
-  unfolding kindNumber
+      → (kindNumber n ≡ kindNumber m) ↔ (TurnsOnto (pieceAt (trayOf l) n .grid) (pieceAt (trayOf l) m .grid) × (pieceAt (trayOf l) n .wood ≡ pieceAt (trayOf l) m .wood))
+  unfolding kindNumber formAt
   one-kind-turns n m a b = (
-    λ e. let r = both .0 (one-shape n m a b e) in turned-onto (gridAt n) (grid-bits n a) (grid-all n a) (r .0) (gridAt m) (r .1) (r .2),
-    λ x. ap (λ (g : Grid). before (sameGrid g) G) (both .1 (turns-by n a (gridAt m) x)),
+    λ e.
+        let i : formAt n ≡ formAt m = one-form n m a b e in
+        let r = both .0 (ap (λ (f : Form). f .grid) i) in
+        (turned-onto (gridAt n) (grid-bits n a) (grid-all n a) (r .0) (gridAt m) (r .1) (r .2), ap (λ (f : Form). f .wood) i),
+    λ x. ap (λ (f : Form). before (sameForm f) G) (form-path (both .1 (turns-by n a (gridAt m) (x .0))) (x .1)),
   )
     where
       both : (smallest (gridAt n) ≡ smallest (gridAt m)) ↔ ((j : Map) × List·Memᴰ j turns × (mapGrid j (gridAt n) ≡ gridAt m))
-      both = one-kind (gridAt n) (gridAt m) (grid-all n a) (grid-all m b)
+      both = one-smallest (gridAt n) (gridAt m) (grid-all n a) (grid-all m b)
 
   -- ---- a kind's shape
   pub shape-turned : (n : ℕ) → n < length (trayOf l .pieces) → TurnsOnto (pieceAt (trayOf l) n .grid) (kindAt (compile (trayOf l)) (kindNumber n) .shape)
@@ -237,35 +252,37 @@ module _ (l : Call) (ok : refusal l ≡ 0) where
       head-first gridAhead grid-trans grid-irrefl (gridAt n) (variants (gridAt n)) (variants-up (gridAt n)) (Memᴰ·cast (sym (r .2)) (variant-of (gridAt n) (r .0) (r .1)))
       (subst (λ (k : Grid). T (gridAhead g k)) (kind-shape n h) a)
 
-  pub kinds-in-order : T (ascending gridAhead (map (λ d. d .shape) (compile (trayOf l) .kinds)))
-  unfolding compile
-  kinds-in-order = subst (λ (xs : List Grid). T (ascending gridAhead xs)) (sym (shapes-are T₀ (piece-whole l ok))) (gs-up T₀ (piece-whole l ok))
+  pub kinds-in-order : T (ascending kindAhead (compile (trayOf l) .kinds))
+  unfolding compile kindAhead formAhead formOf
+  kinds-in-order = up-map formAhead kindAhead formOf (λ x y t. t) (kindsOf T₀) (subst (λ (xs : List Form). T (ascending formAhead xs)) (sym (forms-are T₀ (piece-whole l ok))) (fs-up T₀ (piece-whole l ok)))
 
   -- ---- mirror partners
-  partner-is : (n : ℕ) → n < length (T₀ .pieces) → kindAt C (kindNumber n) .partner ≡ before (sameGrid (smallest (mapGrid mirror (smallest (gridAt n))))) G
+  partner-is : (n : ℕ) → n < length (T₀ .pieces) → kindAt C (kindNumber n) .partner ≡ before (sameForm (mirroredForm (formAt n))) G
   unfolding made partnerOf
-  partner-is n h = ap (λ (d : Kind). d .partner) (kind-made (kindNumber n) (smallest (gridAt n)) (number-nth n h))
+  partner-is n h = ap (λ (d : Kind). d .partner) (kind-made (kindNumber n) (formAt n) (number-nth n h))
 
   pub partner-mirrors : (n m : ℕ) → n < length (trayOf l .pieces) → m < length (trayOf l .pieces)
-      → (kindAt (compile (trayOf l)) (kindNumber n) .partner ≡ kindNumber m) ↔ MirrorsOnto (pieceAt (trayOf l) n .grid) (pieceAt (trayOf l) m .grid)
-  unfolding kindNumber
+      → (kindAt (compile (trayOf l)) (kindNumber n) .partner ≡ kindNumber m)
+      ↔ (MirrorsOnto (pieceAt (trayOf l) n .grid) (pieceAt (trayOf l) m .grid) × (pieceAt (trayOf l) n .wood ≡ pieceAt (trayOf l) m .wood))
+  unfolding kindNumber formAt mirroredForm
   partner-mirrors n m a b = (
     λ e.
-        let i : Nth G (before (sameGrid s) G) (smallest (gridAt m)) = subst (λ (k : ℕ). Nth G k (smallest (gridAt m))) (sym e ∙ partner-is n a) (number-nth m b) in
-        let r = both .0 (sameGrid→eq s (smallest (gridAt m)) (before-holds (sameGrid s) G (smallest (gridAt m)) i)) in
-        mirrored-onto (gridAt n) (grid-bits n a) (grid-all n a) (r .0) (gridAt m) (r .1) (r .2),
-    λ x. partner-is n a ∙ ap (λ (g : Grid). before (sameGrid g) G) (both .1 (mirrors-by (gridAt n) (grid-bits n a) (grid-all n a) (gridAt m) x)),
+        let i : Nth G (before (sameForm s) G) (formAt m) = subst (λ (k : ℕ). Nth G k (formAt m)) (sym e ∙ partner-is n a) (number-nth m b) in
+        let j : s ≡ formAt m = sameForm→eq s (formAt m) (before-holds (sameForm s) G (formAt m) i) in
+        let r = both .0 (ap (λ (f : Form). f .grid) j) in
+        (mirrored-onto (gridAt n) (grid-bits n a) (grid-all n a) (r .0) (gridAt m) (r .1) (r .2), ap (λ (f : Form). f .wood) j),
+    λ x. partner-is n a ∙ ap (λ (f : Form). before (sameForm f) G) (form-path (both .1 (mirrors-by (gridAt n) (grid-bits n a) (grid-all n a) (gridAt m) (x .0))) (x .1)),
   )
     where
-      s : Grid
-      s = smallest (mapGrid mirror (smallest (gridAt n)))
+      s : Form
+      s = mirroredForm (formAt n)
 
-      both : (s ≡ smallest (gridAt m)) ↔ ((j : Map) × List·Memᴰ j mirrorings × (mapGrid j (gridAt n) ≡ gridAt m))
+      both : (smallest (mapGrid mirror (smallest (gridAt n))) ≡ smallest (gridAt m)) ↔ ((j : Map) × List·Memᴰ j mirrorings × (mapGrid j (gridAt n) ≡ gridAt m))
       both = mirror-kind (gridAt n) (gridAt m) (grid-all n a) (grid-all m b)
 
   -- ---- copies
-  abbrev ofShape : Grid → Sorted → Bool
-  ofShape g q = sameGrid (q .shape) g
+  abbrev ofForm : Form → Sorted → Bool
+  ofForm f q = sameForm (q .form) f
 
   copy-of : Sorted → ℕ → Copy
   copy-of q n = record { piece = q .piece; copy = n }
@@ -273,16 +290,16 @@ module _ (l : Call) (ok : refusal l ≡ 0) where
   abbrev copiesFrom : Sorted → List Copy
   copiesFrom q = map (copy-of q) (below (q .count))
 
-  copies-are : (k : ℕ) (g : Grid) → Nth G k g → kindAt C k .copies ≡ each (keep (ofShape g) (sorted T₀)) copiesFrom
+  copies-are : (k : ℕ) (g : Form) → Nth G k g → kindAt C k .copies ≡ each (keep (ofForm g) (sorted T₀)) copiesFrom
   unfolding made copiesOf copy-of
   copies-are k g h = ap (λ (d : Kind). d .copies) (kind-made k g h)
 
   pub copies-lent : (k : ℕ) (x : Copy) → k < length (compile (trayOf l) .kinds)
       → List·Memᴰ x (kindAt (compile (trayOf l)) k .copies) ↔ ((x .piece < length (trayOf l .pieces)) × (kindNumber (x .piece) ≡ k) × (x .copy < pieceAt (trayOf l) (x .piece) .count))
-  unfolding copy-of sort-piece
+  unfolding copy-of formAt
   copies-lent k x h = (there, back)
     where
-      g : Grid
+      g : Form
       g = kind-nth k h .0
 
       at-k : Nth G k g
@@ -293,31 +310,31 @@ module _ (l : Call) (ok : refusal l ≡ 0) where
 
       there : List·Memᴰ x (kindAt C k .copies) → Lent (x .piece)
       there m =
-          let r = each-at copiesFrom (keep (ofShape g) (sorted T₀)) (subst (λ (xs : List Copy). List·Memᴰ x xs) (copies-are k g at-k) m) in
-          let s = keep-at (ofShape g) (sorted T₀) (r .1) in
+          let r = each-at copiesFrom (keep (ofForm g) (sorted T₀)) (subst (λ (xs : List Copy). List·Memᴰ x xs) (copies-are k g at-k) m) in
+          let s = keep-at (ofForm g) (sorted T₀) (r .1) in
           let c = Memᴰ·of-map (copy-of (r .0)) (below (r .0 .count)) (r .2) in
           let p = sorted-at (r .0) (s .0) in
           let e : p .0 ≡ x .piece = sym (ap (λ (q : Sorted). q .piece) (p .2)) ∙ ap (λ (y : Copy). y .piece) (c .2) in
-          let f : smallest (gridAt (p .0)) ≡ g = sym (ap (λ (q : Sorted). q .shape) (p .2)) ∙ sameGrid→eq (r .0 .shape) g (s .1) in
+          let f : formAt (p .0) ≡ g = sym (ap (λ (q : Sorted). q .form) (p .2)) ∙ sameForm→eq (r .0 .form) g (s .1) in
           let i : c .0 < pieceAt T₀ (p .0) .count = subst (λ (q : Sorted). c .0 < q .count) (p .2) (below-at (r .0 .count) (c .1)) in
           let j : x .copy < pieceAt T₀ (p .0) .count = subst (λ (y : Copy). y .copy < pieceAt T₀ (p .0) .count) (c .2) i in
-          subst Lent e (p .1, number-is (p .0) k (subst (λ (y : Grid). Nth G k y) (sym f) at-k), j)
+          subst Lent e (p .1, number-is (p .0) k (subst (λ (y : Form). Nth G k y) (sym f) at-k), j)
 
       back : Lent (x .piece) → List·Memᴰ x (kindAt C k .copies)
       back r =
-          let q : Sorted = sort-piece (x .piece) (pieceAt T₀ (x .piece)) in
-          let a : Nth G k (smallest (gridAt (x .piece))) = subst (λ (n : ℕ). Nth G n (smallest (gridAt (x .piece)))) (r .1) (number-nth (x .piece) (r .0)) in
-          let f : smallest (gridAt (x .piece)) ≡ g = nth-unique G k (smallest (gridAt (x .piece))) g a at-k in
+          let q : Sorted = sortPiece (x .piece) (pieceAt T₀ (x .piece)) in
+          let a : Nth G k (formAt (x .piece)) = subst (λ (n : ℕ). Nth G n (formAt (x .piece))) (r .1) (number-nth (x .piece) (r .0)) in
+          let f : formAt (x .piece) ≡ g = nth-unique G k (formAt (x .piece)) g a at-k in
           subst (λ (xs : List Copy). List·Memᴰ x xs) (sym (copies-are k g at-k))
-          (each-of copiesFrom (keep (ofShape g) (sorted T₀)) (keep-of (ofShape g) (sorted T₀) (sorted-of (x .piece) (r .0)) (sameGrid-of f)) (Memᴰ·map (copy-of q) (below-of (q .count) (r .2))))
+          (each-of copiesFrom (keep (ofForm g) (sorted T₀)) (keep-of (ofForm g) (sorted T₀) (sorted-of (x .piece) (r .0)) (sameForm-of f)) (Memᴰ·map (copy-of q) (below-of (q .count) (r .2))))
 
   -- pieces by number, and each piece's copies from 0
   abbrev lentFirst : Sorted → Sorted → Bool
   lentFirst x y = ltb (x .piece) (y .piece)
 
   sorted-up : T (ascending lentFirst (sorted T₀))
-  unfolding sorted sort-piece
-  sorted-up = numbered-ascending sort-piece lentFirst (λ n m x y h. lt→ltb n m h) 0 (T₀ .pieces)
+  unfolding sorted
+  sorted-up = numbered-ascending sortPiece lentFirst (λ n m x y h. lt→ltb n m h) 0 (T₀ .pieces)
 
   copy-next : (q : Sorted) (a b : ℕ) → T (ltb a b) → T (copyAhead (copy-of q a) (copy-of q b))
   unfolding copyAhead copy-of
@@ -337,5 +354,5 @@ module _ (l : Call) (ok : refusal l ≡ 0) where
   copies-in-order k h =
       let r = kind-nth k h in
       subst (λ (xs : List Copy). T (ascending copyAhead xs)) (sym (copies-are k (r .0) (r .1)))
-      (each-ascending lentFirst copyAhead copiesFrom (keep (ofShape (r .0)) (sorted T₀)) (keep-ascending lentFirst (ofShape (r .0)) (sorted T₀) sorted-up)
+      (each-ascending lentFirst copyAhead copiesFrom (keep (ofForm (r .0)) (sorted T₀)) (keep-ascending lentFirst (ofForm (r .0)) (sorted T₀) sorted-up)
       (λ q m. map-up ltb copyAhead (copy-of q) (copy-next q) (below (q .count)) (from-ascending 0 (q .count))) (λ x y m k t. copy-later x y t))

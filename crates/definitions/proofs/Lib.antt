@@ -32,5 +32,6 @@ pub mod MapNumberLaws
 pub mod KindLaws
 pub mod PlacementNumberLaws
 pub mod PlacementLaws
+pub mod WoodLaws
 pub mod CarryLaws
 pub mod PruningLaws

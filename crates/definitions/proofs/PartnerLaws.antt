@@ -1,26 +1,25 @@
 -- Turned grids have the same variants, so a mirror partner's partner is the kind itself; and what an accepted call's tray has. Assumes nothing.
-use Prim.Native.Nat.{ℕ, zero, suc, _+_, _≤_, _<_}
-use mathlib.Core.Bool.{Bool, true, false, cond, not, _&&_}
-use mathlib.Core.List.{List, [], _∷_, map, List·Memᴰ, List·Memᴰ·head, List·Memᴰ·tail, List·Memᴰ·not-nil, List·Memᴰ·cases-cons, Memᴰ·cast, Memᴰ·map, Memᴰ·of-map, head-eq-of-cons-eq, tail-eq-of-cons-eq}
-use mathlib.Core.Path.{_≡_, refl, sym, ap, ap₂, _∙_, subst}
+use Prim.Native.Nat.{ℕ, zero, suc}
+use mathlib.Core.Bool.{Bool, true, false, cond, not, _&&_, _||_}
+use mathlib.Core.List.{List, [], _∷_, map, List·Memᴰ, List·Memᴰ·not-nil, Memᴰ·cast, Memᴰ·map, Memᴰ·of-map}
+use mathlib.Core.Path.{_≡_, refl, sym, ap, _∙_, subst}
 use mathlib.Core.Logic.{_⊎_, inl, inr, _↔_}
 use native.Mathlib.Omega.{arith}
-use lib.Dec.{T, leb, eqb, leb→le}
-use lib.ListN.{length, getD, take, drop, length-map, length-drop, length-take}
-use lib.Seq.{length-take-le}
-use Rattle.definitions.specs.Lists.{any, same, before, sort, ascending, headOr, less}
-use Rattle.definitions.proofs.ListLaws.{and-left, all-at, ascending-unique, sort-ascending, less-total, same-refl, decide, clash}
-use Rattle.definitions.specs.Grid.{Sides, Cell, Grid, volume, filledCells, sameGrid, gridAhead, sidesThenCells}
-use Rattle.definitions.specs.Maps.{Map, mapGrid, turns, mirrorings, mirror, product, identity}
-use Rattle.definitions.proofs.MapLaws.{turn-fits, map-map-of}
-use Rattle.definitions.proofs.GroupLaws.{identity-grid, sameGrid→eq, sameGrid-of, grid-path}
-use Rattle.definitions.specs.Kinds.{Tray, Piece, Sorted, Kind, sorted, shapes, variants, smallest, partnerOf, kindsOf}
-use Rattle.definitions.specs.Placements.{Placement, Compiled, compile}
+use lib.Dec.{T, eqb, ltb, eqb→eq, nltb→le}
+use lib.ListN.{length}
+use Rattle.definitions.specs.Lists.{same, before, ascending, headOr, less}
+use Rattle.definitions.proofs.ListLaws.{and-left, and-right, and-both, or-left, or-right, or-cases, ltb-trans, ltb-irrefl, eqb-of, ascending-unique, sort-ascending, less-total, same-refl, decide, clash}
+use Rattle.definitions.specs.Grid.{Grid, volume, sameGrid, gridAhead, sidesThenCells}
+use Rattle.definitions.specs.Maps.{Map, mapGrid, turns, mirror, product}
+use Rattle.definitions.proofs.MapLaws.{map-map-of}
+use Rattle.definitions.proofs.GroupLaws.{identity-grid, sameGrid→eq, sameGrid-of}
+use Rattle.definitions.specs.Kinds.{Tray, Piece, Form, sameForm, formAhead, Sorted, Kind, sorted, forms, variants, smallest, mirroredForm, partnerOf, kindsOf, formOf}
+use Rattle.definitions.specs.Placements.{Placement, compile}
 use Rattle.definitions.specs.Kept.{kindAfter}
 use Rattle.definitions.proofs.SearchLaws.{WellMade}
-use Rattle.definitions.proofs.WellMadeLaws.{Nth, nth-mem, nth-below, nth-getD, getD-nth}
+use Rattle.definitions.proofs.WellMadeLaws.{Nth, nth-mem, nth-getD, getD-nth}
 use Rattle.definitions.proofs.ShapeLaws.{sort-of, variant-at, smallest-at, kind-at}
-use Rattle.definitions.proofs.ActLaws.{plus, mapsOf, product-in, product-on, back-in}
+use Rattle.definitions.proofs.ActLaws.{product-in, product-on, back-in}
 use Rattle.definitions.proofs.MoveLaws.{mapped-whole, mirror-in}
 use Rattle.definitions.proofs.CellLaws.{grid-trans, grid-irrefl}
 use Rattle.definitions.proofs.NameLaws.{StrictOrder, before-entry, names-up}
@@ -92,12 +91,88 @@ before-holds p (y ∷ ys) x h = go (p y) refl h (λ (k : Nth ys (before p ys) x)
     go true e k f = subst T (sym (ap p k ∙ e)) tt
     go false e k f = f k
 
--- grids by their order; each grid of an ascending list is its own first
+-- grids by their order
 pub grids-ordered : StrictOrder Grid gridAhead sameGrid
 grids-ordered = record { trans = grid-trans; irrefl = grid-irrefl; tied = grids-tied; equal = sameGrid→eq; alike = λ g h e. sameGrid-of e }
 
-pub before-grid : (xs : List Grid) → T (ascending gridAhead xs) → (n : ℕ) (g : Grid) → Nth xs n g → before (sameGrid g) xs ≡ n
-before-grid xs t n g h = before-entry gridAhead sameGrid grids-ordered xs t n g h
+-- ---- forms: by grid, then by wood
+pub form-path : {f g : Form} → f .grid ≡ g .grid → f .wood ≡ g .wood → f ≡ g
+form-path p q = λ i. record { grid = p i; wood = q i }
+
+pub sameForm→eq : (f g : Form) → T (sameForm f g) → f ≡ g
+unfolding sameForm
+sameForm→eq f g t =
+    form-path (sameGrid→eq (f .grid) (g .grid) (and-left (sameGrid (f .grid) (g .grid)) (eqb (f .wood) (g .wood)) t))
+    (eqb→eq (f .wood) (g .wood) (and-right (sameGrid (f .grid) (g .grid)) (eqb (f .wood) (g .wood)) t))
+
+pub sameForm-of : {f g : Form} → f ≡ g → T (sameForm f g)
+unfolding sameForm
+sameForm-of {f} {g} e = and-both (sameGrid (f .grid) (g .grid)) (eqb (f .wood) (g .wood)) (sameGrid-of (ap (λ (x : Form). x .grid) e)) (eqb-of (ap (λ (x : Form). x .wood) e))
+
+-- "kinds with equal smallest grids go by wood"
+pub form-ahead : (f g : Form) → T (formAhead f g) ↔ (T (gridAhead (f .grid) (g .grid)) ⊎ ((f .grid ≡ g .grid) × T (ltb (f .wood) (g .wood))))
+unfolding formAhead
+form-ahead f g = (λ t. there (or-cases a (b && c) t), back)
+  where
+    a : Bool
+    a = gridAhead (f .grid) (g .grid)
+
+    b : Bool
+    b = sameGrid (f .grid) (g .grid)
+
+    c : Bool
+    c = ltb (f .wood) (g .wood)
+
+    there : T a ⊎ T (b && c) → T a ⊎ ((f .grid ≡ g .grid) × T c)
+    there (inl t) = inl t
+    there (inr t) = inr (sameGrid→eq (f .grid) (g .grid) (and-left b c t), and-right b c t)
+
+    back : T a ⊎ ((f .grid ≡ g .grid) × T c) → T (a || (b && c))
+    back (inl t) = or-left a (b && c) t
+    back (inr r) = or-right a (b && c) (and-both b c (sameGrid-of (r .0)) (r .1))
+
+pub form-trans : (f g h : Form) → T (formAhead f g) → T (formAhead g h) → T (formAhead f h)
+form-trans f g h s t = form-ahead f h .1 (go (form-ahead f g .0 s) (form-ahead g h .0 t))
+  where
+    Ahead : Form → Form → Type 0
+    Ahead x y = T (gridAhead (x .grid) (y .grid)) ⊎ ((x .grid ≡ y .grid) × T (ltb (x .wood) (y .wood)))
+
+    go : Ahead f g → Ahead g h → Ahead f h
+    go (inl a) (inl b) = inl (grid-trans (f .grid) (g .grid) (h .grid) a b)
+    go (inl a) (inr b) = inl (subst (λ (k : Grid). T (gridAhead (f .grid) k)) (b .0) a)
+    go (inr a) (inl b) = inl (subst (λ (k : Grid). T (gridAhead k (h .grid))) (sym (a .0)) b)
+    go (inr a) (inr b) = inr (a .0 ∙ b .0, ltb-trans (f .wood) (g .wood) (h .wood) (a .1) (b .1))
+
+pub form-irrefl : (f : Form) → T (formAhead f f) → ⊥
+form-irrefl f t = go (form-ahead f f .0 t)
+  where
+    go : T (gridAhead (f .grid) (f .grid)) ⊎ ((f .grid ≡ f .grid) × T (ltb (f .wood) (f .wood))) → ⊥
+    go (inl a) = grid-irrefl (f .grid) a
+    go (inr a) = ltb-irrefl (f .wood) (a .1)
+
+pub forms-tied : (f g : Form) → T (not (formAhead f g)) → T (not (formAhead g f)) → f ≡ g
+forms-tied f g a b = form-path grids (woods (decide (ltb (f .wood) (g .wood))) (decide (ltb (g .wood) (f .wood))))
+  where
+    neither : (x y : Form) → T (not (formAhead x y)) → T (gridAhead (x .grid) (y .grid)) → ⊥
+    neither x y n t = clash (formAhead x y) (form-ahead x y .1 (inl t)) n
+
+    not-grid : (x y : Form) → T (not (formAhead x y)) → T (gridAhead (x .grid) (y .grid)) ⊎ T (not (gridAhead (x .grid) (y .grid))) → T (not (gridAhead (x .grid) (y .grid)))
+    not-grid x y n (inl t) = absurd (neither x y n t)
+    not-grid x y n (inr t) = t
+
+    grids : f .grid ≡ g .grid
+    grids = grids-tied (f .grid) (g .grid) (not-grid f g a (decide (gridAhead (f .grid) (g .grid)))) (not-grid g f b (decide (gridAhead (g .grid) (f .grid))))
+
+    woods : T (ltb (f .wood) (g .wood)) ⊎ T (not (ltb (f .wood) (g .wood))) → T (ltb (g .wood) (f .wood)) ⊎ T (not (ltb (g .wood) (f .wood))) → f .wood ≡ g .wood
+    woods (inl t) k = absurd (clash (formAhead f g) (form-ahead f g .1 (inr (grids, t))) a)
+    woods (inr s) (inl t) = absurd (clash (formAhead g f) (form-ahead g f .1 (inr (sym grids, t))) b)
+    woods (inr s) (inr t) = let x = nltb→le (f .wood) (g .wood) s in let y = nltb→le (g .wood) (f .wood) t in omega arith
+
+pub forms-ordered : StrictOrder Form formAhead sameForm
+forms-ordered = record { trans = form-trans; irrefl = form-irrefl; tied = forms-tied; equal = sameForm→eq; alike = λ f g e. sameForm-of e }
+
+pub before-form : (xs : List Form) → T (ascending formAhead xs) → (n : ℕ) (f : Form) → Nth xs n f → before (sameForm f) xs ≡ n
+before-form xs t n f h = before-entry formAhead sameForm forms-ordered xs t n f h
 
 nth-map : {A B : Type 0} (f : A → B) (xs : List A) (n : ℕ) (x : A) → Nth xs n x → Nth (map f xs) n (f x)
 nth-map f [] n x h = absurd h
@@ -105,27 +180,27 @@ nth-map f (y ∷ ys) zero x h = ap f h
 nth-map f (y ∷ ys) (suc n) x h = nth-map f ys n x h
 
 module _ (t : Tray) (wholes : (q : Piece) → List·Memᴰ q (t .pieces) → length (q .grid .cells) ≡ volume (q .grid .sides)) where
-  unfoldable pub gs : List Grid
-  gs = shapes (sorted t)
+  unfoldable pub fs : List Form
+  fs = forms (sorted t)
 
-  pub gs-up : T (ascending gridAhead gs)
-  unfolding gs shapes
-  gs-up = names-up gridAhead sameGrid grids-ordered (λ (q : Sorted). q .shape) (sorted t)
+  pub fs-up : T (ascending formAhead fs)
+  unfolding fs forms
+  fs-up = names-up formAhead sameForm forms-ordered (λ (q : Sorted). q .form) (sorted t)
 
-  pub shapes-are : map (λ d. d .shape) (kindsOf t) ≡ gs
-  unfolding kindsOf gs
-  shapes-are = map-map-of (λ (d : Kind). d .shape) _ (shapes (sorted t)) ∙ map-id (shapes (sorted t))
+  pub forms-are : map formOf (kindsOf t) ≡ fs
+  unfolding kindsOf fs formOf
+  forms-are = map-map-of formOf _ (forms (sorted t)) ∙ map-id (forms (sorted t))
     where
-      map-id : (xs : List Grid) → map (λ g. g) xs ≡ xs
+      map-id : (xs : List Form) → map (λ f. f) xs ≡ xs
       map-id [] = refl
-      map-id (x ∷ xs) = ap (λ (l : List Grid). x ∷ l) (map-id xs)
+      map-id (x ∷ xs) = ap (λ (l : List Form). x ∷ l) (map-id xs)
 
-  pub partner-is : (d : Kind) → List·Memᴰ d (kindsOf t) → d .partner ≡ before (sameGrid (smallest (mapGrid mirror (d .shape)))) gs
-  unfolding kindsOf partnerOf gs
-  partner-is d k = let r = Memᴰ·of-map _ (shapes (sorted t)) k in sym (ap (λ (x : Kind). x .partner) (r .2)) ∙ ap (λ (g : Grid). before (sameGrid (smallest (mapGrid mirror g))) (shapes (sorted t))) (ap (λ (x : Kind). x .shape) (r .2))
+  pub partner-is : (d : Kind) → List·Memᴰ d (kindsOf t) → d .partner ≡ before (sameForm (mirroredForm (formOf d))) fs
+  unfolding kindsOf partnerOf fs formOf
+  partner-is d k = let r = Memᴰ·of-map _ (forms (sorted t)) k in sym (ap (λ (x : Kind). x .partner) (r .2)) ∙ ap (λ (f : Form). before (sameForm (mirroredForm f)) (forms (sorted t))) (ap formOf (r .2))
 
-  pub shape-nth : (n : ℕ) (d : Kind) → Nth (kindsOf t) n d → Nth gs n (d .shape)
-  shape-nth n d h = subst (λ (l : List Grid). Nth l n (d .shape)) shapes-are (nth-map (λ (x : Kind). x .shape) (kindsOf t) n d h)
+  pub form-nth : (n : ℕ) (d : Kind) → Nth (kindsOf t) n d → Nth fs n (formOf d)
+  form-nth n d h = subst (λ (l : List Form). Nth l n (formOf d)) forms-are (nth-map formOf (kindsOf t) n d h)
 
   -- a kind's shape is whole, and its own smallest
   pub shape-whole : (d : Kind) → List·Memᴰ d (kindsOf t) → (length (d .shape .cells) ≡ volume (d .shape .sides)) × (smallest (d .shape) ≡ d .shape)
@@ -136,20 +211,25 @@ module _ (t : Tray) (wholes : (q : Piece) → List·Memᴰ q (t .pieces) → len
         ap smallest (r .2) ∙ smallest-again (r .0 .grid) (wholes (r .0) (r .1)) ∙ sym (r .2),
       )
 
-  pub partner-back : (k l : ℕ) (d e : Kind) → Nth (kindsOf t) k d → Nth (kindsOf t) l e → l ≡ d .partner → k ≡ e .partner
-  partner-back k l d e a b h = sym (partner-is e (nth-mem (kindsOf t) l b) ∙ ap (λ (g : Grid). before (sameGrid g) gs) mirrored-back ∙ before-grid gs gs-up k (d .shape) (shape-nth k d a))
+  -- a kind's mirror partner has its mirrored grids and its wood
+  pub partner-form : (k l : ℕ) (d e : Kind) → Nth (kindsOf t) k d → Nth (kindsOf t) l e → l ≡ d .partner → mirroredForm (formOf d) ≡ formOf e
+  partner-form k l d e a b h = sameForm→eq (mirroredForm (formOf d)) (formOf e) (before-holds (sameForm (mirroredForm (formOf d))) fs (formOf e) at-l)
     where
-      at-l : Nth gs (before (sameGrid (smallest (mapGrid mirror (d .shape)))) gs) (e .shape)
-      at-l = subst (λ (n : ℕ). Nth gs n (e .shape)) (h ∙ partner-is d (nth-mem (kindsOf t) k a)) (shape-nth l e b)
+      at-l : Nth fs (before (sameForm (mirroredForm (formOf d))) fs) (formOf e)
+      at-l = subst (λ (n : ℕ). Nth fs n (formOf e)) (h ∙ partner-is d (nth-mem (kindsOf t) k a)) (form-nth l e b)
 
-      e-is : smallest (mapGrid mirror (d .shape)) ≡ e .shape
-      e-is = sameGrid→eq (smallest (mapGrid mirror (d .shape))) (e .shape) (before-holds (sameGrid (smallest (mapGrid mirror (d .shape)))) gs (e .shape) at-l)
+  pub partner-back : (k l : ℕ) (d e : Kind) → Nth (kindsOf t) k d → Nth (kindsOf t) l e → l ≡ d .partner → k ≡ e .partner
+  unfolding mirroredForm formOf
+  partner-back k l d e a b h = sym (partner-is e (nth-mem (kindsOf t) l b) ∙ ap (λ (f : Form). before (sameForm f) fs) mirrored-back ∙ before-form fs fs-up k (formOf d) (form-nth k d a))
+    where
+      e-is : mirroredForm (formOf d) ≡ formOf e
+      e-is = partner-form k l d e a b h
 
       w : (length (d .shape .cells) ≡ volume (d .shape .sides)) × (smallest (d .shape) ≡ d .shape)
       w = shape-whole d (nth-mem (kindsOf t) k a)
 
-      mirrored-back : smallest (mapGrid mirror (e .shape)) ≡ d .shape
-      mirrored-back = ap (λ (g : Grid). smallest (mapGrid mirror g)) (sym e-is) ∙ mirror-twice (d .shape) (w .0) ∙ w .1
+      mirrored-back : mirroredForm (formOf e) ≡ formOf d
+      mirrored-back = ap mirroredForm (sym e-is) ∙ form-path (mirror-twice (d .shape) (w .0) ∙ w .1) refl
 
   pub kinds-partner : WellMade (compile t) → (q r : Placement) → List·Memᴰ q (compile t .placements) → List·Memᴰ r (compile t .placements)
       → q .kind ≡ kindAfter (compile t) true (r .kind) → r .kind ≡ kindAfter (compile t) true (q .kind)
@@ -160,10 +240,10 @@ module _ (t : Tray) (wholes : (q : Piece) → List·Memᴰ q (t .pieces) → len
       partner-back (r .kind) (q .kind) (x .0) (y .0) (x .1) (y .1) (h ∙ nth-getD (λ (d : Kind). d .partner) (length (kindsOf t)) (kindsOf t) (r .kind) (x .1))
       ∙ sym (nth-getD (λ (d : Kind). d .partner) (length (kindsOf t)) (kindsOf t) (q .kind) (y .1))
 
--- "Two pieces are one kind if a turn makes their grids equal": then, and only then, their smallest turned grids are the same.
-pub one-kind : (g h : Grid) → length (g .cells) ≡ volume (g .sides) → length (h .cells) ≡ volume (h .sides)
+-- a turn makes two grids equal exactly if their smallest turned grids are the same
+pub one-smallest : (g h : Grid) → length (g .cells) ≡ volume (g .sides) → length (h .cells) ≡ volume (h .sides)
     → (smallest g ≡ smallest h) ↔ ((m : Map) × List·Memᴰ m turns × (mapGrid m g ≡ h))
-one-kind g h eg eh = (there, λ r. sym (smallest-turned (r .0) (r .1) g eg) ∙ ap smallest (r .2))
+one-smallest g h eg eh = (there, λ r. sym (smallest-turned (r .0) (r .1) g eg) ∙ ap smallest (r .2))
   where
     there : smallest g ≡ smallest h → (m : Map) × List·Memᴰ m turns × (mapGrid m g ≡ h)
     there e =

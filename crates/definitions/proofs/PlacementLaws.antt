@@ -3,14 +3,13 @@ use Prim.Native.Nat.{ℕ, _<_}
 use mathlib.Core.List.{List, List·Memᴰ}
 use mathlib.Core.Path.{_≡_, sym, ap, _∙_}
 use lib.ListN.{length}
-use Rattle.definitions.specs.Kinds.{Piece}
 use Rattle.definitions.specs.Placements.{Placement, compile}
 use Rattle.definitions.specs.Refusals.{Call, trayOf, refusal}
-use Rattle.definitions.specs.PlacementsRight.{pieceAt, kindAt, SetDown, Right, placementsRight}
+use Rattle.definitions.specs.PlacementsRight.{pieceAt, kindAt, SetDown, placementsRight}
 use Rattle.definitions.proofs.WellMadeLaws.{nth-mem}
 use Rattle.definitions.proofs.ShapeLaws.{bits, tight}
 use Rattle.definitions.proofs.GeometryLaws.{piece-whole}
-use Rattle.definitions.proofs.KindLaws.{kindNumber, cells-filled, cells-in-order, is-kind, some-lent, one-kind-turns, shape-turned, shape-smallest, kinds-in-order, partner-mirrors, copies-lent, copies-in-order, kind-shape, piece-nth}
+use Rattle.definitions.proofs.KindLaws.{kindNumber, cells-filled, cells-in-order, is-kind, some-lent, one-kind-turns, shape-turned, shape-smallest, kinds-in-order, partner-mirrors, copies-lent, copies-in-order, kind-shape, kind-wood, piece-nth}
 use Rattle.definitions.proofs.SetDownLaws.{of-kind, placement-sound, placement-complete, placement-once, placements-in-order, origin-first}
 use Rattle.definitions.proofs.PlacementNumberLaws.{j-in-order, j-from-zero}
 
@@ -40,6 +39,7 @@ placementsRight-holds l ok =
       isKind = is-kind l ok;
       someLent = some-lent l ok;
       oneKind = one-kind-turns l ok;
+      woodLent = kind-wood l ok;
       shapeTurned = shape-turned l ok;
       shapeSmallest = shape-smallest l ok;
       kindsInOrder = kinds-in-order l ok;

@@ -15,7 +15,7 @@ use Rattle.definitions.specs.Grid.{Sides, Cell, Grid, box, byteAt, gridW
 use Rattle.definitions.specs.Maps.{Map, side, coordinate, mapSides, mapCell, inverse, mapGrid, turns, transform, permutations, parity}
 use Rattle.definitions.proofs.MapLaws.{box-at, cell-path, turn-fits, filled-apart, filled-length, mapped-byte}
 use Rattle.definitions.specs.Scan.{axisAhead, axes, cellAhead, scan}
-use Rattle.definitions.specs.Kinds.{Piece, Tray, variants, smallest, Sorted, sorted, shapes, Kind, kindsOf}
+use Rattle.definitions.specs.Kinds.{Piece, Tray, variants, smallest, Form, formAhead, Sorted, sortPiece, sorted, forms, Kind, kindsOf}
 use Rattle.definitions.specs.Placements.{compile}
 use Rattle.definitions.proofs.SearchLaws.{WellMade}
 use Rattle.definitions.proofs.EngineLaws.{sort-at}
@@ -172,13 +172,13 @@ smallest-at g = variant-at g (headOr g (variants g)) (head-in (variants g) (vari
 
 -- a kind's shape is the smallest turned grid of a piece
 pub kind-at : (t : Tray) (d : Kind) → List·Memᴰ d (kindsOf t) → (q : Piece) × List·Memᴰ q (t .pieces) × (d .shape ≡ smallest (q .grid))
-unfolding kindsOf shapes sorted
+unfolding kindsOf forms sorted
 kind-at t d k =
     let r = Memᴰ·of-map _ _ k in
-    let a = sort-at gridAhead (map (λ (q : Sorted). q .shape) (sorted t)) (r .1) in
-    let b = Memᴰ·of-map (λ (q : Sorted). q .shape) (sorted t) a in
-    let c = numbered-at (λ (i : ℕ) (q : Piece). record { piece = i; count = q .count; shape = smallest (q .grid) }) 0 (t .pieces) (b .1) in
-    (c .1, nth-mem (t .pieces) (c .0) (c .2), sym (ap (λ (x : Kind). x .shape) (r .2)) ∙ sym (b .2) ∙ ap (λ (x : Sorted). x .shape) (c .3))
+    let a = sort-at formAhead (map (λ (q : Sorted). q .form) (sorted t)) (r .1) in
+    let b = Memᴰ·of-map (λ (q : Sorted). q .form) (sorted t) a in
+    let c = numbered-at sortPiece 0 (t .pieces) (b .1) in
+    (c .1, nth-mem (t .pieces) (c .0) (c .2), sym (ap (λ (x : Kind). x .shape) (r .2)) ∙ sym (ap (λ (f : Form). f .grid) (b .2)) ∙ ap (λ (x : Sorted). x .form .grid) (c .3))
 
 -- ---- accepted calls
 module _ (l : Call) (ok : refusal l ≡ 0) where

@@ -12,7 +12,7 @@ use Rattle.definitions.specs.Placements.{compile}
 use Rattle.definitions.specs.Refusals.{Call, trayOf, placementCount, linkCount, refusal}
 use Rattle.definitions.specs.Outcomes.{outcome}
 use Rattle.definitions.specs.Texts.{text}
-use Rattle.definitions.specs.Fillings.{Line, piece, board, M, D, none, turned, mirrored, lists}
+use Rattle.definitions.specs.Fillings.{Line, piece, inWood, board, M, D, none, turned, mirrored, lists}
 use Rattle.definitions.specs.Files.{Written, callOn, packed}
 use Rattle.definitions.specs.declared.SolverKind.{SolverKind}
 use Rattle.definitions.specs.declared.SolverKind.the-variants.{Auto, Naive, Fast, KnuthAlgorithm}
@@ -31,8 +31,8 @@ cells n k = digits n k []
 abbrev pub plain : Call
 plain =
     record {
-      pieces = record { a = 1; b = 1; c = 1; count = 1; start = 0 } ∷ [];
-      board = record { a = 1; b = 1; c = 1; count = 0; start = 0 };
+      pieces = record { a = 1; b = 1; c = 1; count = 1; wood = 0; start = 0 } ∷ [];
+      board = record { a = 1; b = 1; c = 1; count = 0; wood = 0; start = 0 };
       bytes = 1 ∷ [];
       config = record { «identify_transformed_answers» = false; «identify_mirrored_answers» = false; solver = Fast };
       skip = 0;
@@ -42,7 +42,7 @@ plain =
     }
 
 abbrev pub at : ℕ → ℕ → ℕ → ℕ → ℕ → Record
-at n i j k s = record { a = i; b = j; c = k; count = n; start = s }
+at n i j k s = record { a = i; b = j; c = k; count = n; wood = 0; start = s }
 
 abbrev pub lending : Record → List Record → List ℕ → Call
 lending b ps bytes = record { pieces = ps; board = b; bytes = bytes; config = plain .config; skip = 0; answers = []; work = plain .work; links = plain .links }
@@ -229,6 +229,10 @@ counts =
     counted (board 1 2 3 (cells 6 111111)) (D 0 ∷ []) 7 7 ∷
     counted (board 1 2 3 (cells 6 111101)) [] 0 5 ∷
     counted (board 1 2 3 (cells 6 111111)) (M 0 ∷ D 2 ∷ []) 13 29 ∷
+    -- a shape in two woods counts twice
+    counted (board 1 2 3 (cells 6 111111)) (M 1 ∷ inWood 255 (M 1) ∷ []) 12 32 ∷
+    counted (board 1 2 3 (cells 6 111111)) (inWood 255 (M 1) ∷ inWood 255 (M 1) ∷ []) 6 19 ∷
+    counted (board 1 2 3 (cells 6 111111)) (D 1 ∷ inWood 5 (D 0) ∷ []) 14 29 ∷
     counted (board 2 2 2 (cells 8 11111111)) (piece 1 2 2 2 (cells 8 11100100) ∷ piece 0 2 2 2 (cells 8 11100010) ∷ D 1 ∷ []) 36 107 ∷
     counted (board 1 3 3 (cells 9 111101111)) (D 1 ∷ piece 1 1 2 2 (cells 4 1110) ∷ []) 12 50 ∷
     []
@@ -291,6 +295,12 @@ files =
     -- an unfilled cell; no packing; `mirrored` identifies turned packings too; leading zeros
     prints "config\tfast\tmirrored\nboard\t1\t1\t2\t10\npiece\t000000001\t001\t1\t1\t1\n" "0\t0.0 -\npackings\t1\n" ∷
     prints "config\tknuth\tnone\nboard\t1\t1\t1\t1\npiece\t0\t1\t1\t1\t1\n" "packings\t0\n" ∷
+    -- woods, 0 to 255, of one to three digits, absent 0
+    prints "config\tfast\tnone\nboard\t1\t1\t2\t11\npiece\t1\t1\t1\t1\t1\t9\npiece\t1\t1\t1\t1\t1\t2\n" "0\t1.0 0.0\n1\t0.0 1.0\npackings\t2\n" ∷
+    prints "config\tknuth\tturned\nboard\t1\t1\t2\t11\npiece\t1\t1\t1\t1\t1\t255\npiece\t1\t1\t1\t1\t1\n" "0\t1.0 0.0\npackings\t1\n" ∷
+    prints "config\tfast\tnone\nboard\t1\t1\t2\t11\npiece\t1\t1\t1\t1\t1\t007\npiece\t1\t1\t1\t1\t1\t7\n" "0\t0.0 1.0\npackings\t1\n" ∷
+    prints "config\tfast\tnone\nboard\t1\t1\t2\t11\npiece\t1\t1\t1\t1\t1\t000\npiece\t1\t1\t1\t1\t1\n" "0\t0.0 1.0\npackings\t1\n" ∷
+    prints "config\tfast\tnone\nboard\t1\t1\t2\t11\npiece\t1\t1\t1\t1\t1\t255\npiece\t1\t1\t1\t1\t1\t254\n" "0\t1.0 0.0\n1\t0.0 1.0\npackings\t2\n" ∷
     -- no piece: a filled cell, none, two of four, and a side of 9
     prints "config\tfast\tnone\nboard\t1\t1\t1\t1\n" "packings\t0\n" ∷
     prints "config\tfast\tturned\nboard\t2\t1\t2\t0000\n" "0\t- - - -\npackings\t1\n" ∷
@@ -320,6 +330,14 @@ files =
     prints "config\tfast\tnone\nboard\t1\t1\t1\t1\npiece\t1\t1\t1\t1\t2\n" "refused\t16\n" ∷
     prints "config\tfast\tnone\nboard\t1\t1\t2\t1\npiece\t1\t1\t1\t1\t1\n" "refused\t16\n" ∷
     prints "config\tfast\tnone\nboard\t999\t999\t999\t1\npiece\t1\t1\t1\t1\t1\n" "refused\t16\n" ∷
+    -- woods: 256, four digits, none behind the tab, a sign, a space, one more field; a wood on the board
+    prints "config\tfast\tnone\nboard\t1\t1\t1\t1\npiece\t1\t1\t1\t1\t1\t256\n" "refused\t16\n" ∷
+    prints "config\tfast\tnone\nboard\t1\t1\t1\t1\npiece\t1\t1\t1\t1\t1\t0255\n" "refused\t16\n" ∷
+    prints "config\tfast\tnone\nboard\t1\t1\t1\t1\npiece\t1\t1\t1\t1\t1\t\n" "refused\t16\n" ∷
+    prints "config\tfast\tnone\nboard\t1\t1\t1\t1\npiece\t1\t1\t1\t1\t1\t+1\n" "refused\t16\n" ∷
+    prints "config\tfast\tnone\nboard\t1\t1\t1\t1\npiece\t1\t1\t1\t1\t1\t1 \n" "refused\t16\n" ∷
+    prints "config\tfast\tnone\nboard\t1\t1\t1\t1\npiece\t1\t1\t1\t1\t1\t1\t1\n" "refused\t16\n" ∷
+    prints "config\tfast\tnone\nboard\t1\t1\t1\t1\t0\npiece\t1\t1\t1\t1\t1\n" "refused\t16\n" ∷
     []
 
 unfoldable pub isPrinted : Printed → Bool
@@ -332,6 +350,17 @@ moreFillings =
     mirrored (board 2 2 2 (cells 8 11111111)) (piece 2 2 2 2 (cells 8 11100100) ∷ [])
     ((0 ∷ 0 ∷ 0 ∷ 1 ∷ 0 ∷ 1 ∷ 0 ∷ 1 ∷ 0 ∷ 0 ∷ 0 ∷ 0 ∷ 0 ∷ 1 ∷ 0 ∷ 0 ∷ []) ∷ []) ∷
     none (board 1 1 5 (cells 5 11111)) (piece 1 1 1 5 (cells 5 11111) ∷ []) ((0 ∷ 0 ∷ 0 ∷ 0 ∷ 0 ∷ 0 ∷ 0 ∷ 0 ∷ 0 ∷ 0 ∷ []) ∷ []) ∷
+    -- document 02, A5: one shape in two woods is two kinds, the smaller wood first (and placed first, where it has one copy); in one wood one kind; grids come
+    -- before woods
+    none (board 1 1 2 (cells 2 11)) (inWood 9 (M 1) ∷ inWood 2 (M 1) ∷ []) ((1 ∷ 0 ∷ 0 ∷ 0 ∷ []) ∷ (0 ∷ 0 ∷ 1 ∷ 0 ∷ []) ∷ []) ∷
+    turned (board 1 1 2 (cells 2 11)) (inWood 9 (M 1) ∷ inWood 2 (M 1) ∷ []) ((1 ∷ 0 ∷ 0 ∷ 0 ∷ []) ∷ []) ∷
+    none (board 1 1 2 (cells 2 11)) (inWood 7 (M 1) ∷ inWood 7 (M 1) ∷ []) ((0 ∷ 0 ∷ 1 ∷ 0 ∷ []) ∷ []) ∷
+    none (board 1 1 3 (cells 3 111)) (D 1 ∷ inWood 9 (M 1) ∷ []) ((1 ∷ 0 ∷ 0 ∷ 0 ∷ 0 ∷ 0 ∷ []) ∷ (0 ∷ 0 ∷ 0 ∷ 0 ∷ 1 ∷ 0 ∷ []) ∷ []) ∷
+    -- mirror partners, in one wood and in two
+    mirrored (board 2 2 2 (cells 8 11111111)) (inWood 1 (piece 2 2 2 2 (cells 8 11100100)) ∷ inWood 1 (piece 2 2 2 2 (cells 8 11100010)) ∷ [])
+    ((1 ∷ 0 ∷ 1 ∷ 1 ∷ 1 ∷ 1 ∷ 1 ∷ 1 ∷ 1 ∷ 0 ∷ 1 ∷ 1 ∷ 1 ∷ 0 ∷ 1 ∷ 0 ∷ []) ∷ []) ∷
+    mirrored (board 2 2 2 (cells 8 11111111)) (piece 2 2 2 2 (cells 8 11100100) ∷ inWood 1 (piece 2 2 2 2 (cells 8 11100010)) ∷ [])
+    ((0 ∷ 0 ∷ 0 ∷ 1 ∷ 0 ∷ 1 ∷ 0 ∷ 1 ∷ 0 ∷ 0 ∷ 0 ∷ 0 ∷ 0 ∷ 1 ∷ 0 ∷ 0 ∷ []) ∷ (1 ∷ 0 ∷ 1 ∷ 1 ∷ 1 ∷ 1 ∷ 1 ∷ 1 ∷ 1 ∷ 0 ∷ 1 ∷ 1 ∷ 1 ∷ 0 ∷ 1 ∷ 0 ∷ []) ∷ []) ∷
     []
 
 -- ---- a tray where kind 0, the single cell, placed first decides Fast's order; Knuth's is the other way round

@@ -1,6 +1,6 @@
 -- Document 01, "The program `pack`": the tray's file, which is read, and the listing, which is printed, as bytes.
 use Prim.Native.Nat.{ℕ, zero, suc, _+_, _-_, _*_, _/_, _%_, _^_}
-use mathlib.Core.Bool.{Bool, true, false, cond, not, _&&_, _||_}
+use mathlib.Core.Bool.{Bool, cond, not, _&&_, _||_}
 use mathlib.Core.List.{List, [], _∷_, _++_, map}
 use lib.Dec.{ltb, leb, eqb}
 use lib.ListN.{length, getD, take, drop, replicate}
@@ -13,9 +13,10 @@ use Rattle.definitions.specs.declared.SolverKind.the-variants.{Fast, Knu
 use Rattle.definitions.specs.declared.Record.{Record}
 
 -- ---- a tray as it is written
--- a grid with a count; a board's count is not written
+-- a grid with a count and a wood; a board's are not written
 pub record Written : Type 0 where
   pub count : ℕ
+  pub wood : ℕ
   pub a : ℕ
   pub b : ℕ
   pub c : ℕ
@@ -23,7 +24,7 @@ pub record Written : Type 0 where
 
 -- records for such grids, their cells lent one after the other from a place on
 abbrev pub recordAt : ℕ → Written → Record
-recordAt start g = record { a = g .a; b = g .b; c = g .c; count = g .count; start = start }
+recordAt start g = record { a = g .a; b = g .b; c = g .c; count = g .count; wood = g .wood; start = start }
 
 abbrev pub recordsFrom : ℕ → List Written → List Record
 recordsFrom start [] = []
@@ -89,9 +90,9 @@ unfoldable pub numberIn : List ℕ → ℕ
 numberIn ds = numberFrom 0 ds
 
 -- "three sides, cells" from field n on. "Cells are `0` and `1`, exactly a × b × c of them"
-unfoldable pub gridIn : ℕ → ℕ → List ℕ → Written
-gridIn count n line =
-    record { count = count; a = numberIn (field line n); b = numberIn (field line (n + 1)); c = numberIn (field line (n + 2)); cells = map (λ x. x - 48) (field line (n + 3)) }
+unfoldable pub gridIn : ℕ → ℕ → ℕ → List ℕ → Written
+gridIn count wood n line =
+    record { count = count; wood = wood; a = numberIn (field line n); b = numberIn (field line (n + 1)); c = numberIn (field line (n + 2)); cells = map (λ x. x - 48) (field line (n + 3)) }
 
 unfoldable pub isGridIn : ℕ → List ℕ → Bool
 isGridIn n line =
@@ -108,8 +109,22 @@ isConfig line =
 unfoldable pub isBoard : List ℕ → Bool
 isBoard line = eqb (length (fieldsOf line)) 5 && (same (field line 0) (text "board") && isGridIn 1 line)
 
+-- Document 02, A5: "a piece line may end with the wood as a further field of one to three digits, absent meaning 0, and a value above 255 is malformed."
+unfoldable pub isWood : List ℕ → Bool
+isWood ds = isNumber 3 ds && leb (numberIn ds) 255
+
+unfoldable pub hasPieceFields : List ℕ → Bool
+hasPieceFields line = eqb (length (fieldsOf line)) 6 || (eqb (length (fieldsOf line)) 7 && isWood (field line 6))
+
 unfoldable pub isPiece : List ℕ → Bool
-isPiece line = eqb (length (fieldsOf line)) 6 && (same (field line 0) (text "piece") && (isNumber 9 (field line 1) && isGridIn 2 line))
+isPiece line = hasPieceFields line && (same (field line 0) (text "piece") && (isNumber 9 (field line 1) && isGridIn 2 line))
+
+-- field 6 of a line with six fields is the empty list, and the number in it is 0
+unfoldable pub woodIn : List ℕ → ℕ
+woodIn line = numberIn (field line 6)
+
+unfoldable pub pieceIn : List ℕ → Written
+pieceIn line = gridIn (numberIn (field line 1)) (woodIn line) 2 line
 
 -- "at most 16,384 bytes (more is 16)"; "All else is 16."
 unfoldable pub isFile : List ℕ → Bool
@@ -125,7 +140,7 @@ callIn bytes skip room =
     let config = getD ls 0 [] in
     let knuth = same (field config 1) (text "knuth") in
     let mirrored = same (field config 2) (text "mirrored") in
-    callOn (gridIn 0 1 (getD ls 1 [])) (map (λ line. gridIn (numberIn (field line 1)) 2 line) (drop 2 ls)) (same (field config 2) (text "turned") || mirrored) mirrored
+    callOn (gridIn 0 0 1 (getD ls 1 [])) (map pieceIn (drop 2 ls)) (same (field config 2) (text "turned") || mirrored) mirrored
     (cond knuth KnuthAlgorithm Fast) skip room
 
 -- ---- the listing

@@ -12,7 +12,11 @@ use Rattle.definitions.specs.Outcomes.{outcome}
 use Rattle.definitions.specs.declared.SolverKind.{SolverKind}
 
 abbrev pub piece : ℕ → ℕ → ℕ → ℕ → List ℕ → Written
-piece n i j k cells = record { count = n; a = i; b = j; c = k; cells = cells }
+piece n i j k cells = record { count = n; wood = 0; a = i; b = j; c = k; cells = cells }
+
+-- such a piece in another wood
+abbrev pub inWood : ℕ → Written → Written
+inWood w g = record { count = g .count; wood = w; a = g .a; b = g .b; c = g .c; cells = g .cells }
 
 abbrev pub board : ℕ → ℕ → ℕ → List ℕ → Written
 board i j k cells = piece 0 i j k cells

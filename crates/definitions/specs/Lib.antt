@@ -17,6 +17,7 @@ pub mod Demands
 pub mod MovesAndMaps
 pub mod PlacementsRight
 pub mod AnswersRight
+pub mod Woods
 pub mod Emission
 pub mod Pruning
 pub mod Texts

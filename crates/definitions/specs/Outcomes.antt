@@ -57,9 +57,8 @@ cleared n old = replicate n 0 ++ drop n old
 
 -- "After an accepted call the first 8,192 work words are 0; so are the first 32,768 links for `KnuthAlgorithm`, and Fast does not touch links. What lies
 -- behind these words and links keeps its values. Bytes behind the last whole answer written keep their values."
-unfoldable pub accepted : Call → Outcome
-accepted l =
-    let g = pageOf l in
+abbrev pub acceptedWith : Page → Call → Outcome
+acceptedWith g l =
     record {
       number = 0;
       written = g .written;
@@ -68,6 +67,9 @@ accepted l =
       work = cleared 8192 (l .work);
       links = cond (isKnuth (l .config .solver)) (cleared 32768 (l .links)) (l .links);
     }
+
+unfoldable pub accepted : Call → Outcome
+accepted l = acceptedWith (pageOf l) l
 
 -- The outcome of a call, whatever it lends.
 unfoldable pub outcome : Call → Outcome

@@ -1,15 +1,15 @@
--- That the definitions of kinds and placements forget nothing and invent nothing, said by moves and cells alone: a kind's placements are exactly its
+-- That the definitions of kinds and placements forget nothing and invent nothing, said by moves, cells and woods alone: a kind's placements are exactly its
 -- pieces' grids after sequences of quarter turns, set down on filled board cells, each once; its copies are exactly those lent. (A definition that forgot
 -- placements would satisfy the demands, since packings, covers and images all speak of the placements that there are.) Proved in proofs/PlacementLaws.
 use Prim.Native.Nat.{ℕ, _+_, _<_}
-use mathlib.Core.Bool.{Bool, _&&_}
+use mathlib.Core.Bool.{Bool, _&&_, _||_}
 use mathlib.Core.List.{List, [], _∷_, map, List·Memᴰ}
 use mathlib.Core.Path.{_≡_}
 use mathlib.Core.Logic.{_↔_}
 use lib.Dec.{T, ltb}
 use lib.ListN.{length, getD}
-use Rattle.definitions.specs.Lists.{all, any, ascending, less, sort, Apart}
-use Rattle.definitions.specs.Grid.{Cell, Grid, filledCells, sameCell, gridAhead}
+use Rattle.definitions.specs.Lists.{all, any, ascending, less, sort}
+use Rattle.definitions.specs.Grid.{Cell, Grid, filledCells, sameCell, sameGrid, gridAhead}
 use Rattle.definitions.specs.Scan.{axes, cellAhead, scanNumber}
 use Rattle.definitions.specs.Kinds.{Piece, Tray, Kind, Copy}
 use Rattle.definitions.specs.Placements.{Placement, Compiled, compile}
@@ -45,10 +45,17 @@ unfoldable pub noGrid : Grid
 noGrid = record { sides = record { a = 0; b = 0; c = 0 }; cells = [] }
 
 unfoldable pub pieceAt : Tray → ℕ → Piece
-pieceAt t n = getD (t .pieces) n (record { grid = noGrid; count = 0 })
+pieceAt t n = getD (t .pieces) n (record { grid = noGrid; count = 0; wood = 0 })
+
+abbrev pub noKind : Kind
+noKind = record { shape = noGrid; wood = 0; partner = 0; copies = [] }
 
 unfoldable pub kindAt : Compiled → ℕ → Kind
-kindAt c k = getD (c .kinds) k (record { shape = noGrid; partner = 0; copies = [] })
+kindAt c k = getD (c .kinds) k noKind
+
+-- of two kinds the one with the smaller grid comes first, and of two with one grid the one with the smaller wood
+unfoldable pub kindAhead : Kind → Kind → Bool
+kindAhead d e = gridAhead (d .shape) (e .shape) || (sameGrid (d .shape) (e .shape) && ltb (d .wood) (e .wood))
 
 unfoldable pub copyAhead : Copy → Copy → Bool
 copyAhead x y = less (x .piece ∷ x .copy ∷ []) (y .piece ∷ y .copy ∷ [])
@@ -57,18 +64,20 @@ pub record Right (t : Tray) (c : Compiled) : Type 0 where
   -- the filled board cells are numbered in scan order, each once
   pub cellsFilled : (u : Cell) → List·Memᴰ u (c .cells) ↔ List·Memᴰ u (filledCells (t .board))
   pub cellsInOrder : T (ascending (cellAhead (axes (t .board .sides))) (c .cells))
-  -- each piece has a kind, and each kind a piece; "Two pieces are one kind if a turn makes their grids equal"
+  -- each piece has a kind, and each kind a piece; "Two pieces are one kind if a turn makes their grids equal", and "only if the wood agrees too"
   pub kindOf : ℕ → ℕ
   pub isKind : (n : ℕ) → n < length (t .pieces) → kindOf n < length (c .kinds)
   pub someLent : (k : ℕ) → k < length (c .kinds) → (n : ℕ) × (n < length (t .pieces)) × (kindOf n ≡ k)
-  pub oneKind : (n m : ℕ) → n < length (t .pieces) → m < length (t .pieces) → (kindOf n ≡ kindOf m) ↔ TurnsOnto (pieceAt t n .grid) (pieceAt t m .grid)
-  -- "Kinds are ordered by their smallest turned grid"
+  pub oneKind : (n m : ℕ) → n < length (t .pieces) → m < length (t .pieces)
+      → (kindOf n ≡ kindOf m) ↔ (TurnsOnto (pieceAt t n .grid) (pieceAt t m .grid) × (pieceAt t n .wood ≡ pieceAt t m .wood))
+  pub woodLent : (n : ℕ) → n < length (t .pieces) → kindAt c (kindOf n) .wood ≡ pieceAt t n .wood
+  -- "Kinds are ordered by their smallest turned grid"; "kinds with equal smallest grids go by wood"
   pub shapeTurned : (n : ℕ) → n < length (t .pieces) → TurnsOnto (pieceAt t n .grid) (kindAt c (kindOf n) .shape)
   pub shapeSmallest : (n : ℕ) → n < length (t .pieces) → (g : Grid) → TurnsOnto (pieceAt t n .grid) g → T (gridAhead g (kindAt c (kindOf n) .shape)) → ⊥
-  pub kindsInOrder : T (ascending gridAhead (map (λ d. d .shape) (c .kinds)))
-  -- "A kind's mirror partner is the kind of its mirrored grids, itself or another"
+  pub kindsInOrder : T (ascending kindAhead (c .kinds))
+  -- "A kind's mirror partner is the kind of its mirrored grids, itself or another", and "must have the same wood"
   pub partner : (n m : ℕ) → n < length (t .pieces) → m < length (t .pieces)
-      → (kindAt c (kindOf n) .partner ≡ kindOf m) ↔ MirrorsOnto (pieceAt t n .grid) (pieceAt t m .grid)
+      → (kindAt c (kindOf n) .partner ≡ kindOf m) ↔ (MirrorsOnto (pieceAt t n .grid) (pieceAt t m .grid) × (pieceAt t n .wood ≡ pieceAt t m .wood))
   -- "A kind's copies are numbered through its pieces in lent order, each piece's copies from 0"
   pub copiesLent : (k : ℕ) (x : Copy) → k < length (c .kinds)
       → List·Memᴰ x (kindAt c k .copies) ↔ ((x .piece < length (t .pieces)) × (kindOf (x .piece) ≡ k) × (x .copy < pieceAt t (x .piece) .count))

@@ -7,7 +7,7 @@ use lib.Dec.{ltb, leb, eqb}
 use lib.ListN.{length, getD, take, drop}
 use Rattle.definitions.specs.Lists.{any, all, keep, sum}
 use Rattle.definitions.specs.Grid.{Sides, Cell, Grid, volume, filledCells}
-use Rattle.definitions.specs.Kinds.{Tray}
+use Rattle.definitions.specs.Kinds.{Piece, Tray}
 use Rattle.definitions.specs.Placements.{Placement, Compiled, compile}
 use Rattle.definitions.specs.Packing.{limits}
 use Rattle.definitions.specs.Kept.{Identify}
@@ -18,8 +18,9 @@ use Rattle.definitions.specs.declared.Record.{Record}
 use Rattle.definitions.specs.declared.Config.{Config}
 
 -- All that a call lends: "The list of pieces is lent as a slice of records, each with three sides, a count (32 bits) and the place where its cells begin
--- in one lent byte slice. The board is such a record too, its count unread." Then the configuration, the skip, and the three slices that the call writes,
--- as they were before it: the answer buffer, the work slice and the links.
+-- in one lent byte slice. The board is such a record too, its count unread." Document 02, A5: "The piece record gains a wood, 0 to 255, unread on the
+-- board". Then the configuration, the skip, and the three slices that the call writes, as they were before it: the answer buffer, the work slice and the
+-- links.
 pub record Call : Type 0 where
   pub pieces : List Record
   pub board : Record
@@ -30,15 +31,32 @@ pub record Call : Type 0 where
   pub work : List ℕ
   pub links : List ℕ
 
+-- the call with other pieces, or another board
+abbrev pub withRecords : List Record → Record → Call → Call
+withRecords pieces board l =
+    record {
+      pieces = pieces;
+      board = board;
+      bytes = l .bytes;
+      config = l .config;
+      skip = l .skip;
+      answers = l .answers;
+      work = l .work;
+      links = l .links;
+    }
+
 unfoldable pub sidesOf : Record → Sides
 sidesOf r = record { a = r .a; b = r .b; c = r .c }
 
 unfoldable pub gridOf : List ℕ → Record → Grid
 gridOf bytes r = record { sides = sidesOf r; cells = take (volume (sidesOf r)) (drop (r .start) bytes) }
 
--- the tray that a call lends, wherever its cells stand in the lent bytes
+-- a piece as it is lent; the tray that a call lends, wherever its cells stand in the lent bytes
+abbrev pub pieceOf : List ℕ → Record → Piece
+pieceOf bytes r = record { grid = gridOf bytes r; count = r .count; wood = r .wood }
+
 unfoldable pub trayOf : Call → Tray
-trayOf l = record { board = gridOf (l .bytes) (l .board); pieces = map (λ r. record { grid = gridOf (l .bytes) r; count = r .count }) (l .pieces) }
+trayOf l = record { board = gridOf (l .bytes) (l .board); pieces = map (pieceOf (l .bytes)) (l .pieces) }
 
 unfoldable pub identifies : Bool → Bool → Identify
 identifies false false = None

@@ -2,15 +2,16 @@
 ghost use mathlib.Core.Path.{_≡_};
 ghost use Rattle.definitions.specs.Outcomes.{numberOf};
 
-// A piece as it is lent, or the board ("record" of document 01): three sides, a count, and the place where its cells begin
-// in the lent bytes. A board's count is not read. Sides have the width of an index, so that one of 257 is refused and not
-// taken for 1.
+// A piece as it is lent, or the board ("record" of document 01): three sides, a count, a wood, and the place where its
+// cells begin in the lent bytes. A board's count and wood are not read. Sides have the width of an index, so that one of 257
+// is refused and not taken for 1. The wood lies behind the count, in bytes that were padding: size and other places stay.
 #[repr(C)]
 pub struct Record {
     pub a: usize,
     pub b: usize,
     pub c: usize,
     pub count: u32,
+    pub wood: u8,
     pub start: usize,
 }
 

@@ -9,9 +9,9 @@ use native.Mathlib.Omega.{arith}
 use lib.Dec.{T, ltb, eqb, eqb→eq, ltb→lt, lt→ltb}
 use lib.ListN.{length, getD, take, length-map}
 use Rattle.definitions.specs.Lists.{consIf, all, any, keep, each, below, from, before, numberedFrom, same, less, sort, ascending, sum}
-use Rattle.definitions.specs.Grid.{Grid, sameGrid, gridAhead}
+use Rattle.definitions.specs.Grid.{Grid}
 use Rattle.definitions.specs.Maps.{Map, mapCell, identity, turns, mirrorings}
-use Rattle.definitions.specs.Kinds.{Tray, Piece, Sorted, Kind, smallest, sorted, shapes, copiesOf, partnerOf, kindsOf}
+use Rattle.definitions.specs.Kinds.{Tray, Piece, Form, sameForm, formAhead, Sorted, sortPiece, Kind, smallest, sorted, forms, copiesOf, kindNamed, kindsOf}
 use Rattle.definitions.specs.Placements.{Placement, Compiled, compile}
 use Rattle.definitions.specs.Packing.{rank, ahead, limits, Packing}
 use Rattle.definitions.specs.Kept.{Identify, cellAfter, moved, image, symmetries, kept}
@@ -23,12 +23,11 @@ use Rattle.definitions.specs.Refusals.{Call, trayOf, refusal}
 use Rattle.definitions.specs.declared.SolverKind.the-variants.{Fast}
 use Rattle.definitions.proofs.ListLaws.{not-again, sort-ascending, and-left, and-right, and-both, any-at, any-of, keep-at, keep-of, keep-same, each-at, below-at, is-true, is-false, eqb-of, holds, or-cases}
 use Rattle.definitions.proofs.PackingLaws.{ahead-trans, ahead-irrefl}
-use Rattle.definitions.proofs.GroupLaws.{map-same, identity-turn, identity-grid, sameGrid→eq, sameGrid-of}
+use Rattle.definitions.proofs.GroupLaws.{map-same, identity-turn, identity-grid}
 use Rattle.definitions.proofs.MapLaws.{map-map-of, turn-fits, filled-length}
-use Rattle.definitions.proofs.CellLaws.{grid-trans, grid-irrefl}
 use Rattle.definitions.proofs.CountLaws.{total, total-same, total-add, total-zero, sum-map}
 use Rattle.definitions.proofs.ShapeLaws.{bits, sum-filled, smallest-at, sort-of}
-use Rattle.definitions.proofs.PartnerLaws.{grids-tied}
+use Rattle.definitions.proofs.PartnerLaws.{sameForm→eq, sameForm-of, form-trans, form-irrefl, forms-tied}
 use Rattle.definitions.proofs.WellMadeLaws.{Nth, nth-getD, getD-nth}
 use Rattle.definitions.proofs.SearchLaws.{from-start-sound}
 use Rattle.definitions.proofs.EngineLaws.{fast-fair, fastSearch, firsts, has-first}
@@ -122,48 +121,51 @@ module _ (xs : List Placement) (up : T (ascending ahead xs)) (r : ℕ) (h : r < 
 abbrev size : Grid → ℕ
 size g = sum (g .cells)
 
--- of grids that ascend one is a given one of them
-one-shape : (s : Grid) (n : ℕ) (hs : List Grid) → T (ascending gridAhead hs) → List·Memᴰ s hs → total (λ g. cond (sameGrid s g) n 0 * size g) hs ≡ n * size s
-one-shape s n [] t m = absurd (List·Memᴰ·not-nil m)
-one-shape s n (g ∷ hs) t m = go (List·Memᴰ·cases-cons m) (λ (k : List·Memᴰ s hs). one-shape s n hs (and-right (all (gridAhead g) hs) (ascending gridAhead hs) t) k)
-  where
-    other : (h : Grid) → (s ≡ h → ⊥) → cond (sameGrid s h) n 0 * size h ≡ 0
-    other h d = ap {B = ℕ} (λ (b : Bool). cond b n 0 * size h) (is-false (sameGrid s h) (λ b. d (sameGrid→eq s h b))) ∙ zero-mul (size h)
+abbrev formSize : Form → ℕ
+formSize f = size (f .grid)
 
-    go : (s ≡ g) ⊎ List·Memᴰ s hs → (List·Memᴰ s hs → total (λ h. cond (sameGrid s h) n 0 * size h) hs ≡ n * size s)
-        → cond (sameGrid s g) n 0 * size g + total (λ h. cond (sameGrid s h) n 0 * size h) hs ≡ n * size s
+-- of forms that ascend one is a given one of them
+form-once : (s : Form) (n : ℕ) (hs : List Form) → T (ascending formAhead hs) → List·Memᴰ s hs → total (λ g. cond (sameForm s g) n 0 * formSize g) hs ≡ n * formSize s
+form-once s n [] t m = absurd (List·Memᴰ·not-nil m)
+form-once s n (g ∷ hs) t m = go (List·Memᴰ·cases-cons m) (λ (k : List·Memᴰ s hs). form-once s n hs (and-right (all (formAhead g) hs) (ascending formAhead hs) t) k)
+  where
+    other : (h : Form) → (s ≡ h → ⊥) → cond (sameForm s h) n 0 * formSize h ≡ 0
+    other h d = ap {B = ℕ} (λ (b : Bool). cond b n 0 * formSize h) (is-false (sameForm s h) (λ b. d (sameForm→eq s h b))) ∙ zero-mul (formSize h)
+
+    go : (s ≡ g) ⊎ List·Memᴰ s hs → (List·Memᴰ s hs → total (λ h. cond (sameForm s h) n 0 * formSize h) hs ≡ n * formSize s)
+        → cond (sameForm s g) n 0 * formSize g + total (λ h. cond (sameForm s h) n 0 * formSize h) hs ≡ n * formSize s
     go (inl e) f =
-        let a : cond (sameGrid s g) n 0 * size g ≡ n * size g = ap {B = ℕ} (λ (b : Bool). cond b n 0 * size g) (is-true (sameGrid s g) (sameGrid-of e)) in
-        let b : n * size g ≡ n * size s = ap (λ (h : Grid). n * size h) (sym e) in
-        let c : total (λ h. cond (sameGrid s h) n 0 * size h) hs ≡ 0 =
-        total-same (λ h. cond (sameGrid s h) n 0 * size h) (λ h. 0) hs (λ h k. other h (λ i. not-again gridAhead grid-trans grid-irrefl g hs t k (sym i ∙ e))) ∙ total-zero hs in
+        let a : cond (sameForm s g) n 0 * formSize g ≡ n * formSize g = ap {B = ℕ} (λ (b : Bool). cond b n 0 * formSize g) (is-true (sameForm s g) (sameForm-of e)) in
+        let b : n * formSize g ≡ n * formSize s = ap (λ (h : Form). n * formSize h) (sym e) in
+        let c : total (λ h. cond (sameForm s h) n 0 * formSize h) hs ≡ 0 =
+        total-same (λ h. cond (sameForm s h) n 0 * formSize h) (λ h. 0) hs (λ h k. other h (λ i. not-again formAhead form-trans form-irrefl g hs t k (sym i ∙ e))) ∙ total-zero hs in
         omega arith
     go (inr k) f =
-        let a = other g (λ e. not-again gridAhead grid-trans grid-irrefl g hs t k e) in
+        let a = other g (λ e. not-again formAhead form-trans form-irrefl g hs t k e) in
         let b = f k in
         omega arith
 
-by-shapes : (hs : List Grid) → T (ascending gridAhead hs) → (qs : List Sorted) → ((q : Sorted) → List·Memᴰ q qs → List·Memᴰ (q .shape) hs)
-    → total (λ g. length (copiesOf qs g) * size g) hs ≡ total (λ q. q .count * size (q .shape)) qs
-by-shapes hs t [] h = unfold copiesOf in total-same (λ g. 0 * size g) (λ g. 0) hs (λ g m. zero-mul (size g)) ∙ total-zero hs
-by-shapes hs t (q ∷ qs) h =
-    total-same (λ g. length (copiesOf (q ∷ qs) g) * size g) (λ g. cond (sameGrid (q .shape) g) (q .count) 0 * size g + length (copiesOf qs g) * size g) hs
-    (λ g m. ap (λ (n : ℕ). n * size g) (copies-more q qs g) ∙ add-mul (cond (sameGrid (q .shape) g) (q .count) 0) (length (copiesOf qs g)) (size g))
-    ∙ total-add (λ g. cond (sameGrid (q .shape) g) (q .count) 0 * size g) (λ g. length (copiesOf qs g) * size g) hs
-    ∙ ap₂ (λ (a b : ℕ). a + b) (one-shape (q .shape) (q .count) hs t (h q (List·Memᴰ·head refl))) (by-shapes hs t qs (λ z m. h z (List·Memᴰ·tail m)))
+by-forms : (hs : List Form) → T (ascending formAhead hs) → (qs : List Sorted) → ((q : Sorted) → List·Memᴰ q qs → List·Memᴰ (q .form) hs)
+    → total (λ g. length (copiesOf qs g) * formSize g) hs ≡ total (λ q. q .count * formSize (q .form)) qs
+by-forms hs t [] h = unfold copiesOf in total-same (λ g. 0 * formSize g) (λ g. 0) hs (λ g m. zero-mul (formSize g)) ∙ total-zero hs
+by-forms hs t (q ∷ qs) h =
+    total-same (λ g. length (copiesOf (q ∷ qs) g) * formSize g) (λ g. cond (sameForm (q .form) g) (q .count) 0 * formSize g + length (copiesOf qs g) * formSize g) hs
+    (λ g m. ap (λ (n : ℕ). n * formSize g) (copies-more q qs g) ∙ add-mul (cond (sameForm (q .form) g) (q .count) 0) (length (copiesOf qs g)) (formSize g))
+    ∙ total-add (λ g. cond (sameForm (q .form) g) (q .count) 0 * formSize g) (λ g. length (copiesOf qs g) * formSize g) hs
+    ∙ ap₂ (λ (a b : ℕ). a + b) (form-once (q .form) (q .count) hs t (h q (List·Memᴰ·head refl))) (by-forms hs t qs (λ z m. h z (List·Memᴰ·tail m)))
 
 by-pieces : (i : ℕ) (ps : List Piece) → ((q : Piece) → List·Memᴰ q ps → size (smallest (q .grid)) ≡ size (q .grid))
-    → total (λ (q : Sorted). q .count * size (q .shape)) (numberedFrom {B = Sorted} i ps (λ j q. record { piece = j; count = q .count; shape = smallest (q .grid) }))
+    → total (λ (q : Sorted). q .count * formSize (q .form)) (numberedFrom {B = Sorted} i ps sortPiece)
     ≡ sum (map (λ q. q .count * size (q .grid)) ps)
 by-pieces i [] h = refl
 by-pieces i (p ∷ ps) h = ap₂ (λ (a b : ℕ). p .count * a + b) (h p (List·Memᴰ·head refl)) (by-pieces (suc i) ps (λ z m. h z (List·Memᴰ·tail m)))
 
--- by kinds and by shapes
-by-kinds : (t : Tray) → allCells (compile t) ≡ total (λ g. length (copiesOf (sorted t) g) * size g) (shapes (sorted t))
+-- by kinds and by forms
+by-kinds : (t : Tray) → allCells (compile t) ≡ total (λ g. length (copiesOf (sorted t) g) * formSize g) (forms (sorted t))
 unfolding allCells compile limits sizes kindsOf
 by-kinds t =
     ap sum (map-below (λ k. getD (limits c) k 0 * getD (sizes c) k 0) (length ks) 0 (map cells ks) (length-map ks cells) each-kind)
-    ∙ ap sum (map-map-of cells made (shapes (sorted t))) ∙ sum-map (λ g. length (copiesOf (sorted t) g) * size g) (shapes (sorted t))
+    ∙ ap sum (map-map-of cells made (forms (sorted t))) ∙ sum-map (λ g. length (copiesOf (sorted t) g) * formSize g) (forms (sorted t))
   where
     c : Compiled
     c = compile t
@@ -171,8 +173,8 @@ by-kinds t =
     ks : List Kind
     ks = kindsOf t
 
-    made : Grid → Kind
-    made g = record { shape = g; partner = partnerOf (shapes (sorted t)) g; copies = copiesOf (sorted t) g }
+    made : Form → Kind
+    made = kindNamed (sorted t) (forms (sorted t))
 
     cells : Kind → ℕ
     cells d = length (d .copies) * size (d .shape)
@@ -184,11 +186,11 @@ by-kinds t =
         ∙ sym (nth-getD cells 0 ks k (r .1))
 
 pub all-cells-same : (l : Call) → refusal l ≡ 0 → allCells (compile (trayOf l)) ≡ cellsOfAll (trayOf l)
-unfolding cellsOfAll shapes sorted
+unfolding cellsOfAll forms sorted
 all-cells-same l ok =
     by-kinds (trayOf l)
-    ∙ by-shapes (shapes qs) (sort-ascending gridAhead grid-trans (map (λ q. q .shape) qs)) qs
-    (λ q m. sort-of gridAhead grids-tied (map (λ (x : Sorted). x .shape) qs) (Memᴰ·map (λ (x : Sorted). x .shape) m))
+    ∙ by-forms (forms qs) (sort-ascending formAhead form-trans (map (λ q. q .form) qs)) qs
+    (λ q m. sort-of formAhead forms-tied (map (λ (x : Sorted). x .form) qs) (Memᴰ·map (λ (x : Sorted). x .form) m))
     ∙ by-pieces 0 (trayOf l .pieces) turned
   where
     qs : List Sorted

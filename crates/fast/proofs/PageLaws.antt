@@ -12,12 +12,12 @@ use lib.Seq.{length-take-le, getD-take, getD-set-same, getD-set-other}
 use Rattle.definitions.specs.Lists.{all, below, howMany, sum}
 use Rattle.definitions.specs.Grid.{volume}
 use Rattle.definitions.specs.Kinds.{Piece}
-use Rattle.definitions.specs.Refusals.{gridOf, sidesOf, areBits, copyCount}
+use Rattle.definitions.specs.Refusals.{gridOf, sidesOf, areBits, copyCount, pieceOf}
 use Rattle.definitions.specs.declared.Record.{Record}
 use Rattle.definitions.proofs.ListLaws.{is-true}
 use Rattle.shape.proofs.PlaceLaws.{volume-small}
 use Rattle.placements.specs.declared.Table.{Table}
-use Rattle.placements.specs.Tables.{noRecord, recordsOf, pieceOf, trayIn}
+use Rattle.placements.specs.Tables.{noRecord, recordsOf, trayIn}
 use Rattle.placements.specs.Merging.{Sound}
 use Rattle.placements.specs.Counting.{Accepted9}
 use Rattle.placements.proofs.RefusalLaws.{sides-small, cells-count, all-grids, records-few, records-count, records-from, record-passes}

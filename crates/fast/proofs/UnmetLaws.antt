@@ -15,7 +15,7 @@ use Rattle.definitions.specs.Packing.{ahead, used}
 use Rattle.definitions.specs.Kept.{Identify}
 use Rattle.definitions.specs.Orders.{State, possible, choose, search, fastChoices}
 use Rattle.definitions.specs.Emission.{Emitted, emits}
-use Rattle.definitions.proofs.ListLaws.{and-left, and-right, all-at, each-at, eqb-of, holds, is-false, clash, keep-at, member-at, member-of, put-at, put-head, put-tail, Fresh, ascending-apart, same→eq}
+use Rattle.definitions.proofs.ListLaws.{and-left, and-right, all-at, each-at, eqb-of, holds, is-false, clash, keep-at, member-at, member-of, put-at, put-head, put-tail, Fresh, ascending-apart, same→eq, keep-map}
 use Rattle.definitions.proofs.PackingLaws.{ahead-trans, ahead-irrefl}
 use Rattle.definitions.proofs.CountLaws.{howMany-length}
 use Rattle.definitions.proofs.SearchLaws.{getD-pos}
@@ -30,7 +30,6 @@ use Rattle.rows.proofs.ShownLaws.{answer-shows}
 use Rattle.kept.specs.Normal.{rowOf, ofKind, sortRows, normal}
 use Rattle.kept.specs.Entries.{entries, numbersOf, putAll}
 use Rattle.kept.proofs.LeafLaws.{row-in, packing-sorted, sort-rows-at}
-use Rattle.kept.proofs.NormalRowLaws.{keep-map}
 use Rattle.kept.proofs.SortingLaws.{sort-keep}
 use Rattle.fast.specs.Searching.{Searching, fastBelow, stateBy}
 use Rattle.fast.proofs.SearchingLaws.{uncovered-at}

@@ -12,7 +12,7 @@ use lib.ListN.{length, getD, take, drop, length-take, length-drop, drop-of-lengt
 use lib.Seq.{take-all, drop-drop}
 use Rattle.definitions.specs.Lists.{all, before, same, isEmpty}
 use Rattle.definitions.specs.Texts.{text}
-use Rattle.definitions.specs.Files.{onFirst, parts, field, fieldsOf, withoutLast, lastOf, linesOf, isDigit, isNumber, numberIn, isGridIn, isConfig, isBoard, isPiece, isFile}
+use Rattle.definitions.specs.Files.{onFirst, parts, field, fieldsOf, withoutLast, lastOf, linesOf, isDigit, isNumber, numberIn, isGridIn, isConfig, isBoard, hasPieceFields, isPiece, isWood, isFile}
 use Rattle.definitions.proofs.ListLaws.{and-left, and-right, and-both, is-true, holds}
 use Rattle.files.specs.declared.spans.Span.{Span}
 use Rattle.files.specs.Stretches.{Within, stretch, isLine}
@@ -116,6 +116,15 @@ module _ (n : ℕ) (line : List ℕ) where
         unfolding isGridIn
         grid-is e size x y z f g h i = rw (a, b, d, e) (rw (f, g, h, i))
 
+module _ (ds : List ℕ) where
+  pub wood-no-number : isNumber 3 ds ≡ false → false ≡ isWood ds
+  unfolding isWood
+  wood-no-number n = rw n
+
+  pub wood-is : {n : ℕ} → isNumber 3 ds ≡ true → n ≡ numberIn ds → leb n 255 ≡ isWood ds
+  unfolding isWood
+  wood-is n e = rw (n, e)
+
 module _ (line : List ℕ) where
   pub board-no-count : eqb (length (fieldsOf line)) 5 ≡ false → false ≡ isBoard line
   unfolding isBoard
@@ -129,19 +138,31 @@ module _ (line : List ℕ) where
   unfolding isBoard
   board-is n w e = rw (n, w) e
 
-  pub piece-no-count : eqb (length (fieldsOf line)) 6 ≡ false → false ≡ isPiece line
-  unfolding isPiece
-  piece-no-count n = rw n
+  pub fields-six : eqb (length (fieldsOf line)) 6 ≡ true → true ≡ hasPieceFields line
+  unfolding hasPieceFields
+  fields-six n = rw n
 
-  pub piece-no-word : eqb (length (fieldsOf line)) 6 ≡ true → same (field line 0) (text "piece") ≡ false → false ≡ isPiece line
+  pub fields-neither : eqb (length (fieldsOf line)) 6 ≡ false → eqb (length (fieldsOf line)) 7 ≡ false → false ≡ hasPieceFields line
+  unfolding hasPieceFields
+  fields-neither n m = rw (n, m)
+
+  pub fields-seven : {r : Bool} → eqb (length (fieldsOf line)) 6 ≡ false → eqb (length (fieldsOf line)) 7 ≡ true → r ≡ isWood (field line 6) → r ≡ hasPieceFields line
+  unfolding hasPieceFields
+  fields-seven n m w = rw (n, m) w
+
+  pub piece-no-fields : hasPieceFields line ≡ false → false ≡ isPiece line
+  unfolding isPiece
+  piece-no-fields n = rw n
+
+  pub piece-no-word : hasPieceFields line ≡ true → same (field line 0) (text "piece") ≡ false → false ≡ isPiece line
   unfolding isPiece
   piece-no-word n w = rw (n, w)
 
-  pub piece-no-number : eqb (length (fieldsOf line)) 6 ≡ true → same (field line 0) (text "piece") ≡ true → isNumber 9 (field line 1) ≡ false → false ≡ isPiece line
+  pub piece-no-number : hasPieceFields line ≡ true → same (field line 0) (text "piece") ≡ true → isNumber 9 (field line 1) ≡ false → false ≡ isPiece line
   unfolding isPiece
   piece-no-number n w d = rw (n, w, d)
 
-  pub piece-is : {r : Bool} → eqb (length (fieldsOf line)) 6 ≡ true → same (field line 0) (text "piece") ≡ true → isNumber 9 (field line 1) ≡ true → r ≡ isGridIn 2 line → r ≡ isPiece line
+  pub piece-is : {r : Bool} → hasPieceFields line ≡ true → same (field line 0) (text "piece") ≡ true → isNumber 9 (field line 1) ≡ true → r ≡ isGridIn 2 line → r ≡ isPiece line
   unfolding isPiece
   piece-is n w d e = rw (n, w, d) e
 

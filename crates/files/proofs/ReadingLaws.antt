@@ -13,7 +13,7 @@ use lib.ListN.{length, getD, set, drop, length-map, length-append, length-set, L
 use lib.Seq.{paste, paste-suc, length-paste, getD-take, getD-drop, getD-append-seam, getD-set-same, getD-set-other, ext-getD}
 use Rattle.definitions.specs.Lists.{all, below, same}
 use Rattle.definitions.specs.Texts.{text}
-use Rattle.definitions.specs.Files.{Written, recordAt, recordsFrom, field, fieldsOf, numberIn, gridIn, isNumber, isGridIn, isConfig, isBoard, isPiece}
+use Rattle.definitions.specs.Files.{Written, recordAt, recordsFrom, field, fieldsOf, numberFrom, numberIn, gridIn, isNumber, isGridIn, isConfig, isBoard, isWood, hasPieceFields, isPiece, woodIn}
 use Rattle.definitions.specs.declared.Record.{Record}
 use Rattle.definitions.specs.declared.SolverKind.the-variants.{Fast, KnuthAlgorithm}
 use Rattle.definitions.proofs.ListLaws.{and-left, and-right, or-cases, eqb-of, is-true, decide, clash, length-below}
@@ -53,13 +53,44 @@ module _ (line : List ℕ) where
   abbrev numbers : Bool
   numbers = isNumber 9 (field line 1) && isGridIn 2 line
 
-  pub piece-fields : T (isPiece line) → length (fieldsOf line) ≡ 6
+  pub piece-fields : T (isPiece line) → T (hasPieceFields line)
   unfolding isPiece
-  piece-fields t = count-of (length (fieldsOf line)) 6 (same (field line 0) (text "piece") && numbers) t
+  piece-fields t = and-left (hasPieceFields line) (same (field line 0) (text "piece") && numbers) t
 
   piece-numbers : T (isPiece line) → T numbers
   unfolding isPiece
-  piece-numbers t = and-right (same (field line 0) (text "piece")) numbers (and-right (eqb (length (fieldsOf line)) 6) (same (field line 0) (text "piece") && numbers) t)
+  piece-numbers t = and-right (same (field line 0) (text "piece")) numbers (and-right (hasPieceFields line) (same (field line 0) (text "piece") && numbers) t)
+
+  -- six fields, or seven and a wood
+  fields-cases : T (hasPieceFields line) → (length (fieldsOf line) ≡ 6) ⊎ ((length (fieldsOf line) ≡ 7) × T (isWood (field line 6)))
+  unfolding hasPieceFields
+  fields-cases t = go (or-cases (eqb n 6) (eqb n 7 && isWood (field line 6)) t)
+    where
+      n : ℕ
+      n = length (fieldsOf line)
+
+      go : T (eqb n 6) ⊎ T (eqb n 7 && isWood (field line 6)) → (n ≡ 6) ⊎ ((n ≡ 7) × T (isWood (field line 6)))
+      go (inl a) = inl (eqb→eq n 6 a)
+      go (inr a) = inr (count-of n 7 (isWood (field line 6)) a, and-right (eqb n 7) (isWood (field line 6)) a)
+
+  pub fields-many : T (hasPieceFields line) → 6 ≤ length (fieldsOf line)
+  fields-many t = go (fields-cases t)
+    where
+      go : (length (fieldsOf line) ≡ 6) ⊎ ((length (fieldsOf line) ≡ 7) × T (isWood (field line 6))) → 6 ≤ length (fieldsOf line)
+      go (inl e) = omega arith
+      go (inr e) = let f = e .0 in omega arith
+
+  -- the wood: absent with six fields, and a number of at most 255 otherwise
+  pub wood-absent : length (fieldsOf line) ≡ 6 → 0 ≡ woodIn line
+  unfolding woodIn field numberIn
+  wood-absent e = ap (numberFrom 0) (sym (List·getD-eq-default (fieldsOf line) [] (omega arith)))
+
+  pub wood-there : T (hasPieceFields line) → (length (fieldsOf line) ≡ 6 → ⊥) → (length (fieldsOf line) ≡ 7) × T (isWood (field line 6))
+  wood-there t n = go (fields-cases t)
+    where
+      go : (length (fieldsOf line) ≡ 6) ⊎ ((length (fieldsOf line) ≡ 7) × T (isWood (field line 6))) → (length (fieldsOf line) ≡ 7) × T (isWood (field line 6))
+      go (inl e) = absurd (n e)
+      go (inr e) = e
 
   pub piece-count : T (isPiece line) → T (isNumber 9 (field line 1))
   piece-count t = and-left (isNumber 9 (field line 1)) (isGridIn 2 line) (piece-numbers t)
@@ -132,10 +163,18 @@ held p e t = subst (λ (l : List ℕ). T (p l)) (sym e) t
 pub of-side : {s f : List ℕ} → s ≡ f → T (isNumber 3 f) → T (isNumber 9 s)
 of-side {s} {f} e t = held (isNumber 9) e (three-are-nine f (is-true (isNumber 3 f) t))
 
-pub record-is : (count n start : ℕ) (line : List ℕ) {x y z : ℕ} {a b d : List ℕ} → x ≡ numberIn a → a ≡ field line n → y ≡ numberIn b → b ≡ field line (n + 1) → z ≡ numberIn d → d ≡ field line (n + 2)
-    → record { a = x; b = y; c = z; count = count; start = start } ≡ recordAt start (gridIn count n line)
+pub wood-number : (ds : List ℕ) → T (isWood ds) → T (isNumber 3 ds)
+unfolding isWood
+wood-number ds t = and-left (isNumber 3 ds) (leb (numberIn ds) 255) t
+
+pub wood-small : (ds : List ℕ) → T (isWood ds) → numberIn ds ≤ 255
+unfolding isWood
+wood-small ds t = leb-true (numberIn ds) 255 (is-true (leb (numberIn ds) 255) (and-right (isNumber 3 ds) (leb (numberIn ds) 255) t))
+
+pub record-is : (count wood n start : ℕ) (line : List ℕ) {x y z : ℕ} {a b d : List ℕ} → x ≡ numberIn a → a ≡ field line n → y ≡ numberIn b → b ≡ field line (n + 1) → z ≡ numberIn d → d ≡ field line (n + 2)
+    → record { a = x; b = y; c = z; count = count; wood = wood; start = start } ≡ recordAt start (gridIn count wood n line)
 unfolding gridIn
-record-is count n start line x-is a-is y-is b-is z-is d-is = rw (x-is, a-is, y-is, b-is, z-is, d-is)
+record-is count wood n start line x-is a-is y-is b-is z-is d-is = rw (x-is, a-is, y-is, b-is, z-is, d-is)
 
 -- ---- cells put one by one
 cell-least : (x : ℕ) → T (isCell x) → 48 ≤ x

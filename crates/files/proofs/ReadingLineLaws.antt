@@ -11,7 +11,7 @@ use lib.Dec.{T, leb, eqb, eqb→eq}
 use lib.ListN.{length, getD, take, drop, length-map, length-append, length-drop, drop-of-length-le}
 use lib.Seq.{drop-drop, paste, paste-zero, take-length, length-paste, take-paste, drop-paste}
 use Rattle.definitions.specs.Lists.{all, before, isEmpty}
-use Rattle.definitions.specs.Files.{Written, recordAt, recordsFrom, onFirst, parts, field, fieldsOf, withoutLast, lastOf, linesOf, numberIn, gridIn, isConfig, isBoard, isPiece, isFile, callOn, callIn}
+use Rattle.definitions.specs.Files.{Written, recordAt, recordsFrom, onFirst, parts, field, fieldsOf, withoutLast, lastOf, linesOf, numberIn, gridIn, isConfig, isBoard, isPiece, woodIn, pieceIn, isFile, callOn, callIn}
 use Rattle.definitions.specs.declared.Record.{Record}
 use Rattle.definitions.proofs.ListLaws.{and-left, and-right, eqb-of, decide, clash}
 use Rattle.placements.specs.declared.Table.{Table}
@@ -124,17 +124,14 @@ piece-line bytes from end ls h e =
       behind = to-lines 1 (drop (end + 1) bytes) (line-rest 2 bytes from end (e .0) t k);
     }
 
--- the piece of a line
-abbrev pieceOf : List ℕ → Written
-pieceOf line = gridIn (numberIn (field line 1)) 2 line
-
-pieces-next : (bytes : List ℕ) (line : List ℕ) (rest : List ℕ) → linesOf bytes ≡ line ∷ linesOf rest → piecesIn bytes ≡ pieceOf line ∷ piecesIn rest
+-- the pieces of the lines left
+pieces-next : (bytes : List ℕ) (line : List ℕ) (rest : List ℕ) → linesOf bytes ≡ line ∷ linesOf rest → piecesIn bytes ≡ pieceIn line ∷ piecesIn rest
 unfolding piecesIn
-pieces-next bytes line rest e = ap (map (λ l. gridIn (numberIn (field l 1)) 2 l)) e
+pieces-next bytes line rest e = ap (map pieceIn) e
 
 pieces-none : (bytes : List ℕ) → linesOf bytes ≡ [] → piecesIn bytes ≡ []
 unfolding piecesIn
-pieces-none bytes e = ap (map (λ l. gridIn (numberIn (field l 1)) 2 l)) e
+pieces-none bytes e = ap (map pieceIn) e
 
 -- ---- cells put behind cells
 module _ (old xs ys : List ℕ) (h : length xs + length ys ≤ length old) where
@@ -242,12 +239,13 @@ module _ {bytes : List ℕ} {start : ℕ} {old : List ℕ} {from : ℕ} {t : Tab
     line = stretch (record { from = from; to = end }) bytes
 
     pub one-more : {f : Span} → Within f bytes × (stretch f bytes ≡ field (stretch (record { from = from; to = end }) bytes) 5)
-        → {count : ℕ} → count ≡ numberIn (field (stretch (record { from = from; to = end }) bytes) 1) → {p : Record} → p ≡ recordAt used (gridIn count 2 (stretch (record { from = from; to = end }) bytes))
+        → {count wood : ℕ} → count ≡ numberIn (field (stretch (record { from = from; to = end }) bytes) 1) → wood ≡ woodIn (stretch (record { from = from; to = end }) bytes)
+        → {p : Record} → p ≡ recordAt used (gridIn count wood 2 (stretch (record { from = from; to = end }) bytes))
         → {u : Table} → u ≡ pushRow t p → {r : ℕ} {last : List ℕ} → (r ≡ used + (f .to - f .from)) × (last ≡ paste new used (map (λ x. x - 48) (stretch f bytes)) (f .to - f .from))
         → ReadTo bytes start old (end + 1) u r last
-    unfolding gridIn
-    one-more {f} is-f {count} is-count {p} is-p {u} is-u {r} {last} is =
-        let g = pieceOf line in
+    unfolding gridIn pieceIn
+    one-more {f} is-f {count} {wood} is-count is-wood {p} is-p {u} is-u {r} {last} is =
+        let g = pieceIn line in
         let gs = so .done in
         let cs = cellsOfAll gs in
         let m : f .to - f .from ≡ length (g .cells) = size-of is-f in
@@ -270,7 +268,7 @@ module _ {bytes : List ℕ} {start : ℕ} {old : List ℕ} {from : ℕ} {t : Tab
           lines = here .behind;
           table =
               is-u
-              ∙ ap₂ pushRow (so .table) (is-p ∙ ap₂ (λ (a b : ℕ). recordAt a (gridIn b 2 line)) (so .count) is-count)
+              ∙ ap₂ pushRow (so .table) (is-p ∙ ap₂ (λ (a b : ℕ). recordAt a (gridIn b wood 2 line)) (so .count) is-count ∙ ap (λ (w : ℕ). recordAt (length cs) (gridIn (numberIn (field line 1)) w 2 line)) is-wood)
               ∙ piece-more g gs;
           count = omega arith;
           cells = put-behind is-f old cs (so .count) (so .cells) (is .1) ∙ paste-behind old cs (g .cells) (omega arith) ∙ ap₂ (λ (l : List ℕ) (j : ℕ). paste old 0 l j) (sym sum) total;
@@ -338,19 +336,19 @@ module _ {bytes : List ℕ} {first second : ℕ} (so : FileLines bytes first sec
   board-line = stretch (record { from = first + 1; to = second }) bytes
 
   abbrev pieces-of : List (List ℕ) → List Written
-  pieces-of ls = map (λ line. gridIn (numberIn (field line 1)) 2 line) (drop 2 ls)
+  pieces-of ls = map pieceIn (drop 2 ls)
 
   call-pieces : recordsFrom 0 (piecesIn behind) ≡ callIn bytes 0 0 .pieces
   unfolding callIn callOn piecesIn
   call-pieces = sym (ap (λ (ls : List (List ℕ)). recordsFrom 0 (pieces-of ls)) (so .lines))
 
-  call-bytes : cellsOfAll (piecesIn behind) ++ gridIn 0 1 board-line .cells ≡ callIn bytes 0 0 .bytes
+  call-bytes : cellsOfAll (piecesIn behind) ++ gridIn 0 0 1 board-line .cells ≡ callIn bytes 0 0 .bytes
   unfolding callIn callOn piecesIn cellsOfAll
-  call-bytes = sym (ap (λ (ls : List (List ℕ)). cellsOfAll (pieces-of ls) ++ gridIn 0 1 (getD ls 1 []) .cells) (so .lines))
+  call-bytes = sym (ap (λ (ls : List (List ℕ)). cellsOfAll (pieces-of ls) ++ gridIn 0 0 1 (getD ls 1 []) .cells) (so .lines))
 
-  call-board : recordAt (length (cellsOfAll (piecesIn behind))) (gridIn 0 1 board-line) ≡ callIn bytes 0 0 .board
+  call-board : recordAt (length (cellsOfAll (piecesIn behind))) (gridIn 0 0 1 board-line) ≡ callIn bytes 0 0 .board
   unfolding callIn callOn piecesIn cellsOfAll
-  call-board = sym (ap (λ (ls : List (List ℕ)). recordAt (length (cellsOfAll (pieces-of ls))) (gridIn 0 1 (getD ls 1 []))) (so .lines))
+  call-board = sym (ap (λ (ls : List (List ℕ)). recordAt (length (cellsOfAll (pieces-of ls))) (gridIn 0 0 1 (getD ls 1 []))) (so .lines))
 
   pub call-config : configIn (stretch (record { from = 0; to = first }) bytes) ≡ callIn bytes 0 0 .config
   unfolding callIn callOn configIn
@@ -366,8 +364,8 @@ module _ {bytes : List ℕ} {first second : ℕ} (so : FileLines bytes first sec
     pub asked-pieces : t ≡ tableOf (callIn bytes 0 0 .pieces)
     asked-pieces = p .0 .table ∙ ap tableOf call-pieces
 
-    pub asked-board : {r : Record} → r ≡ recordAt used (gridIn 0 1 (stretch (record { from = first + 1; to = second }) bytes)) → r ≡ callIn bytes 0 0 .board
-    asked-board e = e ∙ ap (λ (n : ℕ). recordAt n (gridIn 0 1 board-line)) (p .0 .count) ∙ call-board
+    pub asked-board : {r : Record} → r ≡ recordAt used (gridIn 0 0 1 (stretch (record { from = first + 1; to = second }) bytes)) → r ≡ callIn bytes 0 0 .board
+    asked-board e = e ∙ ap (λ (n : ℕ). recordAt n (gridIn 0 0 1 board-line)) (p .0 .count) ∙ call-board
 
     module _ {f : Span} (is-f : Within f bytes × (stretch f bytes ≡ field (stretch (record { from = first + 1; to = second }) bytes) 4)) where
       pub board-fits : used + (f .to - f .from) ≤ 16384

@@ -1,14 +1,14 @@
 -- What the lines of a file ask for, one after the other.
-use Prim.Native.Nat.{ℕ, suc, _+_, _*_, _-_, _<_}
-use mathlib.Core.Bool.{Bool, true, false, cond, _||_, _&&_}
-use mathlib.Core.List.{List, [], _∷_, map}
+use Prim.Native.Nat.{ℕ, _+_}
+use mathlib.Core.Bool.{Bool, cond, _||_, _&&_}
+use mathlib.Core.List.{List, map}
 use mathlib.Core.Path.{_≡_}
 use lib.Dec.{T, ltb}
-use lib.ListN.{length, set, drop}
+use lib.ListN.{length, set}
 use lib.Seq.{paste}
 use Rattle.definitions.specs.Lists.{all, isEmpty, joined, same}
 use Rattle.definitions.specs.Texts.{text}
-use Rattle.definitions.specs.Files.{Written, field, gridIn, lastOf, linesOf, numberIn, parts, recordsFrom}
+use Rattle.definitions.specs.Files.{Written, field, lastOf, linesOf, parts, pieceIn, recordsFrom}
 use Rattle.definitions.specs.declared.Config.{Config}
 use Rattle.definitions.specs.declared.Record.{Record}
 use Rattle.definitions.specs.declared.SolverKind.the-variants.{Fast, KnuthAlgorithm}
@@ -35,7 +35,7 @@ Lines test bytes = T (isEmpty (lastOf (parts 10 bytes)) && all test (linesOf byt
 
 -- the pieces of such lines
 unfoldable pub piecesIn : List ℕ → List Written
-piecesIn bytes = map (λ line. gridIn (numberIn (field line 1)) 2 line) (linesOf bytes)
+piecesIn bytes = map pieceIn (linesOf bytes)
 
 unfoldable pub cellsOfAll : List Written → List ℕ
 cellsOfAll gs = joined (map (λ (g : Written). g .cells) gs)

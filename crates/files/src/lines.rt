@@ -2,7 +2,7 @@
 ghost use mathlib.Core.Path.{_≡_};
 ghost use Prim.Native.Nat.{_+_, _≤_};
 ghost use lib.ListN.{length};
-ghost use Rattle.definitions.specs.Files.{fieldsOf, isBoard, isConfig, isFile, isGridIn, isPiece};
+ghost use Rattle.definitions.specs.Files.{field, fieldsOf, hasPieceFields, isBoard, isConfig, isFile, isGridIn, isPiece, isWood};
 ghost use Rattle.files.specs.Stretches.{Within, isLine, stretch};
 use super::spans;
 use super::spans::Span;
@@ -71,11 +71,38 @@ pub fn is_board(text: &[u8], line: Span) -> bool
     is_grid_in(text, line, 1)
 }
 
+// Whether field 6 of a line is a wood.
+fn is_wood(text: &[u8], line: Span) -> bool
+    requires { ⌜ Within line (now text) × (7 ≤ length (fieldsOf (stretch line (now text)))) ⌝ }
+    ensures { λ r. ⌜ r ≡ isWood (field (stretch line (now (text .entry))) 6) ⌝ }
+{
+    let wood = spans::field_of(text, line, 6);
+    if !spans::is_number(text, wood, 3) {
+        return false;
+    }
+    spans::number_in(text, wood) <= 255
+}
+
+// Whether a line has as many fields as a piece's: six, or seven and a wood at the end.
+fn has_piece_fields(text: &[u8], line: Span) -> bool
+    requires { ⌜ Within line (now text) ⌝ }
+    ensures { λ r. ⌜ r ≡ hasPieceFields (stretch line (now (text .entry))) ⌝ }
+{
+    let n = spans::count_fields(text, line);
+    if n == 6 {
+        return true;
+    }
+    if n != 7 {
+        return false;
+    }
+    is_wood(text, line)
+}
+
 pub fn is_piece(text: &[u8], line: Span) -> bool
     requires { ⌜ Within line (now text) ⌝ }
     ensures { λ r. ⌜ r ≡ isPiece (stretch line (now (text .entry))) ⌝ }
 {
-    if spans::count_fields(text, line) != 6 {
+    if !has_piece_fields(text, line) {
         return false;
     }
     if !spans::is_word(text, spans::field_of(text, line, 0), b"piece") {

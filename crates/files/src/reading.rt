@@ -7,7 +7,7 @@ ghost use lib.Dec.{T, eqb};
 ghost use Rattle.definitions.specs.Lists.{all};
 ghost use lib.ListN.{drop, length, take};
 ghost use lib.Seq.{paste};
-ghost use Rattle.definitions.specs.Files.{callIn, fieldsOf, gridIn, isConfig, isFile, isGridIn, isPiece, recordAt};
+ghost use Rattle.definitions.specs.Files.{callIn, fieldsOf, gridIn, hasPieceFields, isConfig, isFile, isGridIn, isPiece, recordAt, woodIn};
 ghost use Rattle.solver.specs.Records.{tableOf};
 ghost use Rattle.files.specs.Stretches.{Within, stretch};
 ghost use Rattle.files.specs.Reading.{Lines, PiecesRead, configIn, pushRow};
@@ -59,17 +59,29 @@ fn config_in(text: &[u8], line: Span) -> Config
 }
 
 // The record of the grid from field n on, whose cells are lent from a place on.
-fn record_in(text: &[u8], line: Span, n: usize, count: u32, start: usize) -> Record
+fn record_in(text: &[u8], line: Span, n: usize, count: u32, wood: u8, start: usize) -> Record
     requires { ⌜ Within line (now text) × (n + 4 ≤ length (fieldsOf (stretch line (now text)))) × T (isGridIn n (stretch line (now text))) ⌝ }
-    ensures { λ r. ⌜ r ≡ recordAt start (gridIn count n (stretch line (now (text .entry)))) ⌝ }
+    ensures { λ r. ⌜ r ≡ recordAt start (gridIn count wood n (stretch line (now (text .entry)))) ⌝ }
 {
     Record {
         a: spans::number_in(text, spans::field_of(text, line, n)),
         b: spans::number_in(text, spans::field_of(text, line, n + 1)),
         c: spans::number_in(text, spans::field_of(text, line, n + 2)),
         count,
+        wood,
         start,
     }
+}
+
+// The wood of a piece's line: the number in the last of seven fields, 0 where there are six.
+fn wood_in(text: &[u8], line: Span) -> u8
+    requires { ⌜ Within line (now text) × T (hasPieceFields (stretch line (now text))) ⌝ }
+    ensures { λ r. ⌜ r ≡ woodIn (stretch line (now (text .entry))) ⌝ }
+{
+    if spans::count_fields(text, line) == 6 {
+        return 0;
+    }
+    spans::number_in(text, spans::field_of(text, line, 6)) as u8
 }
 
 // The cells of a stretch as bytes 0 and 1, from a place on; and the place behind them.
@@ -114,7 +126,8 @@ fn read_pieces(text: &[u8], start: usize, cells: &mut [u8]) -> Pieces
         let end = spans::find(text, Span { from, to }, 10);
         let line = Span { from, to: end };
         let count = spans::number_in(text, spans::field_of(text, line, 1));
-        let p = record_in(text, line, 2, count as u32, used);
+        let wood = wood_in(text, line);
+        let p = record_in(text, line, 2, count as u32, wood, used);
         t = push_row(t, p);
         used = put_cells(text, spans::field_of(text, line, 5), cells, used);
         from = end + 1;
@@ -142,7 +155,7 @@ pub fn read_file(text: &[u8], cells: &mut [u8]) -> Asked
     let p = read_pieces(text, second.to + 1, cells);
     let at = p.used;
     let pieces = p.table;
-    let board = record_in(text, second, 1, 0, at);
+    let board = record_in(text, second, 1, 0, 0, at);
     let used = put_cells(text, spans::field_of(text, second, 4), cells, at);
     Asked {
         pieces,

@@ -1,25 +1,24 @@
 -- The outcome of a call for its list or for what lies behind an entry; behind entry k of its list it is document 01's with skip k + 1. Assumes nothing.
-use Prim.Native.Nat.{ℕ, zero, suc, _+_, _≤_, _<_}
+use Prim.Native.Nat.{ℕ, zero, suc, _+_, _<_}
 use mathlib.Core.Bool.{Bool, true, false, cond}
-use mathlib.Core.List.{List, [], _∷_, map, List·Memᴰ, List·Memᴰ·head, List·Memᴰ·tail}
-use mathlib.Core.Path.{_≡_, refl, sym, ap, _∙_, subst}
+use mathlib.Core.List.{List, [], _∷_, List·Memᴰ, List·Memᴰ·head, List·Memᴰ·tail}
+use mathlib.Core.Path.{_≡_, refl, sym, ap, ap₂, _∙_, subst}
 use native.Mathlib.Omega.{arith}
 use lib.Dec.{T, eqb, eqb→eq}
 use lib.ListN.{length, getD, take, drop, length-drop}
-use Rattle.definitions.specs.Lists.{Apart, joined, same}
+use Rattle.definitions.specs.Lists.{Apart, same}
 use Rattle.definitions.specs.Demands.{Stretch, demand3}
-use Rattle.definitions.specs.Emission.{behind}
+use Rattle.definitions.specs.Emission.{behind, onwards}
 use Rattle.definitions.specs.Page.{Page, page}
-use Rattle.definitions.specs.Orders.{listed}
-use Rattle.definitions.specs.Answers.{answer}
-use Rattle.definitions.specs.Placements.{compile}
-use Rattle.definitions.specs.Outcomes.{Outcome, accepted, answersOf, capacity, cleared, outcome, overStart, pageOf, refused}
-use Rattle.definitions.specs.Refusals.{Call, identifyOf, isKnuth, refusal, table, trayOf}
+use Rattle.definitions.specs.Outcomes.{Outcome, accepted, answersOf, capacity, outcome, pageOf, refused, acceptedWith}
+use Rattle.definitions.specs.Refusals.{Call, cellsLie, gridOf, identifyOf, refusal, sidesFit, sidesOf, table, trayOf}
+use Rattle.definitions.specs.Woods.{boardInWood, boardUnread, oneWoodCalls, withWood, withoutWoods}
 use Rattle.definitions.proofs.DemandLaws.{demand3-holds}
 use Rattle.definitions.proofs.EmissionLaws.{same-test}
 use Rattle.definitions.proofs.MeetLaws.{meets-stretch}
 use Rattle.definitions.proofs.ListLaws.{eqb-of, holds, is-false, is-true, same→eq, same-refl}
 use Rattle.definitions.proofs.RefusalLaws.{outcome-accepted, outcome-refused}
+use Rattle.definitions.proofs.WoodLaws.{list-bare, refusal-bare}
 use Rattle.kept.specs.Calls.{acceptedBehind, outcomeBehind, pageFrom}
 
 entry-in : (l : List (List ℕ)) (k : ℕ) → k < length l → List·Memᴰ (getD l k []) l
@@ -59,15 +58,7 @@ outcomeFrom last false l = outcome l
 outcomeFrom last true l = outcomeBehind last l
 
 abbrev pub acceptedFrom : List ℕ → Bool → Call → Outcome
-acceptedFrom last waiting l =
-    record {
-      number = 0;
-      written = pageFrom last waiting l .written;
-      further = pageFrom last waiting l .further;
-      answers = overStart (joined (pageFrom last waiting l .entries)) (l .answers);
-      work = cleared 8192 (l .work);
-      links = cond (isKnuth (l .config .solver)) (cleared 32768 (l .links)) (l .links);
-    }
+acceptedFrom last waiting l = acceptedWith (pageFrom last waiting l) l
 
 pub from-accepted : (last : List ℕ) (waiting : Bool) (l : Call) → refusal l ≡ 0 → outcomeFrom last waiting l ≡ acceptedFrom last waiting l
 unfolding outcomeBehind acceptedBehind accepted pageOf pageFrom
@@ -96,15 +87,7 @@ module _ (l : Call) (ok : refusal l ≡ 0) where
   outcome-behind k h =
       let later : page (behind (entryOf l k) list) 0 (capacity l) ≡ page list (suc k) (capacity l) = ap (λ (m : List (List ℕ)). page m 0 (capacity l)) (behind-drop (entryOf l k) list apart k h refl) ∙ page-later list k (capacity l) in
       from-accepted (entryOf l k) true (skipping 0 l) (still 0)
-      ∙ ap (λ (g : Page).
-      record {
-        number = 0;
-        written = g .written;
-        further = g .further;
-        answers = overStart (joined (g .entries)) (l .answers);
-        work = cleared 8192 (l .work);
-        links = cond (isKnuth (l .config .solver)) (cleared 32768 (l .links)) (l .links);
-      }) later
+      ∙ ap (λ (g : Page). acceptedWith g l) later
       ∙ sym (outcome-accepted (skipping (suc k) l) (still (suc k)))
 
 -- a page from behind entry k, whatever left it, is demand 3's stretch of the one list from entry k + 1 on
@@ -112,3 +95,17 @@ pub meets-behind : (l : Call) → refusal l ≡ 0 → (k : ℕ) → k < length (
     → o ≡ outcomeBehind (entryOf l k) (skipping 0 l) → Stretch (answersOf (trayOf l) (identifyOf (l .config)) (l .config .solver)) (skipping (suc k) l) o
 unfolding answersOf trayOf
 meets-behind l ok k h o e = meets-stretch (skipping (suc k) l) o (e ∙ outcome-behind l ok k h) (still l ok (suc k))
+
+-- a page from behind an entry, too, is that without woods where all pieces are of one wood, and does not read the board's (document 02, A5)
+behind-one-wood : (last : List ℕ) → oneWoodCalls (outcomeBehind last)
+unfolding oneWoodCalls outcomeBehind acceptedBehind pageFrom capacity refused withoutWoods
+behind-one-wood last l w one =
+    sym (ap₂ (λ (g : Page) (n : ℕ). cond (eqb n 0) (acceptedWith g l) (refused n l))
+    (ap (λ (xs : List (List ℕ)). page (onwards last true xs) (l .skip) (capacity l)) (list-bare l w one)) (refusal-bare l w one))
+
+behind-unread : (last : List ℕ) → boardUnread (outcomeBehind last)
+unfolding boardUnread outcomeBehind acceptedBehind pageFrom capacity refused boardInWood withWood refusal table trayOf gridOf sidesOf sidesFit cellsLie
+behind-unread last l w = refl
+
+pub behind-woods : (last : List ℕ) → oneWoodCalls (outcomeBehind last) × boardUnread (outcomeBehind last)
+behind-woods last = (behind-one-wood last, behind-unread last)

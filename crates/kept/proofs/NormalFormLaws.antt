@@ -12,7 +12,7 @@ use lib.Seq.{length-take-le, drop-cons, drop-drop, getD-take, getD-drop, drop-at
 use Rattle.definitions.specs.Lists.{consIf, keep, all, each, howMany, before, from, below, same, less, ascending}
 use Rattle.definitions.specs.Placements.{Placement}
 use Rattle.definitions.specs.Refusals.{identifies}
-use Rattle.definitions.proofs.ListLaws.{and-left, and-right, all-at, all-of, below-of, from-of, from-at, length-below}
+use Rattle.definitions.proofs.ListLaws.{and-left, and-right, all-at, all-of, below-of, from-of, from-at, length-below, all-map}
 use Rattle.definitions.proofs.WellMadeLaws.{nth-mem}
 use Rattle.definitions.proofs.KindLaws.{nth-at}
 use Rattle.rows.specs.declared.Dims.{Dims}
@@ -72,10 +72,6 @@ module _ {A : Type 0} where
   all-same : (p q : A → Bool) (xs : List A) → ((x : A) → List·Memᴰ x xs → p x ≡ q x) → all p xs ≡ all q xs
   all-same p q [] f = refl
   all-same p q (x ∷ xs) f = ap₂ (λ (a b : Bool). a && b) (f x (List·Memᴰ·head refl)) (all-same p q xs (λ y m. f y (List·Memᴰ·tail m)))
-
-all-map : {A B : Type 0} (p : B → Bool) (f : A → B) (xs : List A) → all p (map f xs) ≡ all (λ x. p (f x)) xs
-all-map p f [] = refl
-all-map p f (x ∷ xs) = ap (λ (b : Bool). p (f x) && b) (all-map p f xs)
 
 and-true : (b : Bool) → b && true ≡ b
 and-true true = refl
@@ -242,14 +238,14 @@ module _ (d : Dims) (work images scans kinds pieces : List ℕ) where
     turned-all =
         all-same (isKept rs) (λ m. not (imageSmaller S false rs (to m))) (below (d .turns))
         (λ m k. ap (λ (b : Bool). not (imageSmaller S b rs (to m))) (lt-leb (d .turns) m (let h = from-at 0 (d .turns) k in omega arith)))
-        ∙ sym (all-map (λ f. not (imageSmaller S false rs f)) to (below (d .turns)))
+        ∙ sym (all-map to (λ f. not (imageSmaller S false rs f)) (below (d .turns)))
 
     mirrored-all : all (isKept rs) (from (d .turns) (d .mirrorings)) ≡ all (λ f. not (imageSmaller S true rs f)) (S .mirrored)
     unfolding systemIn imagesIn
     mirrored-all =
         all-same (isKept rs) (λ m. not (imageSmaller S true rs (to m))) (from (d .turns) (d .mirrorings))
         (λ m k. ap (λ (b : Bool). not (imageSmaller S b rs (to m))) (le-leb (d .turns) m (let h = from-at (d .turns) (d .mirrorings) k in omega arith)))
-        ∙ sym (all-map (λ f. not (imageSmaller S true rs f)) to (from (d .turns) (d .mirrorings)))
+        ∙ sym (all-map to (λ f. not (imageSmaller S true rs f)) (from (d .turns) (d .mirrorings)))
 
     both-all : all (isKept rs) (below (d .turns + d .mirrorings)) ≡ all (λ f. not (imageSmaller S false rs f)) (S .turned) && all (λ f. not (imageSmaller S true rs f)) (S .mirrored)
     both-all =

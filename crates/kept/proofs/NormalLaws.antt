@@ -16,7 +16,7 @@ use Rattle.definitions.specs.Packing.{ahead, samePlacement, covering, used, lim
 use Rattle.definitions.specs.Kept.{Identify, kindAfter, cellAfter, moved, image, compared, smaller, symmetries, turnedImages, mirroredImages, images, kept}
 use Rattle.definitions.specs.Kept.Identify.{None, Turned, Mirrored}
 use Rattle.definitions.specs.Refusals.{Call, trayOf, refusal}
-use Rattle.definitions.proofs.ListLaws.{all-at, all-of, any-of, below-at, below-of, member-at, member-of, apart-ascending, decide, is-true, eqb-of}
+use Rattle.definitions.proofs.ListLaws.{all-at, all-of, any-of, below-at, below-of, member-at, member-of, apart-ascending, decide, is-true, eqb-of, all-map, keep-map}
 use Rattle.definitions.proofs.CountLaws.{howMany-length}
 use Rattle.definitions.proofs.GroupLaws.{map-same}
 use Rattle.definitions.proofs.OrderLaws.{each-same-in}
@@ -31,7 +31,7 @@ use Rattle.rows.specs.Systems.{System, cellImages, systemOf, kindBy, cellsBy, m
 use Rattle.rows.specs.Lawful.{Lawful, allowed}
 use Rattle.kept.specs.Normal.{rowOf, ofKind, movedRows, keyOf, imageKey, imageSmaller, mirrorable, normal, InKinds}
 use Rattle.rows.proofs.SystemMapLaws.{takes-to, map-permutes, map-image, kind-is, kind-back}
-use Rattle.kept.proofs.NormalRowLaws.{keep-map, Comparable, comparable, RowNumbers, of-rows, row-in, rows-up, kinds-of, of-kinds, by-kinds, coded, keys-same}
+use Rattle.kept.proofs.NormalRowLaws.{Comparable, comparable, RowNumbers, of-rows, row-in, rows-up, kinds-of, of-kinds, by-kinds, coded, keys-same}
 use Rattle.kept.proofs.NormalImageLaws.{imagesOf, after-back, moved-kind, moved-length, images-kind}
 
 -- ---- any lawful system
@@ -73,10 +73,6 @@ module _ {A : Type 0} where
   some-length : {x : A} (xs : List A) → List·Memᴰ x xs → 0 < length xs
   some-length [] m = absurd (List·Memᴰ·not-nil m)
   some-length (y ∷ ys) m = omega arith
-
-all-map : {A B : Type 0} (p : B → Bool) (f : A → B) (xs : List A) → all p (map f xs) ≡ all (λ x. p (f x)) xs
-all-map p f [] = refl
-all-map p f (x ∷ xs) = ap (λ (b : Bool). p (f x) && b) (all-map p f xs)
 
 module _ (l : Call) (ok : refusal l ≡ 0) where
   abbrev C : Compiled
@@ -347,17 +343,17 @@ module _ (l : Call) (ok : refusal l ≡ 0) where
     turned-same : all allowedImage (turnedImages C P) ≡ all (λ to. not (imageSmaller S false rs to)) (S .turned)
     unfolding turnedImages systemOf
     turned-same =
-        all-map allowedImage (λ m. image C false (act m) P) (symmetries (C .board) turns)
+        all-map (λ m. image C false (act m) P) allowedImage (symmetries (C .board) turns)
         ∙ all-same (λ m. allowedImage (image C false (act m) P)) (λ m. not (imageSmaller S false rs (cellImages C m))) (symmetries (C .board) turns) (λ m k. ap not (turn-same m k))
-        ∙ sym (all-map (λ to. not (imageSmaller S false rs to)) (cellImages C) (symmetries (C .board) turns))
+        ∙ sym (all-map (cellImages C) (λ to. not (imageSmaller S false rs to)) (symmetries (C .board) turns))
 
     mirrored-same : all allowedImage (mirroredImages C P) ≡ not (mirrorable S rs) || all (λ to. not (imageSmaller S true rs to)) (S .mirrored)
     unfolding mirroredImages systemOf
     mirrored-same =
-        all-map allowedImage (λ m. image C true (act m) P) (symmetries (C .board) mirrorings)
+        all-map (λ m. image C true (act m) P) allowedImage (symmetries (C .board) mirrorings)
         ∙ all-same (λ m. allowedImage (image C true (act m) P)) (λ m. not (mirrorable S rs && imageSmaller S true rs (cellImages C m))) (symmetries (C .board) mirrorings) (λ m k. ap not (mirror-same m k))
         ∙ all-unless (mirrorable S rs) (λ m. imageSmaller S true rs (cellImages C m)) (symmetries (C .board) mirrorings)
-        ∙ ap (λ (b : Bool). not (mirrorable S rs) || b) (sym (all-map (λ to. not (imageSmaller S true rs to)) (cellImages C) (symmetries (C .board) mirrorings)))
+        ∙ ap (λ (b : Bool). not (mirrorable S rs) || b) (sym (all-map (cellImages C) (λ to. not (imageSmaller S true rs to)) (symmetries (C .board) mirrorings)))
 
     same-kept : (i : Identify) → normal S i rs ≡ kept C i P
     unfolding normal kept images

@@ -7,7 +7,7 @@ use mathlib.Core.Logic.{_⊎_, inl, inr}
 use native.Mathlib.Omega.{arith}
 use lib.Dec.{T, ltb, eqb, eqb→eq, ltb→lt, lt→ltb, nltb→le}
 use lib.ListN.{length, getD, length-map}
-use Rattle.definitions.specs.Lists.{consIf, all, any, keep, each, before, below, less, ascending, Apart}
+use Rattle.definitions.specs.Lists.{all, any, each, before, below, less, ascending, Apart}
 use Rattle.definitions.specs.Placements.{Placement}
 use Rattle.definitions.specs.Packing.{rank, ahead}
 use Rattle.definitions.proofs.ListLaws.{and-left, and-right, and-both, or-left, or-cases, all-at, all-of, keep-at, keep-of, keep-ascending, each-at, each-of, below-of, from-ascending, ascending-unique, ltb-trans, ltb-irrefl, less-trans, less-irrefl, decide, clash, is-true, is-false, eqb-of}
@@ -39,14 +39,6 @@ module _ {A : Type 0} (d : A) where
           → (cond b 0 (suc (before p xs)) < suc (length xs)) × T (p (getD (x ∷ xs) (cond b 0 (suc (before p xs))) d))
       go true f u r = (omega arith, f tt)
       go false f u r = let y = r u in let h = y .0 in (omega arith, y .1)
-
-pub keep-map : {A B : Type 0} (f : A → B) (p : B → Bool) (xs : List A) → keep p (map f xs) ≡ map f (keep (λ x. p (f x)) xs)
-keep-map f p [] = refl
-keep-map f p (x ∷ xs) = go (p (f x)) (keep-map f p xs)
-  where
-    go : (b : Bool) → keep p (map f xs) ≡ map f (keep (λ z. p (f z)) xs) → consIf b (f x) (keep p (map f xs)) ≡ map f (consIf b x (keep (λ z. p (f z)) xs))
-    go true e = ap (λ (l : List _). f x ∷ l) e
-    go false e = e
 
 pub apart-map : {A B : Type 0} (f : A → B) (xs : List A) → Apart xs → ((x y : A) → List·Memᴰ x xs → List·Memᴰ y xs → f x ≡ f y → x ≡ y) → Apart (map f xs)
 apart-map f [] h i = tt

@@ -14,12 +14,12 @@ use Rattle.definitions.specs.Kinds.{Tray}
 use Rattle.definitions.specs.Placements.{Compiled, compile}
 use Rattle.definitions.specs.Kept.{symmetries}
 use Rattle.definitions.specs.Orders.{start}
-use Rattle.definitions.specs.Refusals.{Call, trayOf, sidesOf, isSide, sidesFit, placementCount, refusal}
+use Rattle.definitions.specs.Refusals.{Call, trayOf, sidesOf, isSide, sidesFit, placementCount, refusal, pieceOf}
 use Rattle.definitions.specs.declared.Record.{Record}
 use Rattle.definitions.proofs.ListLaws.{and-left, and-right, keep-length, length-from, length-below}
 use Rattle.definitions.proofs.RefusalLaws.{passed, fit-volume}
 use Rattle.placements.specs.declared.Table.{Table}
-use Rattle.placements.specs.Tables.{pieceOf, recordsOf, trayIn}
+use Rattle.placements.specs.Tables.{recordsOf, trayIn}
 use Rattle.placements.specs.Counting.{Accepted9}
 use Rattle.placements.proofs.CountingLaws.{lent-passes, board-fits}
 use Rattle.rows.specs.declared.Dims.{Dims}

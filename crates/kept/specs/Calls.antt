@@ -5,10 +5,10 @@ use mathlib.Core.List.{List}
 use lib.Dec.{eqb}
 use mathlib.Core.Path.{_≡_}
 use Rattle.definitions.specs.Lists.{joined}
-use Rattle.definitions.specs.Refusals.{Call, trayOf, identifyOf, isKnuth, refusal}
-use Rattle.definitions.specs.Emission.{behind, onwards}
+use Rattle.definitions.specs.Refusals.{Call, trayOf, identifyOf, refusal}
+use Rattle.definitions.specs.Emission.{onwards}
 use Rattle.definitions.specs.Page.{Page, page}
-use Rattle.definitions.specs.Outcomes.{Outcome, answersOf, capacity, cleared, refused, overStart}
+use Rattle.definitions.specs.Outcomes.{Outcome, answersOf, capacity, refused, overStart, acceptedWith}
 use Rattle.definitions.specs.declared.Record.{Record}
 use Rattle.definitions.specs.declared.SolverKind.{SolverKind}
 use Rattle.placements.specs.declared.Table.{Table}
@@ -39,16 +39,7 @@ pub record PageIs (last : List ℕ) (waiting : Bool) (l : Call) (written : ℕ) 
 
 -- The outcome of a call for what lies behind an entry of its list. proofs/BehindLaws: behind entry k it is document 01's outcome with skip k + 1.
 unfoldable pub acceptedBehind : List ℕ → Call → Outcome
-acceptedBehind last l =
-    let g = pageFrom last true l in
-    record {
-      number = 0;
-      written = g .written;
-      further = g .further;
-      answers = overStart (joined (g .entries)) (l .answers);
-      work = cleared 8192 (l .work);
-      links = cond (isKnuth (l .config .solver)) (cleared 32768 (l .links)) (l .links);
-    }
+acceptedBehind last l = acceptedWith (pageFrom last true l) l
 
 unfoldable pub outcomeBehind : List ℕ → Call → Outcome
 outcomeBehind last l =

@@ -12,7 +12,7 @@ use Rattle.definitions.specs.Placements.{Placement}
 use Rattle.definitions.specs.Kept.{Identify}
 use Rattle.definitions.specs.Emission.{Emitted, emits}
 use Rattle.definitions.specs.Orders.{search, knuthChoices}
-use Rattle.definitions.proofs.ListLaws.{all-of}
+use Rattle.definitions.proofs.ListLaws.{all-of, keep-map}
 use Rattle.definitions.proofs.MapLaws.{map-map-of}
 use Rattle.definitions.proofs.EmissionLaws.{emits-append}
 use Rattle.rows.specs.Systems.{System}
@@ -21,7 +21,6 @@ use Rattle.rows.specs.Lawful.{Lawful}
 use Rattle.kept.specs.Normal.{noRow, rowOf, normal}
 use Rattle.kept.specs.Emission.{emitKept}
 use Rattle.kept.specs.Entries.{numbersOf, entries, putAll}
-use Rattle.kept.proofs.NormalRowLaws.{keep-map}
 use Rattle.kept.proofs.LeafLaws.{packing-emits}
 use Rattle.links.specs.Links.{LawfulTable}
 use Rattle.links.specs.Cover.{pick, tally, here}

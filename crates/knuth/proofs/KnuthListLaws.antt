@@ -12,7 +12,7 @@ use borrow.Author.Tests.{eqb-true, eq-eqb, ne-eqb}
 use Rattle.definitions.specs.Lists.{consIf, all, howMany, keep, each, from, below, member, ascending, isEmpty, sort}
 use Rattle.definitions.specs.Placements.{Placement}
 use Rattle.definitions.specs.Orders.{State, possible, choose, search, knuthChoices, tallies, tallyAhead}
-use Rattle.definitions.proofs.ListLaws.{and-left, and-right, and-both, all-at, all-of, any-at, keep-at, keep-of, keep-keep, keep-ascending, keep-length, below-at, below-of, from-ascending, length-below, member-at, member-of, howMany-any, ascending-unique, ltb-trans, ltb-irrefl, is-true, holds}
+use Rattle.definitions.proofs.ListLaws.{and-left, and-right, and-both, all-at, all-of, any-at, keep-at, keep-of, keep-keep, keep-ascending, keep-length, below-at, below-of, from-ascending, length-below, member-at, member-of, howMany-any, ascending-unique, ltb-trans, ltb-irrefl, is-true, holds, keep-map, each-map}
 use Rattle.definitions.proofs.CountLaws.{howMany-length}
 use Rattle.definitions.proofs.MapLaws.{map-map-of}
 use Rattle.definitions.proofs.OrderLaws.{each-same-in}
@@ -26,7 +26,6 @@ use Rattle.links.specs.Search.{select, spend, better, least, pivot}
 use Rattle.links.specs.Packings.{listFrom, rowsFrom, packings}
 use Rattle.links.specs.Build.{every}
 use Rattle.knuth.specs.Tables.{columns, tableOf, startOf}
-use Rattle.kept.proofs.NormalRowLaws.{keep-map}
 use Rattle.knuth.proofs.TableOfLaws.{RowNode, getD-map-in, getD-from, table-rows, row-later, node-of, in-stock, cell-in, cell-of, row-some, column-once}
 use Rattle.knuth.proofs.KnuthPivotLaws.{Least, fewest-is, knuth-none, knuth-some}
 use Rattle.knuth.proofs.KnuthStateLaws.{Represents, starts, chosen, can-left, can-free, by-eq, both, both-left, both-right}
@@ -35,10 +34,6 @@ use Rattle.knuth.proofs.KnuthStateLaws.{Represents, starts, chosen, can
 map-append : {A B : Type 0} (f : A → B) (xs ys : List A) → map f (xs ++ ys) ≡ map f xs ++ map f ys
 map-append f [] ys = refl
 map-append f (x ∷ xs) ys = ap (λ (l : List _). f x ∷ l) (map-append f xs ys)
-
-each-map : {A B C : Type 0} (f : A → B) (g : B → List C) (xs : List A) → each (map f xs) g ≡ each xs (λ x. g (f x))
-each-map f g [] = refl
-each-map f g (x ∷ xs) = ap (λ (l : List _). g (f x) ++ l) (each-map f g xs)
 
 -- a list of numbers, each put elsewhere in the same order
 map-ascending : (f : ℕ → ℕ) (xs : List ℕ) → T (ascending ltb xs) → ((a b : ℕ) → List·Memᴰ a xs → List·Memᴰ b xs → a < b → f a < f b) → T (ascending ltb (map f xs))

@@ -14,7 +14,7 @@ use Rattle.definitions.specs.Placements.{Placement}
 use Rattle.definitions.specs.Packing.{used}
 use Rattle.definitions.specs.Kept.{Identify}
 use Rattle.definitions.specs.Emission.{Emitted, emits}
-use Rattle.definitions.proofs.ListLaws.{keep-same, is-false, same→eq}
+use Rattle.definitions.proofs.ListLaws.{keep-same, is-false, same→eq, keep-map}
 use Rattle.definitions.proofs.CountLaws.{howMany-length}
 use Rattle.definitions.proofs.EmissionLaws.{emits-unmet}
 use Rattle.rows.specs.Systems.{System}
@@ -24,7 +24,6 @@ use Rattle.rows.specs.Shown.{Shown, showsRow}
 use Rattle.rows.proofs.ShownLaws.{answer-shows}
 use Rattle.kept.specs.Normal.{rowOf, ofKind, normal, sortRows}
 use Rattle.kept.specs.Emission.{emitKept, answerOf}
-use Rattle.kept.proofs.NormalRowLaws.{keep-map}
 use Rattle.kept.proofs.SortingLaws.{sort-at, sort-keep}
 use Rattle.kept.proofs.LeafLaws.{row-in, sort-rows-of}
 use Rattle.links.specs.Links.{Table}

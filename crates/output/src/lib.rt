@@ -49,6 +49,7 @@ pub fn begin() -> Progress
         b: 0,
         c: 0,
         count: 0,
+        wood: 0,
         start: 0,
     };
     let config = Config {

@@ -15,7 +15,7 @@ use lib.Seq.{length-take-le, drop-cons, getD-take}
 use Rattle.definitions.specs.Lists.{all, howMany, keep, consIf, sum, joined, numbered, numberedFrom}
 use Rattle.definitions.specs.Grid.{Sides, Cell, Grid, volume, box, byteAt, filledCells}
 use Rattle.definitions.specs.Scan.{axes, scan, scanNumber}
-use Rattle.definitions.specs.Kinds.{Tray, Kind, kindsOf, variants, smallest, sorted, shapes, copiesOf, partnerOf}
+use Rattle.definitions.specs.Kinds.{Tray, Form, Kind, kindNamed, kindsOf, variants, smallest, sorted, forms, copiesOf}
 use Rattle.definitions.specs.Placements.{origin, lies, fits, Placement, placementsAt, placementsOf, compile}
 use Rattle.definitions.specs.Packing.{limits}
 use Rattle.definitions.specs.Refusals.{Row, gridOf, sidesOf, sidesFit, cellsLie, boardCellCount, placementCount, linkCount, rowsOf, firstThatApplies}
@@ -44,7 +44,7 @@ use Rattle.placements.specs.declared.Verdict.{Verdict}
 use Rattle.placements.specs.declared.Verdict.the-variants.{Refused}
 use Rattle.placements.specs.Tables.{noRecord, listed, recordsOf, trayIn}
 use Rattle.placements.specs.Stages.{verdictNumber, lentRows, gridRows, callRows}
-use Rattle.placements.specs.Merging.{Sound, gridAt, shapeAt, shapesOf, AreKinds, copiesAt}
+use Rattle.placements.specs.Merging.{Sound, gridAt, shapeAt, formAt, formsOf, AreKinds, copiesAt}
 use Rattle.placements.specs.Counting.{fitsIn, placementsIn, OnBoard, Accepted9}
 use Rattle.placements.proofs.RefusalLaws.{cells-end, record-passes}
 
@@ -156,27 +156,27 @@ module _ (t : Tray) where
   abbrev pub placementsBy : Grid → ℕ
   placementsBy g = fitsIn ord (t .board) (variants g)
 
-  abbrev pub linksBy : Grid → ℕ
-  linksBy g = cond (ltb 0 (length (copiesOf (sorted t) g))) (placementsBy g * suc (length (filledCells g))) 0
+  abbrev pub linksBy : Form → ℕ
+  linksBy f = cond (ltb 0 (length (copiesOf (sorted t) f))) (placementsBy (f .grid) * suc (length (filledCells (f .grid)))) 0
 
-  abbrev made : Grid → Kind
-  made g = record { shape = g; partner = partnerOf (shapes (sorted t)) g; copies = copiesOf (sorted t) g }
+  abbrev made : Form → Kind
+  made = kindNamed (sorted t) (forms (sorted t))
 
-  total-kinds : (f : Grid → ℕ) (h : Kind → ℕ) → ((g : Grid) → h (made g) ≡ f g) → total h (kindsOf t) ≡ sum (map f (shapes (sorted t)))
+  total-kinds : (f : Form → ℕ) (h : Kind → ℕ) → ((g : Form) → h (made g) ≡ f g) → total h (kindsOf t) ≡ sum (map f (forms (sorted t)))
   unfolding kindsOf
-  total-kinds f h e = go (shapes (sorted t))
+  total-kinds f h e = go (forms (sorted t))
     where
-      go : (gs : List Grid) → total h (map made gs) ≡ sum (map f gs)
+      go : (gs : List Form) → total h (map made gs) ≡ sum (map f gs)
       go [] = refl
       go (g ∷ gs) = ap₂ (λ (a b : ℕ). a + b) (e g) (go gs)
 
-  pub placements-sum : placementCount (compile t) ≡ sum (map placementsBy (shapes (sorted t)))
+  pub placements-sum : placementCount (compile t) ≡ sum (map (λ f. placementsBy (f .grid)) (forms (sorted t)))
   unfolding placementCount compile
   placements-sum =
       sym (total-one (joined (numbered (kindsOf t) (placementsOf ord bd))))
       ∙ total-joined (λ q. 1) (λ d. placementsBy (d .shape)) (placementsOf ord bd) 0 (kindsOf t)
       (λ n d m. total-one (placementsOf ord bd (n + 0) d) ∙ count-placements ord (t .board) (n + 0) d)
-      ∙ total-kinds placementsBy (λ d. placementsBy (d .shape)) (λ g. refl)
+      ∙ total-kinds (λ f. placementsBy (f .grid)) (λ d. placementsBy (d .shape)) (λ g. refl)
 
   abbrev weight : Placement → ℕ
   weight q = cond (ltb 0 (getD (map (λ d. length (d .copies)) (kindsOf t)) (q .kind) 0)) (suc (length (q .cells))) 0
@@ -194,11 +194,11 @@ module _ (t : Tray) where
       go true = refl
       go false = mul-zero (placementsBy (d .shape))
 
-  kinds-length : length (kindsOf t) ≡ length (shapes (sorted t))
+  kinds-length : length (kindsOf t) ≡ length (forms (sorted t))
   unfolding kindsOf
-  kinds-length = length-map (shapes (sorted t)) made
+  kinds-length = length-map (forms (sorted t)) made
 
-  pub links-sum : linkCount (compile t) ≡ length (scan ord (t .board)) + length (shapes (sorted t)) + sum (map linksBy (shapes (sorted t)))
+  pub links-sum : linkCount (compile t) ≡ length (scan ord (t .board)) + length (forms (sorted t)) + sum (map linksBy (forms (sorted t)))
   unfolding linkCount rowsOf limits compile
   links-sum = ap₂ (λ (a b : ℕ). length bd + a + b) kinds-length (rows ∙ total-kinds linksBy linksOf (λ g. refl))
     where
@@ -349,41 +349,43 @@ module _ (t : Table) (board : Record) (bytes : List ℕ) (l : Lent t board bytes
     unfolding placementsIn shapeAt
     placements-at i h = ap (fitsIn order (gridOf bytes board)) (variants-smallest (gridAt t bytes i) (piece-size i h))
 
-    links-at : (i : ℕ) → i < t .n → linksBy tray (shapeAt t bytes i) ≡ linksAtPiece order (gridOf bytes board) t bytes i
-    unfolding copiesAt sorted shapeAt
+    placements-by : (i : ℕ) → i < t .n → placementsBy tray (formAt t bytes i .grid) ≡ placementsAtPiece order (gridOf bytes board) t bytes i
+    unfolding formAt
+    placements-by i h = placements-at i h
+
+    links-at : (i : ℕ) → i < t .n → linksBy tray (formAt t bytes i) ≡ linksAtPiece order (gridOf bytes board) t bytes i
+    unfolding copiesAt sorted formAt shapeAt
     links-at i h =
         ap₂ {C = ℕ} (λ (a b : ℕ). cond (ltb 0 (copiesAt t bytes i)) (a * b) 0) (placements-at i h)
         (let e = filled-smallest (gridAt t bytes i) in let f = filled-bytes (gridAt t bytes i) (piece-size i h) in omega arith)
 
     module _ (first : List ℕ) (n : ℕ) (are : AreKinds t bytes first n) where
-      sum-kinds : (f : Grid → ℕ) (g : ℕ → ℕ) → ((i : ℕ) → i < t .n → f (shapeAt t bytes i) ≡ g i) → sum (map f (shapes (sorted tray))) ≡ sum (map g (take n first))
-      unfolding shapesOf sorted
+      sum-kinds : (f : Form → ℕ) (g : ℕ → ℕ) → ((i : ℕ) → i < t .n → f (formAt t bytes i) ≡ g i) → sum (map f (forms (sorted tray))) ≡ sum (map g (take n first))
+      unfolding formsOf sorted
       sum-kinds f g e =
-          ap (λ (gs : List Grid). sum (map f gs)) (sym (are .shapesAre))
-          ∙ ap sum (map-map-of f (shapeAt t bytes) (take n first) ∙ map-same (λ i. f (shapeAt t bytes i)) g (take n first)
+          ap (λ (fs : List Form). sum (map f fs)) (sym (are .formsAre))
+          ∙ ap sum (map-map-of f (formAt t bytes) (take n first) ∙ map-same (λ i. f (formAt t bytes i)) g (take n first)
           (λ i m. e i (ltb→lt i (t .n) (all-at (λ (j : ℕ). ltb j (t .n)) (take n first) (are .ordered .pieces) m))))
 
       pub placements-by-pieces : placementCount (compile (trayIn (recordsOf t) board bytes)) ≡ sum (map (placementsAtPiece (axes (gridOf bytes board .sides)) (gridOf bytes board) t bytes) (take n first))
-      placements-by-pieces = placements-sum tray ∙ sum-kinds (placementsBy tray) (placementsAtPiece order (gridOf bytes board) t bytes) placements-at
+      placements-by-pieces = placements-sum tray ∙ sum-kinds (λ f. placementsBy tray (f .grid)) (placementsAtPiece order (gridOf bytes board) t bytes) placements-by
 
       pub links-by-pieces : n ≤ length first → linkCount (compile (trayIn (recordsOf t) board bytes))
           ≡ length (scan (axes (gridOf bytes board .sides)) (gridOf bytes board)) + n + sum (map (linksAtPiece (axes (gridOf bytes board .sides)) (gridOf bytes board) t bytes) (take n first))
-      unfolding shapesOf sorted
+      unfolding formsOf sorted
       links-by-pieces h =
           links-sum tray
           ∙ ap₂ (λ (a b : ℕ). length (scan order (gridOf bytes board)) + a + b)
-          (ap length (sym (are .shapesAre)) ∙ length-map (take n first) (shapeAt t bytes) ∙ length-take-le n first h)
+          (ap length (sym (are .formsAre)) ∙ length-map (take n first) (formAt t bytes) ∙ length-take-le n first h)
           (sum-kinds (linksBy tray) (linksAtPiece order (gridOf bytes board) t bytes) links-at)
 
 -- the kinds of a tray, given by a piece of each: their shapes are the pieces' smallest turned grids, and they are as many
 module _ (t : Table) (board : Record) (bytes first : List ℕ) (n : ℕ) (are : AreKinds t bytes first n) where
   pub kinds-shapes : map (λ d. d .shape) (kindsOf (trayIn (recordsOf t) board bytes)) ≡ map (shapeAt t bytes) (take n first)
-  unfolding kindsOf sorted shapesOf
-  kinds-shapes = map-map-of (λ (d : Kind). d .shape) (made (trayIn (recordsOf t) board bytes)) (shapes (sorted (trayIn (recordsOf t) board bytes))) ∙ same (shapes (sorted (trayIn (recordsOf t) board bytes))) ∙ sym (are .shapesAre)
-    where
-      same : (gs : List Grid) → map (λ g. g) gs ≡ gs
-      same [] = refl
-      same (g ∷ gs) = ap (λ (l : List Grid). g ∷ l) (same gs)
+  unfolding kindsOf sorted formsOf formAt
+  kinds-shapes =
+      map-map-of (λ (d : Kind). d .shape) (made (trayIn (recordsOf t) board bytes)) (forms (sorted (trayIn (recordsOf t) board bytes)))
+      ∙ ap (map (λ (f : Form). f .grid)) (sym (are .formsAre)) ∙ map-map-of (λ (f : Form). f .grid) (formAt t bytes) (take n first)
 
   pub kinds-many : n ≤ length first → length (kindsOf (trayIn (recordsOf t) board bytes)) ≡ n
   kinds-many h =

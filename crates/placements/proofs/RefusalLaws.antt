@@ -14,14 +14,14 @@ use lib.ListN.{length, getD, take, drop, length-drop, length-map, length-replica
 use lib.Seq.{length-take-le, drop-cons, getD-take}
 use Rattle.definitions.specs.Lists.{all, any, howMany, sum}
 use Rattle.definitions.specs.Grid.{Sides, Grid, volume}
-use Rattle.definitions.specs.Refusals.{sidesOf, gridOf, isSide, sidesFit, cellsLie, areBits, someFilled, isTight, copyCount, boardCellCount, row}
+use Rattle.definitions.specs.Refusals.{sidesOf, gridOf, isSide, sidesFit, cellsLie, areBits, someFilled, isTight, copyCount, boardCellCount, row, pieceOf}
 use Rattle.definitions.specs.declared.Record.{Record}
 use Rattle.definitions.proofs.ListLaws.{and-left, and-right, is-true, is-false, holds, any-at, howMany-any, howMany-pos}
 use Rattle.definitions.proofs.MapLaws.{map-map-of}
 use Rattle.shape.specs.Coords.{asSides, Fit}
 use Rattle.shape.specs.Grids.{asGrid, Whole}
 use Rattle.shape.specs.declared.Coord.{Coord}
-use Rattle.placements.specs.Tables.{noRecord, listed, recordsOf, pieceOf}
+use Rattle.placements.specs.Tables.{noRecord, listed, recordsOf}
 use Rattle.placements.specs.Stages.{gridRows}
 use Rattle.placements.specs.declared.Table.{Table}
 use Rattle.placements.proofs.Table as B

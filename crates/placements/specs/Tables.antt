@@ -1,18 +1,17 @@
 -- The records of a table, and the tray that they and a board lend.
-use Prim.Native.Nat.{ℕ, _≤_}
+use Prim.Native.Nat.{ℕ}
 use mathlib.Core.Bool.{Bool, true, false}
-use mathlib.Core.List.{List, [], _∷_, map}
+use mathlib.Core.List.{List, map}
 use lib.Dec.{leb}
-use lib.ListN.{length, getD, take, replicate}
-use Rattle.definitions.specs.Grid.{Grid}
-use Rattle.definitions.specs.Kinds.{Piece, Tray}
-use Rattle.definitions.specs.Refusals.{gridOf}
+use lib.ListN.{take, replicate}
+use Rattle.definitions.specs.Kinds.{Tray}
+use Rattle.definitions.specs.Refusals.{gridOf, pieceOf}
 use Rattle.definitions.specs.declared.Record.{Record}
 use Rattle.placements.specs.declared.Table.{Table}
 
 -- the record of zeros, which stands for what lies past the end of a list
 abbrev pub noRecord : Record
-noRecord = record { a = 0; b = 0; c = 0; count = 0; start = 0 }
+noRecord = record { a = 0; b = 0; c = 0; count = 0; wood = 0; start = 0 }
 
 -- the records that a table stands for: of at most 16 all, and of more as many, of which nothing else is said
 abbrev pub listed : Bool → Table → List Record
@@ -21,9 +20,6 @@ listed false t = replicate (t .n) noRecord
 
 unfoldable pub recordsOf : Table → List Record
 recordsOf t = listed (leb (t .n) 16) t
-
-abbrev pub pieceOf : List ℕ → Record → Piece
-pieceOf bytes r = record { grid = gridOf bytes r; count = r .count }
 
 abbrev pub trayIn : List Record → Record → List ℕ → Tray
 trayIn rs board bytes = record { board = gridOf bytes board; pieces = map (pieceOf bytes) rs }

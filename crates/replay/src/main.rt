@@ -86,15 +86,18 @@ fn entry(text: &[u8], i: usize) -> Lent {
     let b = number(text, a.next);
     let c = number(text, b.next);
     let count = number(text, c.next);
-    let start = number(text, count.next);
+    let wood = number(text, count.next);
+    let start = number(text, wood.next);
     let n = count.value;
     let copies = if n < 4294967296 { n as u32 } else { 4294967295 };
+    let w = wood.value;
     Lent {
         record: Record {
             a: a.value,
             b: b.value,
             c: c.value,
             count: copies,
+            wood: if w < 256 { w as u8 } else { 255 },
             start: start.value,
         },
         next: start.next,
@@ -107,6 +110,7 @@ fn nothing() -> Record {
         b: 0,
         c: 0,
         count: 0,
+        wood: 0,
         start: 0,
     }
 }

@@ -1,5 +1,5 @@
--- The answer that a row system gives of a packing is document 01's: a kind's copies by its pieces' kind numbers are those by their shapes, since two pieces
--- have one kind number where their smallest turned grids are the same. Assumes nothing.
+-- The answer that a row system gives of a packing is document 01's: a kind's copies by its pieces' kind numbers are those by their forms, since two pieces
+-- have one kind number where their forms are the same. Assumes nothing.
 use Prim.Native.Nat.{ℕ, suc, _+_, _<_}
 use mathlib.Core.Bool.{Bool, true, false}
 use mathlib.Core.List.{List, [], _∷_, _++_, map}
@@ -8,33 +8,27 @@ use native.Mathlib.Omega.{arith}
 use lib.Dec.{T, eqb, eqb→eq}
 use lib.ListN.{length, getD, length-map}
 use Rattle.definitions.specs.Lists.{consIf, keep, joined, numberedFrom, from, below, before, each, ascending}
-use Rattle.definitions.specs.Grid.{Grid, box, sameGrid, gridAhead}
+use Rattle.definitions.specs.Grid.{box}
 use Rattle.definitions.specs.Scan.{scanNumber}
-use Rattle.definitions.specs.Kinds.{Tray, Piece, Sorted, Copy, Kind, smallest, sorted, shapes, copiesOf, partnerOf, kindsOf}
+use Rattle.definitions.specs.Kinds.{Tray, Piece, Form, pieceForm, sameForm, formAhead, Sorted, sortPiece, Copy, Kind, sorted, forms, copiesOf, kindNamed, kindsOf}
 use Rattle.definitions.specs.Placements.{Placement, compile}
 use Rattle.definitions.specs.Packing.{Packing, limits}
 use Rattle.definitions.specs.Answers.{Taken, takes, taken, copyOn, answer}
 use Rattle.definitions.specs.Refusals.{Call, trayOf, refusal}
-use Rattle.definitions.proofs.ListLaws.{sort-ascending, eqb-of}
+use Rattle.definitions.proofs.ListLaws.{sort-ascending, eqb-of, numbered-map}
 use Rattle.definitions.proofs.MapLaws.{map-map-of}
-use Rattle.definitions.proofs.GroupLaws.{sameGrid→eq}
-use Rattle.definitions.proofs.CellLaws.{grid-trans}
 use Rattle.definitions.proofs.WellMadeLaws.{Nth, nth-getD, getD-nth}
-use Rattle.definitions.proofs.PartnerLaws.{before-holds, before-grid}
+use Rattle.definitions.proofs.PartnerLaws.{sameForm→eq, form-trans, before-holds, before-form}
 use Rattle.placements.proofs.FittingLaws.{both-ways}
 use Rattle.rows.specs.Systems.{Owned, owned, systemOf}
 use Rattle.rows.specs.Answering.{copiesIf, copiesBy, takenBy, answersOver, answerBy}
 
 -- ---- lists
-numbered-map : {A B : Type 0} (f : ℕ → A → B) (g : ℕ → B) (i : ℕ) (xs : List A) → ((n : ℕ) (x : A) → Nth xs n x → f (n + i) x ≡ g (n + i)) → numberedFrom i xs f ≡ map g (from i (length xs))
-numbered-map f g i [] h = refl
-numbered-map {A} {B} f g i (x ∷ xs) h =
+numbered-by : {A B : Type 0} (f : ℕ → A → B) (g : ℕ → B) (i : ℕ) (xs : List A) → ((n : ℕ) (x : A) → Nth xs n x → f (n + i) x ≡ g (n + i)) → numberedFrom i xs f ≡ map g (from i (length xs))
+numbered-by f g i [] h = refl
+numbered-by {A} {B} f g i (x ∷ xs) h =
     ap₂ (λ (y : B) (l : List B). y ∷ l) (ap (λ (k : ℕ). f k x) {x = i} {y = 0 + i} (omega arith) ∙ h 0 x refl ∙ ap g {x = 0 + i} {y = i} (omega arith))
-    (numbered-map f g (suc i) xs (λ n z m. ap (λ (k : ℕ). f k z) {x = n + suc i} {y = suc n + i} (omega arith) ∙ h (suc n) z m ∙ ap g {x = suc n + i} {y = n + suc i} (omega arith)))
-
-numbered-of-map : {A B C : Type 0} (m : A → B) (f : ℕ → B → C) (i : ℕ) (xs : List A) → numberedFrom i (map m xs) f ≡ numberedFrom i xs (λ k x. f k (m x))
-numbered-of-map m f i [] = refl
-numbered-of-map {C = C} m f i (x ∷ xs) = ap (λ (l : List C). f i (m x) ∷ l) (numbered-of-map m f (suc i) xs)
+    (numbered-by f g (suc i) xs (λ n z m. ap (λ (k : ℕ). f k z) {x = n + suc i} {y = suc n + i} (omega arith) ∙ h (suc n) z m ∙ ap g {x = suc n + i} {y = n + suc i} (omega arith)))
 
 pub each-of-map : {A B C : Type 0} (m : A → B) (f : B → List C) (xs : List A) → each (map m xs) f ≡ each xs (λ x. f (m x))
 each-of-map m f [] = refl
@@ -42,42 +36,39 @@ each-of-map {C = C} m f (x ∷ xs) = ap (λ (l : List C). f (m x) ++ l) (each-of
 
 -- ---- a tray's copies
 module _ (t : Tray) where
-  abbrev shown : List Grid
-  shown = shapes (sorted t)
+  abbrev shown : List Form
+  shown = forms (sorted t)
 
-  up : T (ascending gridAhead (shapes (sorted t)))
-  unfolding shapes
-  up = sort-ascending gridAhead grid-trans (map (λ q. q .shape) (sorted t))
+  up : T (ascending formAhead (forms (sorted t)))
+  unfolding forms
+  up = sort-ascending formAhead form-trans (map (λ q. q .form) (sorted t))
 
-  -- a shape has the number k where it is the k-th
-  same-number : (k : ℕ) (g : Grid) → Nth (shapes (sorted t)) k g → (s : Grid) → eqb (before (sameGrid s) (shapes (sorted t))) k ≡ sameGrid s g
+  -- a form has the number k where it is the k-th
+  same-number : (k : ℕ) (g : Form) → Nth (forms (sorted t)) k g → (s : Form) → eqb (before (sameForm s) (forms (sorted t))) k ≡ sameForm s g
   same-number k g m s =
-      both-ways (eqb (before (sameGrid s) shown) k) (sameGrid s g)
-      (λ e. before-holds (sameGrid s) shown g (subst (λ (n : ℕ). Nth shown n g) (sym (eqb→eq (before (sameGrid s) shown) k e)) m))
-      (λ e. eqb-of (ap (λ (h : Grid). before (sameGrid h) shown) (sameGrid→eq s g e) ∙ before-grid shown up k g m))
+      both-ways (eqb (before (sameForm s) shown) k) (sameForm s g)
+      (λ e. before-holds (sameForm s) shown g (subst (λ (n : ℕ). Nth shown n g) (sym (eqb→eq (before (sameForm s) shown) k e)) m))
+      (λ e. eqb-of (ap (λ (h : Form). before (sameForm h) shown) (sameForm→eq s g e) ∙ before-form shown up k g m))
 
   abbrev own : Piece → Owned
-  own q = record { kind = before (sameGrid (smallest (q .grid))) (shapes (sorted t)); count = q .count }
-
-  abbrev sortedAs : ℕ → Piece → Sorted
-  sortedAs i q = record { piece = i; count = q .count; shape = smallest (q .grid) }
+  own q = record { kind = before (sameForm (pieceForm q)) (forms (sorted t)); count = q .count }
 
   abbrev copiesAs : Sorted → List Copy
   copiesAs q = map (λ n. record { piece = q .piece; copy = n }) (below (q .count))
 
-  module _ (k : ℕ) (g : Grid) (m : Nth (shapes (sorted t)) k g) where
-    by-pieces : (i : ℕ) (ps : List Piece) → joined (numberedFrom i (map own ps) (λ j q. copiesIf (eqb (q .kind) k) j (q .count))) ≡ each (keep (λ q. sameGrid (q .shape) g) (numberedFrom i ps sortedAs)) copiesAs
+  module _ (k : ℕ) (g : Form) (m : Nth (forms (sorted t)) k g) where
+    by-pieces : (i : ℕ) (ps : List Piece) → joined (numberedFrom i (map own ps) (λ j q. copiesIf (eqb (q .kind) k) j (q .count))) ≡ each (keep (λ q. sameForm (q .form) g) (numberedFrom i ps sortPiece)) copiesAs
     by-pieces i [] = refl
-    by-pieces i (p ∷ ps) = go (eqb (before (sameGrid (smallest (p .grid))) shown) k) (sameGrid (smallest (p .grid)) g) (same-number k g m (smallest (p .grid))) (by-pieces (suc i) ps)
+    by-pieces i (p ∷ ps) = go (eqb (before (sameForm (pieceForm p)) shown) k) (sameForm (pieceForm p) g) (same-number k g m (pieceForm p)) (by-pieces (suc i) ps)
       where
         left : List Copy
         left = joined (numberedFrom (suc i) (map own ps) (λ j q. copiesIf (eqb (q .kind) k) j (q .count)))
 
         right : List Sorted
-        right = keep (λ q. sameGrid (q .shape) g) (numberedFrom (suc i) ps sortedAs)
+        right = keep (λ q. sameForm (q .form) g) (numberedFrom (suc i) ps sortPiece)
 
-        go : (a b : Bool) → a ≡ b → left ≡ each right copiesAs → copiesIf a i (p .count) ++ left ≡ each (consIf b (sortedAs i p) right) copiesAs
-        go true true e r = ap (λ (l : List Copy). copiesAs (sortedAs i p) ++ l) r
+        go : (a b : Bool) → a ≡ b → left ≡ each right copiesAs → copiesIf a i (p .count) ++ left ≡ each (consIf b (sortPiece i p) right) copiesAs
+        go true true e r = ap (λ (l : List Copy). copiesAs (sortPiece i p) ++ l) r
         go true false e r = cc
         go false true e r = cc
         go false false e r = r
@@ -87,8 +78,8 @@ module _ (t : Tray) where
     copies-are = by-pieces 0 (t .pieces)
 
   -- the copies that placements take
-  abbrev made : Grid → Kind
-  made g = record { shape = g; partner = partnerOf (shapes (sorted t)) g; copies = copiesOf (sorted t) g }
+  abbrev made : Form → Kind
+  made = kindNamed (sorted t) (forms (sorted t))
 
   pub taken-same : (P : List Placement) → takenBy (owned t) (length (limits (compile t))) P ≡ taken (compile t) P
   unfolding takenBy taken compile limits kindsOf
@@ -97,8 +88,8 @@ module _ (t : Tray) where
       let size : length (map (λ (d : Kind). length (d .copies)) (map made shown)) ≡ length shown = length-map (map made shown) (λ (d : Kind). length (d .copies)) ∙ length-map shown made in
       ap joined
       (ap (λ (n : ℕ). map (λ k. take k (copiesBy (owned t) k)) (below n)) size
-      ∙ sym (numbered-of-map made (λ k d. take k (d .copies)) 0 shown
-      ∙ numbered-map (λ k g. take k (copiesOf (sorted t) g)) (λ k. take k (copiesBy (owned t) k)) 0 shown
+      ∙ sym (numbered-map made (λ k d. take k (d .copies)) 0 shown
+      ∙ numbered-by (λ k g. take k (copiesOf (sorted t) g)) (λ k. take k (copiesBy (owned t) k)) 0 shown
       (λ n g m. ap (take (n + 0)) (sym (copies-are (n + 0) g (subst (λ (k : ℕ). Nth shown k g) {x = n} {y = n + 0} (omega arith) m))))))
 
   pub same-answer : (P : List Placement) → answerBy (systemOf t) P ≡ answer (compile t) P
@@ -112,7 +103,7 @@ module _ (t : Tray) where
   copies-many k h =
       let r = getD-nth shown k (let e = length-map shown made in omega arith) in
       ap length (copies-are k (r .0) (r .1))
-      ∙ sym (ap (λ (l : List ℕ). getD l k 0) (map-map-of (λ (d : Kind). length (d .copies)) made shown) ∙ nth-getD (λ (g : Grid). length (copiesOf (sorted t) g)) 0 shown k (r .1))
+      ∙ sym (ap (λ (l : List ℕ). getD l k 0) (map-map-of (λ (d : Kind). length (d .copies)) made shown) ∙ nth-getD (λ (g : Form). length (copiesOf (sorted t) g)) 0 shown k (r .1))
 
 pub answer-same : (l : Call) → refusal l ≡ 0 → (P : List Placement) → Packing (compile (trayOf l)) P → answerBy (systemOf (trayOf l)) P ≡ answer (compile (trayOf l)) P
 answer-same l ok P packing = same-answer (trayOf l) P

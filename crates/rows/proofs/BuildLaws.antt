@@ -14,7 +14,7 @@ use Rattle.definitions.specs.Kinds.{Kind, kindsOf, variants}
 use Rattle.definitions.specs.Placements.{Placement, placementsAt, placementsOf, compile}
 use Rattle.definitions.specs.Refusals.{gridOf, sidesOf, placementCount}
 use Rattle.definitions.specs.declared.Record.{Record}
-use Rattle.definitions.proofs.ListLaws.{all-at}
+use Rattle.definitions.proofs.ListLaws.{all-at, numbered-map}
 use Rattle.placements.specs.declared.Table.{Table}
 use Rattle.placements.specs.Tables.{noRecord, recordsOf, trayIn}
 use Rattle.placements.specs.Merging.{gridAt, shapeAt, AreKinds}
@@ -23,11 +23,6 @@ use Rattle.placements.proofs.MergingLaws.{record-fits}
 use Rattle.placements.proofs.CountingLaws.{Lent, sound, kinds-shapes, variants-smallest}
 
 -- ---- lists with their numbers
-module _ {A B C : Type 0} (f : A → B) (G : ℕ → B → C) where
-  numbered-map : (i : ℕ) (xs : List A) → numberedFrom i (map f xs) G ≡ numberedFrom i xs (λ k x. G k (f x))
-  numbered-map i [] = refl
-  numbered-map i (x ∷ xs) = ap (λ (l : List C). G i (f x) ∷ l) (numbered-map (suc i) xs)
-
 numbered-same : {A B : Type 0} (F G : ℕ → A → B) (i : ℕ) (xs : List A) → ((k : ℕ) (x : A) → List·Memᴰ x xs → F k x ≡ G k x) → numberedFrom i xs F ≡ numberedFrom i xs G
 numbered-same F G i [] h = refl
 numbered-same {B = B} F G i (x ∷ xs) h =

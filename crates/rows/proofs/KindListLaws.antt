@@ -8,25 +8,25 @@ use lib.Dec.{ltb, ltb→lt}
 use lib.ListN.{length, getD, take, drop, set, length-map, length-drop, List·getD-map}
 use lib.Seq.{paste, length-take-le, getD-take}
 use Rattle.definitions.specs.Lists.{before, below, sum}
-use Rattle.definitions.specs.Grid.{Grid, volume, sameGrid}
+use Rattle.definitions.specs.Grid.{Grid, volume}
 use Rattle.definitions.specs.Maps.{Map, mapGrid, mapOf, mirror, product, identity, maps, turns, mirrorings, transform, permutations, parity, axisAt, flipAt}
-use Rattle.definitions.specs.Kinds.{Piece, Tray, Kind, kindsOf, smallest, sorted, shapes, copiesOf, partnerOf}
+use Rattle.definitions.specs.Kinds.{Piece, Tray, Form, pieceForm, sameForm, Kind, kindNamed, kindsOf, smallest, sorted, forms, mirroredForm, partnerOf}
 use Rattle.definitions.specs.Placements.{compile}
 use Rattle.definitions.specs.Packing.{limits}
-use Rattle.definitions.specs.Refusals.{gridOf, sidesOf, copyCount}
+use Rattle.definitions.specs.Refusals.{gridOf, sidesOf, copyCount, pieceOf}
 use Rattle.definitions.specs.declared.Record.{Record}
 use Rattle.definitions.proofs.ListLaws.{all-at, length-below}
 use Rattle.definitions.proofs.MapLaws.{map-map-of}
 use Rattle.definitions.proofs.GroupLaws.{identity-grid, map-same}
 use Rattle.definitions.proofs.ActLaws.{product-on}
 use Rattle.definitions.proofs.MoveLaws.{mirror-in, mapped-whole}
-use Rattle.definitions.proofs.PartnerLaws.{mirror-twice}
+use Rattle.definitions.proofs.PartnerLaws.{mirror-twice, form-path}
 use Rattle.placements.specs.declared.Table.{Table}
-use Rattle.placements.specs.Tables.{noRecord, recordsOf, pieceOf, trayIn}
-use Rattle.placements.specs.Merging.{Sound, gridAt, shapeAt, shapesOf, AreKinds, copiesAt}
+use Rattle.placements.specs.Tables.{noRecord, recordsOf, trayIn}
+use Rattle.placements.specs.Merging.{Sound, gridAt, shapeAt, woodAt, formAt, movedForm, formsOf, AreKinds, copiesAt}
 use Rattle.placements.specs.Counting.{Accepted9}
 use Rattle.placements.proofs.RefusalLaws.{cells-end, records-few, records-count}
-use Rattle.placements.proofs.MergingLaws.{record-fits, unmoved, shapes-length, piece-at, counted, copies-all}
+use Rattle.placements.proofs.MergingLaws.{record-fits, unmoved-form, formIn, forms-length, piece-at, counted, copies-all}
 use Rattle.placements.proofs.CountingLaws.{lent-passes, sound, kinds-many}
 use Rattle.rows.specs.Systems.{Owned, KindsIn, owned, ownedIn}
 use Rattle.rows.proofs.PairLaws.{number-at, map-below, pairs, first-stored, second-stored, front-next}
@@ -38,10 +38,10 @@ few-copies t board bytes ok = lent-passes t board bytes ok .passed .fewCopies
 abbrev counts : List ℕ → List Record → ℕ
 counts bytes rs = sum (map (λ q. q .count) (map (pieceOf bytes) rs))
 
-counted-few : (bytes : List ℕ) (g : Grid) (rs : List Record) → counted bytes g rs ≤ counts bytes rs
+counted-few : (bytes : List ℕ) (g : Form) (rs : List Record) → counted bytes g rs ≤ counts bytes rs
 unfolding counted
 counted-few bytes g [] = omega arith
-counted-few bytes g (r ∷ rs) = go (sameGrid (smallest (gridOf bytes r)) g) (counted-few bytes g rs)
+counted-few bytes g (r ∷ rs) = go (sameForm (formIn bytes r) g) (counted-few bytes g rs)
   where
     go : (b : Bool) → counted bytes g rs ≤ counts bytes rs → cond b (r .count) 0 + counted bytes g rs ≤ r .count + counts bytes rs
     go true h = omega arith
@@ -76,10 +76,10 @@ smallest-mirrored g e =
 
 -- ---- what is written: of the kind of piece i its copies and its partner, of piece i its kind and its count
 abbrev pub partnerAt : Table → List ℕ → List ℕ → ℕ → ℕ → ℕ
-partnerAt t bytes first n i = before (sameGrid (smallest (mapGrid (mapOf 26) (gridAt t bytes i)))) (shapesOf t bytes (take n first))
+partnerAt t bytes first n i = before (sameForm (movedForm (mapOf 26) t bytes i)) (formsOf t bytes (take n first))
 
 abbrev pub kindAt : Table → List ℕ → List ℕ → ℕ → ℕ → ℕ
-kindAt t bytes first n i = before (sameGrid (shapeAt t bytes i)) (shapesOf t bytes (take n first))
+kindAt t bytes first n i = before (sameForm (formAt t bytes i)) (formsOf t bytes (take n first))
 
 abbrev pub countAt : Table → ℕ → ℕ
 countAt t i = getD (t .rows) i noRecord .count
@@ -101,7 +101,7 @@ module _ (t : Table) (board : Record) (bytes first : List ℕ) (n : ℕ) (long :
   -- they fit a byte
   pub copies-fit : (i : ℕ) → copiesAt t bytes i ≤ 128
   unfolding copyCount
-  copies-fit i = let a = copies-all t bytes i in let b = counted-few bytes (shapeAt t bytes i) (recordsOf t) in let d = few-copies t board bytes ok in omega arith
+  copies-fit i = let a = copies-all t bytes i in let b = counted-few bytes (formAt t bytes i) (recordsOf t) in let d = few-copies t board bytes ok in omega arith
 
   record-is : (i : ℕ) → i < t .n → getD (recordsOf t) i noRecord ≡ getD (t .rows) i noRecord
   record-is i l = rw (records-few t (lent-sound .few)) (getD-take (t .n) (t .rows) i noRecord l)
@@ -114,10 +114,10 @@ module _ (t : Table) (board : Record) (bytes first : List ℕ) (n : ℕ) (long :
       let e : getD (recordsOf t) i noRecord .count ≡ countAt t i = ap (λ (r : Record). r .count) (record-is i l) in
       omega arith
 
-  pub number-fits : (g : Grid) → before (sameGrid g) (shapesOf t bytes (take n first)) ≤ 16
+  pub number-fits : (g : Form) → before (sameForm g) (formsOf t bytes (take n first)) ≤ 16
   number-fits g =
-      let a = before-few (sameGrid g) (shapesOf t bytes (take n first)) in
-      let b = shapes-length t bytes first n h (are .ordered) in
+      let a = before-few (sameForm g) (formsOf t bytes (take n first)) in
+      let b = forms-length t bytes first n h (are .ordered) in
       let d = are .few in
       let e = lent-sound .few in
       omega arith
@@ -141,26 +141,26 @@ module _ (t : Table) (board : Record) (bytes first : List ℕ) (n : ℕ) (long :
   abbrev tray : Tray
   tray = trayIn (recordsOf t) board bytes
 
-  shapes-are : shapes (sorted tray) ≡ map (shapeAt t bytes) xs
-  unfolding sorted shapesOf
-  shapes-are = sym (are .shapesAre)
+  forms-are : forms (sorted tray) ≡ map (formAt t bytes) xs
+  unfolding sorted formsOf
+  forms-are = sym (are .formsAre)
 
   -- what a function makes of the kinds, by a piece of each
   by-pieces : {B : Type 0} (f : Kind → B) (g : ℕ → B)
-      → ((i : ℕ) → i < t .n → f (record { shape = shapeAt t bytes i; partner = partnerOf (shapes (sorted tray)) (shapeAt t bytes i); copies = copiesOf (sorted tray) (shapeAt t bytes i) }) ≡ g i)
+      → ((i : ℕ) → i < t .n → f (kindNamed (sorted tray) (forms (sorted tray)) (formAt t bytes i)) ≡ g i)
       → map f (kindsOf tray) ≡ map g xs
   unfolding kindsOf
   by-pieces f g e =
       let qs = sorted tray in
-      let make : Grid → Kind = λ s. record { shape = s; partner = partnerOf (shapes qs) s; copies = copiesOf qs s } in
-      map-map-of f make (shapes qs) ∙ ap (map (λ (s : Grid). f (make s))) shapes-are ∙ map-map-of (λ (s : Grid). f (make s)) (shapeAt t bytes) xs
-      ∙ map-same (λ i. f (make (shapeAt t bytes i))) g xs (λ i m. e i (ltb→lt i (t .n) (all-at (λ (j : ℕ). ltb j (t .n)) xs (are .ordered .pieces) m)))
+      let make : Form → Kind = kindNamed qs (forms qs) in
+      map-map-of f make (forms qs) ∙ ap (map (λ (s : Form). f (make s))) forms-are ∙ map-map-of (λ (s : Form). f (make s)) (formAt t bytes) xs
+      ∙ map-same (λ i. f (make (formAt t bytes i))) g xs (λ i m. e i (ltb→lt i (t .n) (all-at (λ (j : ℕ). ltb j (t .n)) xs (are .ordered .pieces) m)))
 
-  partner-is : (i : ℕ) → i < t .n → partnerOf (shapes (sorted tray)) (shapeAt t bytes i) ≡ partnerAt t bytes first n i
-  unfolding partnerOf shapeAt sorted
+  partner-is : (i : ℕ) → i < t .n → partnerOf (forms (sorted tray)) (formAt t bytes i) ≡ partnerAt t bytes first n i
+  unfolding partnerOf mirroredForm movedForm formAt shapeAt sorted
   partner-is i l =
-      ap₂ (λ (g : Grid) (gs : List Grid). before (sameGrid g) gs)
-      (smallest-mirrored (gridAt t bytes i) (whole i l) ∙ ap (λ (m : Map). smallest (mapGrid m (gridAt t bytes i))) (sym is-mirror)) (sym (are .shapesAre))
+      ap₂ (λ (f : Form) (fs : List Form). before (sameForm f) fs)
+      (form-path (smallest-mirrored (gridAt t bytes i) (whole i l) ∙ ap (λ (m : Map). smallest (mapGrid m (gridAt t bytes i))) (sym is-mirror)) refl) (sym (are .formsAre))
 
   copies-are : map (λ (d : Kind). length (d .copies)) (kindsOf tray) ≡ map (copiesAt t bytes) xs
   unfolding copiesAt sorted
@@ -193,21 +193,21 @@ module _ (t : Table) (board : Record) (bytes first : List ℕ) (n : ℕ) (long :
   is = below (t .n)
 
   pub piece-next : (old : List ℕ) → 2 * t .n ≤ length old → (i : ℕ) → i < t .n → (new : List ℕ) → new ≡ paste old 0 (pairs (kindAt t bytes first n) (countAt t) (below (t .n))) (2 * i)
-      → (a b : ℕ) → a ≡ before (sameGrid (smallest (mapGrid (mapOf 0) (gridAt t bytes i)))) (shapesOf t bytes (take n first)) → b ≡ countAt t i
+      → (a b : ℕ) → a ≡ before (sameForm (movedForm (mapOf 0) t bytes i)) (formsOf t bytes (take n first)) → b ≡ countAt t i
       → set (set new (2 * i) a) (2 * i + 1) b ≡ paste old 0 (pairs (kindAt t bytes first n) (countAt t) (below (t .n))) (2 * (i + 1))
   piece-next old fits i l new e a b p q =
       let s = length-below (t .n) in
       let x : i ≡ getD is i 0 = sym (number-at (t .n) i l) in
       front-next (kindAt t bytes first n) (countAt t) old is 0 (omega arith) i (omega arith) new e a b
-      (p ∙ ap (λ (g : Grid). before (sameGrid g) (shapesOf t bytes (take n first))) (unmoved t bytes lent-sound long i l) ∙ ap (kindAt t bytes first n) x) (q ∙ ap (countAt t) x)
+      (p ∙ ap (λ (g : Form). before (sameForm g) (formsOf t bytes (take n first))) (unmoved-form t bytes lent-sound long i l) ∙ ap (kindAt t bytes first n) x) (q ∙ ap (countAt t) x)
 
-  shapes-here : shapesOf t bytes (take n first) ≡ shapes (sorted (trayIn (recordsOf t) board bytes))
+  forms-here : formsOf t bytes (take n first) ≡ forms (sorted (trayIn (recordsOf t) board bytes))
   unfolding sorted
-  shapes-here = are .shapesAre
+  forms-here = are .formsAre
 
-  shape-here : (i : ℕ) → smallest (gridOf bytes (getD (t .rows) i noRecord)) ≡ shapeAt t bytes i
-  unfolding shapeAt gridAt
-  shape-here i = refl
+  form-here : (i : ℕ) → formIn bytes (getD (t .rows) i noRecord) ≡ formAt t bytes i
+  unfolding formAt shapeAt woodAt gridAt
+  form-here i = refl
 
   pub pieces-end : (old : List ℕ) → 2 * t .n ≤ length old → (new : List ℕ) → new ≡ paste old 0 (pairs (kindAt t bytes first n) (countAt t) (below (t .n))) (2 * t .n)
       → ownedIn new (t .n) ≡ owned (trayIn (recordsOf t) board bytes)
@@ -217,27 +217,27 @@ module _ (t : Table) (board : Record) (bytes first : List ℕ) (n : ℕ) (long :
       (length-map (map (pieceOf bytes) (recordsOf t)) own ∙ length-map (recordsOf t) (pieceOf bytes) ∙ records-count t long)
       (λ i l. ap₂ (λ (k m : ℕ). record { kind = k; count = m }) (kind-here i l) (count-here i l) ∙ sym (listed i l))
     where
-      gs : List Grid
-      gs = shapes (sorted (trayIn (recordsOf t) board bytes))
+      gs : List Form
+      gs = forms (sorted (trayIn (recordsOf t) board bytes))
 
       own : Piece → Owned
-      own q = record { kind = before (sameGrid (smallest (q .grid))) gs; count = q .count }
+      own q = record { kind = before (sameForm (pieceForm q)) gs; count = q .count }
 
       at : new ≡ paste old 0 (pairs (kindAt t bytes first n) (countAt t) is) (2 * length is)
       at = e ∙ ap (λ (k : ℕ). paste old 0 (pairs (kindAt t bytes first n) (countAt t) is) (2 * k)) (sym (length-below (t .n)))
 
-      kind-here : (i : ℕ) → i < t .n → getD new (2 * i) 0 ≡ before (sameGrid (shapeAt t bytes i)) gs
+      kind-here : (i : ℕ) → i < t .n → getD new (2 * i) 0 ≡ before (sameForm (formAt t bytes i)) gs
       kind-here i l =
           let s = length-below (t .n) in
           ap (λ (w : List ℕ). getD w (2 * i) 0) at ∙ first-stored (kindAt t bytes first n) (countAt t) old is 0 (omega arith) i (omega arith)
-          ∙ ap (kindAt t bytes first n) (number-at (t .n) i l) ∙ ap (before (sameGrid (shapeAt t bytes i))) shapes-here
+          ∙ ap (kindAt t bytes first n) (number-at (t .n) i l) ∙ ap (before (sameForm (formAt t bytes i))) forms-here
 
       count-here : (i : ℕ) → i < t .n → getD new (2 * i + 1) 0 ≡ countAt t i
       count-here i l =
           let s = length-below (t .n) in
           ap (λ (w : List ℕ). getD w (2 * i + 1) 0) at ∙ second-stored (kindAt t bytes first n) (countAt t) old is 0 (omega arith) i (omega arith) ∙ ap (countAt t) (number-at (t .n) i l)
 
-      listed : (i : ℕ) → i < t .n → getD (map own (map (pieceOf bytes) (recordsOf t))) i (own (pieceOf bytes noRecord)) ≡ record { kind = before (sameGrid (shapeAt t bytes i)) gs; count = countAt t i }
+      listed : (i : ℕ) → i < t .n → getD (map own (map (pieceOf bytes) (recordsOf t))) i (own (pieceOf bytes noRecord)) ≡ record { kind = before (sameForm (formAt t bytes i)) gs; count = countAt t i }
       listed i l =
           List·getD-map own (map (pieceOf bytes) (recordsOf t)) i (pieceOf bytes noRecord) ∙ ap own (List·getD-map (pieceOf bytes) (recordsOf t) i noRecord)
-          ∙ ap (λ (r : Record). own (pieceOf bytes r)) (record-is i l) ∙ ap (λ (g : Grid). record { kind = before (sameGrid g) gs; count = countAt t i }) (shape-here i)
+          ∙ ap (λ (r : Record). own (pieceOf bytes r)) (record-is i l) ∙ ap (λ (g : Form). record { kind = before (sameForm g) gs; count = countAt t i }) (form-here i)

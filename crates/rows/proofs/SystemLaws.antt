@@ -7,23 +7,22 @@ use native.Mathlib.Omega.{arith}
 use lib.Dec.{T, ltb}
 use lib.ListN.{length, getD, length-map, length-append}
 use Rattle.definitions.specs.Lists.{consIf, all, keep, each, below, numberedFrom, member, ascending, sum}
-use Rattle.definitions.specs.Grid.{Grid, Cell, box, sameGrid, gridAhead, filledCells}
+use Rattle.definitions.specs.Grid.{Grid, Cell, box, filledCells}
 use Rattle.definitions.specs.Maps.{identity}
 use Rattle.definitions.specs.Scan.{scanNumber}
-use Rattle.definitions.specs.Kinds.{Piece, Sorted, Copy, Kind, sorted, shapes, smallest, copiesOf, kindsOf}
+use Rattle.definitions.specs.Kinds.{Piece, Form, sameForm, formAhead, Sorted, sortPiece, Copy, Kind, sorted, forms, copiesOf, kindsOf}
 use Rattle.definitions.specs.Placements.{Placement, Compiled, compile}
 use Rattle.definitions.specs.Packing.{limits}
 use Rattle.definitions.specs.Kept.{kindAfter}
 use Rattle.definitions.specs.Refusals.{Call, trayOf, copyCount, boardCellCount, placementCount, refusal}
 use Rattle.definitions.proofs.ListLaws.{keep-at, keep-of, keep-ascending, below-of, from-ascending, member-at, member-of, ltb-trans, ltb-irrefl, ascending-unique, and-right, not-again, length-below, apart-ascending, apart-length, is-false}
 use Rattle.definitions.proofs.CountLaws.{total, total-add, total-zero, total-same, sum-map}
-use Rattle.definitions.proofs.GroupLaws.{identity-grid, sameGrid→eq}
+use Rattle.definitions.proofs.GroupLaws.{identity-grid}
 use Rattle.definitions.proofs.MapLaws.{map-map-of, box-of}
-use Rattle.definitions.proofs.CellLaws.{grid-trans, grid-irrefl}
 use Rattle.definitions.proofs.EngineLaws.{sort-at}
 use Rattle.definitions.proofs.RefusalLaws.{PassedLent, passed}
 use Rattle.definitions.proofs.ShapeLaws.{sum-filled, scan-length}
-use Rattle.definitions.proofs.PartnerLaws.{gs, gs-up}
+use Rattle.definitions.proofs.PartnerLaws.{sameForm→eq, form-trans, form-irrefl, fs, fs-up}
 use Rattle.definitions.proofs.SetDownLaws.{placement-once}
 use Rattle.definitions.proofs.GeometryLaws.{piece-whole, W, whole, numbered-cells, in-box}
 use Rattle.rows.specs.Rows.{spread}
@@ -37,31 +36,31 @@ length-numbered : {A B : Type 0} (f : ℕ → A → B) (i : ℕ) (xs : List A) �
 length-numbered f i [] = refl
 length-numbered f i (x ∷ xs) = ap suc (length-numbered f (suc i) xs)
 
--- of grids that ascend at most one is a given one
-one-shape : (s : Grid) (n : ℕ) (hs : List Grid) → T (ascending gridAhead hs) → total (λ g. cond (sameGrid s g) n 0) hs ≤ n
-one-shape s n [] t = omega arith
-one-shape s n (g ∷ hs) t = go (sameGrid s g) (λ b. b) (one-shape s n hs (and-right (all (gridAhead g) hs) (ascending gridAhead hs) t))
+-- of forms that ascend at most one is a given one
+form-at-most-once : (s : Form) (n : ℕ) (hs : List Form) → T (ascending formAhead hs) → total (λ g. cond (sameForm s g) n 0) hs ≤ n
+form-at-most-once s n [] t = omega arith
+form-at-most-once s n (g ∷ hs) t = go (sameForm s g) (λ b. b) (form-at-most-once s n hs (and-right (all (formAhead g) hs) (ascending formAhead hs) t))
   where
-    none : s ≡ g → total (λ h. cond (sameGrid s h) n 0) hs ≡ 0
+    none : s ≡ g → total (λ h. cond (sameForm s h) n 0) hs ≡ 0
     none e =
-        total-same (λ h. cond (sameGrid s h) n 0) (λ h. 0) hs
-        (λ h m. ap {B = ℕ} (λ (b : Bool). cond b n 0) (is-false (sameGrid s h) (λ b. not-again gridAhead grid-trans grid-irrefl g hs t m (sym (sameGrid→eq s h b) ∙ e))))
+        total-same (λ h. cond (sameForm s h) n 0) (λ h. 0) hs
+        (λ h m. ap {B = ℕ} (λ (b : Bool). cond b n 0) (is-false (sameForm s h) (λ b. not-again formAhead form-trans form-irrefl g hs t m (sym (sameForm→eq s h b) ∙ e))))
         ∙ total-zero hs
 
-    go : (b : Bool) → (T b → T (sameGrid s g)) → total (λ h. cond (sameGrid s h) n 0) hs ≤ n → cond b n 0 + total (λ h. cond (sameGrid s h) n 0) hs ≤ n
-    go true f r = let e = none (sameGrid→eq s g (f tt)) in omega arith
+    go : (b : Bool) → (T b → T (sameForm s g)) → total (λ h. cond (sameForm s h) n 0) hs ≤ n → cond b n 0 + total (λ h. cond (sameForm s h) n 0) hs ≤ n
+    go true f r = let e = none (sameForm→eq s g (f tt)) in omega arith
     go false f r = omega arith
 
 -- the copies of all kinds together are no more than those of all pieces
-pub copies-more : (q : Sorted) (qs : List Sorted) (g : Grid) → length (copiesOf (q ∷ qs) g) ≡ cond (sameGrid (q .shape) g) (q .count) 0 + length (copiesOf qs g)
+pub copies-more : (q : Sorted) (qs : List Sorted) (g : Form) → length (copiesOf (q ∷ qs) g) ≡ cond (sameForm (q .form) g) (q .count) 0 + length (copiesOf qs g)
 unfolding copiesOf
-copies-more q qs g = go (sameGrid (q .shape) g)
+copies-more q qs g = go (sameForm (q .form) g)
   where
     one : Sorted → List Copy
     one r = map (λ n. record { piece = r .piece; copy = n }) (below (r .count))
 
     rest : List Sorted
-    rest = keep (λ r. sameGrid (r .shape) g) qs
+    rest = keep (λ r. sameForm (r .form) g) qs
 
     go : (b : Bool) → length (each (consIf b q rest) one) ≡ cond b (q .count) 0 + length (each rest one)
     go true =
@@ -71,16 +70,16 @@ copies-more q qs g = go (sameGrid (q .shape) g)
         omega arith
     go false = omega arith
 
-copies-all : (hs : List Grid) → T (ascending gridAhead hs) → (qs : List Sorted) → total (λ g. length (copiesOf qs g)) hs ≤ total (λ q. q .count) qs
+copies-all : (hs : List Form) → T (ascending formAhead hs) → (qs : List Sorted) → total (λ g. length (copiesOf qs g)) hs ≤ total (λ q. q .count) qs
 copies-all hs t [] = unfold copiesOf in (let e = total-zero hs in omega arith)
 copies-all hs t (q ∷ qs) =
-    let a = total-same (λ g. length (copiesOf (q ∷ qs) g)) (λ g. cond (sameGrid (q .shape) g) (q .count) 0 + length (copiesOf qs g)) hs (λ g m. copies-more q qs g) in
-    let b = total-add (λ g. cond (sameGrid (q .shape) g) (q .count) 0) (λ g. length (copiesOf qs g)) hs in
-    let c = one-shape (q .shape) (q .count) hs t in
+    let a = total-same (λ g. length (copiesOf (q ∷ qs) g)) (λ g. cond (sameForm (q .form) g) (q .count) 0 + length (copiesOf qs g)) hs (λ g m. copies-more q qs g) in
+    let b = total-add (λ g. cond (sameForm (q .form) g) (q .count) 0) (λ g. length (copiesOf qs g)) hs in
+    let c = form-at-most-once (q .form) (q .count) hs t in
     let d = copies-all hs t qs in
     omega arith
 
-counts-same : (i : ℕ) (ps : List Piece) → total (λ (q : Sorted). q .count) (numberedFrom {B = Sorted} i ps (λ j q. record { piece = j; count = q .count; shape = smallest (q .grid) })) ≡ sum (map (λ q. q .count) ps)
+counts-same : (i : ℕ) (ps : List Piece) → total (λ (q : Sorted). q .count) (numberedFrom {B = Sorted} i ps sortPiece) ≡ sum (map (λ q. q .count) ps)
 counts-same i [] = refl
 counts-same i (p ∷ ps) = ap (λ (n : ℕ). p .count + n) (counts-same (suc i) ps)
 
@@ -113,27 +112,27 @@ module _ (l : Call) (ok : refusal l ≡ 0) where
   few-rows = passed l ok .fewPlacements
 
   pub few-kinds : length (compile (trayOf l) .kinds) ≤ 16
-  unfolding compile kindsOf trayOf gs shapes sorted
+  unfolding compile kindsOf trayOf fs forms sorted
   few-kinds =
       let a = tested .fewPieces in
       let qs = sorted (trayOf l) in
-      let b = apart-length (shapes qs) (map (λ q. q .shape) qs) (apart-ascending gridAhead grid-irrefl (shapes qs) (gs-up (trayOf l) (piece-whole l ok)))
-      (λ g m. sort-at gridAhead (map (λ (q : Sorted). q .shape) qs) m) in
-      let c = length-map qs (λ (q : Sorted). q .shape) in
-      let d = length-numbered {B = Sorted} (λ (i : ℕ) (q : Piece). record { piece = i; count = q .count; shape = smallest (q .grid) }) 0 (trayOf l .pieces) in
+      let b = apart-length (forms qs) (map (λ q. q .form) qs) (apart-ascending formAhead form-irrefl (forms qs) (fs-up (trayOf l) (piece-whole l ok)))
+      (λ g m. sort-at formAhead (map (λ (q : Sorted). q .form) qs) m) in
+      let c = length-map qs (λ (q : Sorted). q .form) in
+      let d = length-numbered {B = Sorted} sortPiece 0 (trayOf l .pieces) in
       let e : length (trayOf l .pieces) ≡ length (l .pieces) = length-map (l .pieces) _ in
-      let f : length (C .kinds) ≡ length (shapes qs) = length-map (shapes qs) _ in
+      let f : length (C .kinds) ≡ length (forms qs) = length-map (forms qs) _ in
       omega arith
 
   pub few-copies : sum (limits (compile (trayOf l))) ≤ 128
-  unfolding compile limits kindsOf copyCount gs sorted
+  unfolding compile limits kindsOf copyCount fs sorted
   few-copies =
       let a = tested .fewCopies in
       let qs = sorted (trayOf l) in
-      let b = copies-all (shapes qs) (gs-up (trayOf l) (piece-whole l ok)) qs in
+      let b = copies-all (forms qs) (fs-up (trayOf l) (piece-whole l ok)) qs in
       let c = counts-same 0 (trayOf l .pieces) in
-      let d : sum (limits C) ≡ total (λ g. length (copiesOf qs g)) (shapes qs) =
-      ap sum (map-map-of (λ (d : Kind). length (d .copies)) _ (shapes qs)) ∙ sum-map (λ g. length (copiesOf qs g)) (shapes qs) in
+      let d : sum (limits C) ≡ total (λ g. length (copiesOf qs g)) (forms qs) =
+      ap sum (map-map-of (λ (d : Kind). length (d .copies)) _ (forms qs)) ∙ sum-map (λ g. length (copiesOf qs g)) (forms qs) in
       omega arith
 
   -- ---- a placement's cells ascend and are below 128, so a row gives it back

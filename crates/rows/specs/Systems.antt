@@ -1,15 +1,15 @@
 -- The wall between geometry and search: a row system is all that the engines see of a tray. Nothing of grids, sides or coordinates is in it.
 use Prim.Native.Nat.{ℕ, _+_, _*_}
-use mathlib.Core.Bool.{Bool, true, false, cond}
-use mathlib.Core.List.{List, [], _∷_, map}
+use mathlib.Core.Bool.{Bool, cond}
+use mathlib.Core.List.{List, _∷_, map}
 use mathlib.Core.Path.{_≡_}
 use lib.Dec.{ltb}
 use lib.ListN.{length, getD, take, drop}
 use Rattle.definitions.specs.Lists.{below, from, before, sort, same}
-use Rattle.definitions.specs.Grid.{box, sameGrid}
+use Rattle.definitions.specs.Grid.{box}
 use Rattle.definitions.specs.Maps.{Map, mapCell, turns, mirrorings}
 use Rattle.definitions.specs.Scan.{scanNumber}
-use Rattle.definitions.specs.Kinds.{Tray, smallest, sorted, shapes}
+use Rattle.definitions.specs.Kinds.{Tray, pieceForm, sameForm, sorted, forms}
 use Rattle.definitions.specs.Placements.{Placement, Compiled, compile}
 use Rattle.definitions.specs.Packing.{limits}
 use Rattle.definitions.specs.Kept.{cellAfter, symmetries}
@@ -41,7 +41,7 @@ cellImages c m = map (cellAfter c (mapCell m (c .board .sides))) (below (length 
 
 -- the system of a tray
 unfoldable pub owned : Tray → List Owned
-owned t = map (λ q. record { kind = before (sameGrid (smallest (q .grid))) (shapes (sorted t)); count = q .count }) (t .pieces)
+owned t = map (λ q. record { kind = before (sameForm (pieceForm q)) (forms (sorted t)); count = q .count }) (t .pieces)
 
 unfoldable pub systemOf : Tray → System
 systemOf t =

@@ -31,6 +31,9 @@ fn main() {
     list(b"unfilled_cell.tray");
     list(b"empty_box_unfilled.tray");
     list(b"empty_box_filled.tray");
+    list(b"woods.tray");
+    list(b"woods_handed.tray");
+    list(b"wood_256.tray");
     list(b"side_8.tray");
     list(b"side_9.tray");
     list(b"too_many_links.tray");

@@ -1,4 +1,4 @@
-// Shapes: the 48 maps, the cells of a box, grids and their turned forms, scan order, variants and kinds (utils.rs and shape.rs of
+// Shapes: the 48 maps, the cells of a box, grids and their turned grids, scan order, variants and kinds (utils.rs and shape.rs of
 // the original). A grid is lent as its cells, a slice with one byte a cell, and its three sides.
 
 pub mod cells;

@@ -1,5 +1,5 @@
 // Prints what the crate shape makes of some grids: turned and mirrored grids, variants with their origins, symmetries, scan order,
-// and how the grids compare as kinds. The stored output is the original's (oracle, `shapes`).
+// and how the grids compare by their smallest turned grids. The stored output is the original's (oracle, `shapes`).
 ghost use Prim.Native.Nat.{_≤_};
 ghost use lib.ListN.{length};
 ghost use Rattle.shape.specs.Grids.{Whole};
@@ -140,7 +140,7 @@ fn ordering(o: Ordering) {
     }
 }
 
-// Two grids as kinds, then the first's mirror image and the second.
+// Two grids by their smallest turned grids, then the first's mirror image and the second.
 fn compare(
     cells: &[u8],
     a: usize,
@@ -160,8 +160,8 @@ fn compare(
         return;
     }
     io::write_all(STDOUT_FILENO, b"kinds");
-    ordering(variants::compare_kinds(cells, s, Map(0), others, t, Map(0)));
-    ordering(variants::compare_kinds(cells, s, Map(26), others, t, Map(0)));
+    ordering(variants::compare_smallest(cells, s, Map(0), others, t, Map(0)));
+    ordering(variants::compare_smallest(cells, s, Map(26), others, t, Map(0)));
     end();
 }
 

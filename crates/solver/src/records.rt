@@ -27,6 +27,7 @@ fn no_record() -> Record
         b: 0,
         c: 0,
         count: 0,
+        wood: 0,
         start: 0,
     }
 }
@@ -43,6 +44,7 @@ pub fn record_or(pieces: &[Record], i: usize) -> Record
             b: 0,
             c: 0,
             count: 0,
+            wood: 0,
             start: 0,
         }
     }

@@ -1,8 +1,9 @@
 //! Reads the oracle's stream of cases (oracle/README.md) and holds the page calls to
 //! it: each listing put together from pages of a random size, byte for byte, by skips and
 //! from behind each page's last entry; pages at random skips, and behind what is no entry;
-//! what a call must not touch. Trays without a piece are held to the stream's listing like
-//! all others: it is the model's there. Status 1 on a difference.
+//! what a call must not touch. Trays without a piece, and those of several woods, are held to
+//! the stream's listing like all others: it is the model's there. The board's record has a
+//! wood of its own, which is not to be read. Status 1 on a difference.
 
 use std::io::{self, Read};
 use std::process::ExitCode;
@@ -18,7 +19,7 @@ const NUMBERS: usize = 32_776;
 fn main() -> io::Result<ExitCode> {
     let mut stream = vec![];
     io::stdin().read_to_end(&mut stream)?;
-    let (mut rest, mut held, mut bare, mut pages, mut differences) = (&stream[..], [0; 2], 0, 0, 0);
+    let (mut rest, mut held, mut bare, mut mixed, mut pages, mut differences) = (&stream[..], [0; 2], 0, 0, 0, 0);
     while !rest.is_empty() {
         let end = rest.iter().position(|&byte| byte == b'\n').unwrap();
         let header = String::from_utf8_lossy(&rest[..end]).to_string();
@@ -33,8 +34,11 @@ fn main() -> io::Result<ExitCode> {
         };
         held[usize::from(tray.config.engine == Engine::Knuth)] += 1;
         bare += usize::from(tray.pieces.is_empty());
+        mixed += usize::from(tray.is_mixed());
         let mut random = Random::new(held[0], held[1]);
-        match hold(&Lent::new(&tray), expected, &mut random) {
+        let mut lent = Lent::new(&tray);
+        lent.board.wood = random.between(1, 255) as u8;
+        match hold(&lent, expected, &mut random) {
             Ok(count) => pages += count,
             Err(what) => {
                 differences += 1;
@@ -43,7 +47,10 @@ fn main() -> io::Result<ExitCode> {
         }
     }
     let [fast, knuth] = held;
-    println!("{fast} trays of fast and {knuth} of knuth, {bare} of these without a piece, {pages} pages, {differences} differences");
+    println!(
+        "{fast} trays of fast and {knuth} of knuth, {bare} of these without a piece and {mixed} of several woods, {pages} pages, \
+         {differences} differences"
+    );
     Ok(if differences == 0 {
         ExitCode::SUCCESS
     } else {

@@ -30,7 +30,7 @@ fn bare(sides: [usize; 3], cells: Vec<u8>) -> Lent {
     let [a, b, c] = sides;
     Lent {
         pieces: vec![],
-        board: Record { a, b, c, count: 7, start: 0 },
+        board: Record { a, b, c, count: 7, wood: 255, start: 0 },
         bytes: cells,
         engine: Engine::Fast,
         turned: false,

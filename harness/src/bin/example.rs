@@ -6,10 +6,10 @@ use oracle::tray::Engine;
 fn main() {
     let lent = Lent {
         pieces: vec![
-            Record { a: 1, b: 1, c: 1, count: 1, start: 3 },
-            Record { a: 1, b: 1, c: 2, count: 1, start: 4 },
+            Record { a: 1, b: 1, c: 1, count: 1, wood: 0, start: 3 },
+            Record { a: 1, b: 1, c: 2, count: 1, wood: 0, start: 4 },
         ],
-        board: Record { a: 1, b: 1, c: 3, count: 0, start: 0 },
+        board: Record { a: 1, b: 1, c: 3, count: 0, wood: 0, start: 0 },
         bytes: vec![1; 6],
         engine: Engine::Fast,
         turned: false,

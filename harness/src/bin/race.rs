@@ -1,6 +1,6 @@
 //! `race TRAY ...`: the original's `solve` and the page call, the whole list of each tray, side by side.
-//! First the lists are compared, byte for byte; then each runs so many times, in turn. A tray without a piece is passed over:
-//! the original has no list for it.
+//! First the lists are compared, byte for byte; then each runs so many times, in turn. A tray without a piece is passed over,
+//! and one of several woods: the original has no list for it.
 
 use std::time::{Duration, Instant};
 
@@ -18,6 +18,10 @@ fn main() {
         let given = tray::parse(&file, tray::config_of_file).unwrap();
         if given.pieces.is_empty() {
             println!("{path}\tno piece: the original panics");
+            continue;
+        }
+        if given.is_mixed() {
+            println!("{path}\tseveral woods: the original knows none");
             continue;
         }
         for (name, turned, mirrored) in [("none", false, false), ("turned", true, false), ("mirrored", true, true)] {

@@ -1,6 +1,7 @@
 //! Reads a tray in the file format of `pack` and prints what `pack` is to print,
 //! or the single line `panic` where the original panics. The original is not asked
-//! where no piece is lent: it always panics there.
+//! where no piece is lent: it always panics there. Nor is it where the pieces are of
+//! several woods, which it cannot tell apart: the single line `mixed` (model.py knows).
 
 use std::io::{self, Read, Write};
 

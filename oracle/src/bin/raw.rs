@@ -1,6 +1,7 @@
 //! Calls the original's `solve` without any refusal before it, and prints its
 //! list, or the single line `panic`. The file may also name the engines `auto`
-//! and `naive`, and `mirrored_only`: mirrored without turned.
+//! and `naive`, and `mirrored_only`: mirrored without turned. Of a piece's wood
+//! the original hears nothing.
 //! `raw refusal` prints the refusal of such a call instead, or `accepted`.
 
 use std::io::{self, Read, Write};

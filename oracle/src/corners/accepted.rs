@@ -21,7 +21,7 @@ pub const ACCEPTED: &[(&str, fn(&mut Random) -> Option<Parts>)] = &[
         let (board, mut pieces) = lent_twice(random)?;
         let again = random.below(pieces.len());
         let grid = grids::turned(random, &pieces[again].grid);
-        pieces.insert(random.below(pieces.len() + 1), Piece { count: 0, grid });
+        pieces.insert(random.below(pieces.len() + 1), Piece::new(0, grid));
         Some((board, pieces))
     }),
     ("handed_with_partner", |random| handed(random, |_, copies| Some(copies))),
@@ -43,28 +43,12 @@ pub const ACCEPTED: &[(&str, fn(&mut Random) -> Option<Parts>)] = &[
         add_handed(random, &mut pieces, counts[0], Some(counts[1]));
         Some((board, pieces))
     }),
-    ("handed_twins", |random| {
-        // A board that is two mirror images of a handed piece, one beside the other.
-        let hangs_together = !random.one_in(3);
-        let piece = grids::piece_within(random, [2, 2, 3], 5, hangs_together);
-        let mut cells = grids::mirrored(&piece).cells;
-        cells.extend(&piece.cells);
-        let [a, b, c] = piece.sides;
-        let board = Grid { sides: [2 * a, b, c], cells };
-        let count = random.between(1, 2);
-        let mut pieces = vec![Piece { count, grid: grids::turned(random, &piece) }];
-        if !random.one_in(3) {
-            let partner = grids::turned(random, &grids::mirrored(&piece));
-            pieces.push(Piece { count: random.between(0, 2), grid: partner });
-        }
-        add_small(random, &mut pieces);
-        grids::is_handed(&piece).then_some((board, pieces))
-    }),
+    ("handed_twins", handed_twins),
     ("without_copies", |random| {
         let (board, mut pieces) = plain(random)?;
         for _ in 0..random.between(1, 3) {
             let grid = random_piece(random);
-            pieces.insert(random.below(pieces.len() + 1), Piece { count: 0, grid });
+            pieces.insert(random.below(pieces.len() + 1), Piece::new(0, grid));
         }
         Some((board, pieces))
     }),
@@ -72,7 +56,7 @@ pub const ACCEPTED: &[(&str, fn(&mut Random) -> Option<Parts>)] = &[
         let board = grids::with_holes(random, full([1, 2, 4]), 5);
         let (board, mut pieces) = cut_whole(random, board, [1, 2], true)?;
         let grid = grids::piece_within(random, [1, 2, 4], 5, false);
-        pieces.push(Piece { count: 0, grid });
+        pieces.push(Piece::new(0, grid));
         Some((board, pieces))
     }),
     ("without_copies_changes_knuths_order", |random| {
@@ -82,7 +66,7 @@ pub const ACCEPTED: &[(&str, fn(&mut Random) -> Option<Parts>)] = &[
         let (board, mut pieces) = cut_whole(random, board, [1, 3], true)?;
         let size = random.between(3, 6);
         let grid = grids::piece_within(random, board.sides, size, false);
-        pieces.insert(random.below(pieces.len() + 1), Piece { count: 0, grid });
+        pieces.insert(random.below(pieces.len() + 1), Piece::new(0, grid));
         let kinds = placements::kinds(&board, &pieces);
         let filled = placements::filled_cells(&board);
         effort::is_knuths_order_changed(filled, &kinds, SHORT).then_some((board, pieces))
@@ -90,7 +74,7 @@ pub const ACCEPTED: &[(&str, fn(&mut Random) -> Option<Parts>)] = &[
     ("without_copies_smallest_kind", |random| {
         let board = small_board(random);
         let (board, mut pieces) = cut_whole(random, board, [2, 4], true)?;
-        pieces.push(Piece { count: 0, grid: full([1, 1, 1]) });
+        pieces.push(Piece::new(0, full([1, 1, 1])));
         Some((board, pieces))
     }),
     ("all_without_copies", all_without_copies),
@@ -103,7 +87,7 @@ pub const ACCEPTED: &[(&str, fn(&mut Random) -> Option<Parts>)] = &[
     ("spare_pieces", |random| {
         let (board, mut pieces) = plain(random)?;
         for _ in 0..random.between(1, 4) {
-            let piece = Piece { count: random.between(1, 3), grid: random_piece(random) };
+            let piece = Piece::new(random.between(1, 3), random_piece(random));
             pieces.insert(random.below(pieces.len() + 1), piece);
         }
         Some((board, pieces))
@@ -120,7 +104,7 @@ pub const ACCEPTED: &[(&str, fn(&mut Random) -> Option<Parts>)] = &[
         Some((board, pieces))
     }),
     ("no_piece_fits", |random| {
-        let piece = Piece { count: random.between(1, 3), grid: full([2, 2, 2]) };
+        let piece = Piece::new(random.between(1, 3), full([2, 2, 2]));
         Some((full([1, random.between(1, 8), random.between(1, 8)]), vec![piece]))
     }),
     ("board_with_holes", |random| {
@@ -206,13 +190,13 @@ pub const ACCEPTED: &[(&str, fn(&mut Random) -> Option<Parts>)] = &[
         let grid = random_piece(random);
         let board = small_board(random);
         let count = random.between(1, 12);
-        Some((board, vec![Piece { count, grid }]))
+        Some((board, vec![Piece::new(count, grid)]))
     }),
     ("dominoes", |random| {
         let board = full([1, random.between(2, 4), random.between(2, 5)]);
         let board = grids::with_holes(random, board, 8);
         let count = random.between(1, 10);
-        Some((board, vec![Piece { count, grid: full([1, 1, 2]) }]))
+        Some((board, vec![Piece::new(count, full([1, 1, 2]))]))
     }),
     ("more_than_64_cells", |random| {
         let sides =
@@ -237,14 +221,14 @@ pub const ACCEPTED: &[(&str, fn(&mut Random) -> Option<Parts>)] = &[
         let sides = [random.between(1, 2), random.between(1, 3), 8];
         let board = full(rotated(random, sides));
         let (board, mut pieces) = cut_whole(random, board, [5, 9], true)?;
-        pieces.push(Piece { count: random.between(0, 1), grid: full([1, 8, 1]) });
+        pieces.push(Piece::new(random.between(0, 1), full([1, 8, 1])));
         Some((board, pieces))
     }),
     ("pieces_16", |random| {
         let (board, mut pieces) = plain(random)?;
         while pieces.len() < 16 {
             let count = random.between(0, 1);
-            pieces.push(Piece { count, grid: random_piece(random) });
+            pieces.push(Piece::new(count, random_piece(random)));
         }
         random.shuffle(&mut pieces);
         Some((board, pieces))
@@ -254,15 +238,13 @@ pub const ACCEPTED: &[(&str, fn(&mut Random) -> Option<Parts>)] = &[
         while pieces.len() < 16 {
             let again = random.pick(&pieces).grid.clone();
             let grid = grids::turned(random, &again);
-            pieces.push(Piece { count: u32::from(random.one_in(6)), grid });
+            pieces.push(Piece::new(u32::from(random.one_in(6)), grid));
         }
         random.shuffle(&mut pieces);
         Some((board, pieces))
     }),
     ("copies_128", |random| with_copies(random, 128)),
-    ("copies_128_all_used", |_| {
-        Some((full([4, 4, 8]), vec![Piece { count: 128, grid: full([1, 1, 1]) }]))
-    }),
+    ("copies_128_all_used", |_| Some((full([4, 4, 8]), vec![Piece::new(128, full([1, 1, 1]))]))),
     ("filled_128", |random| with_filled(random, MOST_FILLED)),
 ];
 
@@ -298,7 +280,7 @@ pub const WHEN_IDENTIFIED_FAST: &[(&str, fn(&mut Random) -> Option<Parts>)] = &[
     }),
     ("kind_0_not_first_without_copies", |random| {
         let (board, mut pieces) = little_symmetric(random)?;
-        let smaller = Piece { count: 0, grid: full([1, 1, 1]) };
+        let smaller = Piece::new(0, full([1, 1, 1]));
         pieces.insert(random.below(pieces.len() + 1), smaller);
         let kinds = placements::kinds(&board, &pieces);
         (kinds[0].copies == 0 && kinds[1].copies == 1).then_some((board, pieces))
@@ -311,7 +293,7 @@ pub const WITH_LONG_SEARCHES: &[(&str, fn(&mut Random) -> Option<Parts>)] = &[
             *random.pick(&[[1, 4, 4], [1, 5, 4], [1, 4, 6], [2, 4, 2], [2, 2, 5], [3, 2, 3]]);
         let board = full(rotated(random, sides));
         let count = board.cells.len() as u32 / 2 + random.between(0, 1);
-        Some((board, vec![Piece { count, grid: full([1, 1, 2]) }]))
+        Some((board, vec![Piece::new(count, full([1, 1, 2]))]))
     }),
     ("long_list_of_small_pieces", |random| {
         let board = full(*random.pick(&[[2, 2, 4], [1, 4, 4], [2, 3, 3], [1, 3, 6]]));
@@ -339,7 +321,7 @@ pub fn rotated(random: &mut Random, mut sides: [u32; 3]) -> [u32; 3] {
 }
 
 /// The board with the pieces that it is cut into, at most 16; None if it has no filled cell.
-fn cut_whole(
+pub fn cut_whole(
     random: &mut Random,
     board: Grid,
     sizes: [u32; 2],
@@ -358,17 +340,17 @@ pub fn random_piece(random: &mut Random) -> Grid {
 
 /// Up to three single cells.
 fn add_small(random: &mut Random, pieces: &mut Vec<Piece>) {
-    pieces.push(Piece { count: random.between(0, 3), grid: full([1, 1, 1]) });
+    pieces.push(Piece::new(random.between(0, 3), full([1, 1, 1])));
 }
 
-fn all_without_copies(random: &mut Random) -> Option<Parts> {
+pub fn all_without_copies(random: &mut Random) -> Option<Parts> {
     let (board, mut pieces) = plain(random)?;
     pieces.iter_mut().for_each(|piece| piece.count = 0);
     Some((board, pieces))
 }
 
 /// Some copies of a piece lent as a second piece, turned.
-fn lent_twice(random: &mut Random) -> Option<Parts> {
+pub fn lent_twice(random: &mut Random) -> Option<Parts> {
     let board = small_board(random);
     let (board, mut pieces) = cut_whole(random, board, [1, 4], true)?;
     let first = random.below(pieces.len());
@@ -376,13 +358,13 @@ fn lent_twice(random: &mut Random) -> Option<Parts> {
     pieces[first].count -= count;
     let count = count + random.between(0, 1);
     let grid = grids::turned(random, &pieces[first].grid);
-    pieces.insert(random.below(pieces.len() + 1), Piece { count, grid });
+    pieces.insert(random.below(pieces.len() + 1), Piece::new(count, grid));
     Some((board, pieces))
 }
 
 /// A tray that needs a handed piece. `partners` says, for its copies, how many
 /// copies of its mirror partner are lent, None for no partner.
-fn handed(random: &mut Random, partners: fn(&mut Random, u32) -> Option<u32>) -> Option<Parts> {
+pub fn handed(random: &mut Random, partners: fn(&mut Random, u32) -> Option<u32>) -> Option<Parts> {
     let mut sides = [2, 2, random.between(2, 4)];
     random.shuffle(&mut sides);
     let hang_together = !random.one_in(3);
@@ -393,7 +375,7 @@ fn handed(random: &mut Random, partners: fn(&mut Random, u32) -> Option<u32>) ->
     let at = pieces.iter().position(|piece| grids::is_handed(&piece.grid))?;
     if let Some(count) = partners(random, pieces[at].count) {
         let grid = grids::turned(random, &partner);
-        pieces.insert(random.below(pieces.len() + 1), Piece { count, grid });
+        pieces.insert(random.below(pieces.len() + 1), Piece::new(count, grid));
     }
     // What the lost partner would have covered.
     if random.one_in(2) {
@@ -412,34 +394,52 @@ fn handed_piece(random: &mut Random, within: [u32; 3]) -> Grid {
     }
 }
 
+/// A board that is two mirror images of a handed piece, one beside the other.
+pub fn handed_twins(random: &mut Random) -> Option<Parts> {
+    let hangs_together = !random.one_in(3);
+    let piece = grids::piece_within(random, [2, 2, 3], 5, hangs_together);
+    let mut cells = grids::mirrored(&piece).cells;
+    cells.extend(&piece.cells);
+    let [a, b, c] = piece.sides;
+    let board = Grid { sides: [2 * a, b, c], cells };
+    let count = random.between(1, 2);
+    let mut pieces = vec![Piece::new(count, grids::turned(random, &piece))];
+    if !random.one_in(3) {
+        let partner = grids::turned(random, &grids::mirrored(&piece));
+        pieces.push(Piece::new(random.between(0, 2), partner));
+    }
+    add_small(random, &mut pieces);
+    grids::is_handed(&piece).then_some((board, pieces))
+}
+
 /// A further handed piece, and its partner if that has copies named.
-fn add_handed(random: &mut Random, pieces: &mut Vec<Piece>, count: u32, partners: Option<u32>) {
+pub fn add_handed(random: &mut Random, pieces: &mut Vec<Piece>, count: u32, partners: Option<u32>) {
     let grid = handed_piece(random, [2, 2, 3]);
     let partner = grids::turned(random, &grids::mirrored(&grid));
-    pieces.insert(random.below(pieces.len() + 1), Piece { count, grid });
+    pieces.insert(random.below(pieces.len() + 1), Piece::new(count, grid));
     if let Some(count) = partners {
-        pieces.insert(random.below(pieces.len() + 1), Piece { count, grid: partner });
+        pieces.insert(random.below(pieces.len() + 1), Piece::new(count, partner));
     }
 }
 
 /// A handed piece, its partner and small pieces that pack the board in several ways.
-fn handed_or_partner(random: &mut Random, board: Grid) -> Option<Parts> {
-    let mut pieces = vec![Piece { count: random.between(1, 4), grid: full([1, 1, 1]) }];
+pub fn handed_or_partner(random: &mut Random, board: Grid) -> Option<Parts> {
+    let mut pieces = vec![Piece::new(random.between(1, 4), full([1, 1, 1]))];
     if random.one_in(2) {
-        pieces.push(Piece { count: 1, grid: full([1, 1, 2]) });
+        pieces.push(Piece::new(1, full([1, 1, 2])));
     }
     let counts = [random.between(1, 2), random.between(1, 2)];
     let grid = handed_piece(random, board.sides);
     let partner = grids::mirrored(&grid);
     for (count, grid) in counts.into_iter().zip([grid, partner]) {
-        pieces.push(Piece { count, grid: grids::turned(random, &grid) });
+        pieces.push(Piece::new(count, grids::turned(random, &grid)));
     }
     random.shuffle(&mut pieces);
     has_packings(&board, &pieces, 2).then_some((board, pieces))
 }
 
 /// A board that few maps keep, so that several packings stay in its list.
-fn little_symmetric(random: &mut Random) -> Option<Parts> {
+pub fn little_symmetric(random: &mut Random) -> Option<Parts> {
     let sides = *random.pick(&[[1, 3, 5], [2, 2, 4], [2, 3, 3], [1, 4, 4]]);
     let board = full(rotated(random, sides));
     let board = grids::with_holes(random, board, 7);
@@ -447,14 +447,14 @@ fn little_symmetric(random: &mut Random) -> Option<Parts> {
     has_packings(&board, &pieces, 8).then_some((board, pieces))
 }
 
-fn has_packings(board: &Grid, pieces: &[Piece], least: usize) -> bool {
+pub fn has_packings(board: &Grid, pieces: &[Piece], least: usize) -> bool {
     let kinds = placements::kinds(board, pieces);
     let packings = effort::packings(placements::filled_cells(board), &kinds, SHORT);
     packings.is_some_and(|number| number >= least)
 }
 
 /// A board with holes that some map other than the identity is likely to keep.
-fn symmetric(random: &mut Random, by_mirroring: bool) -> Option<Parts> {
+pub fn symmetric(random: &mut Random, by_mirroring: bool) -> Option<Parts> {
     let sides = *random.pick(&[[3, 3, 3], [2, 3, 3], [3, 3, 2], [2, 2, 4], [1, 4, 4], [3, 2, 3]]);
     let holes = random.between(5, 12) as usize;
     let board = grids::with_holes(random, full(sides), holes);

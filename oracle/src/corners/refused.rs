@@ -24,7 +24,7 @@ pub const REFUSED: &[(&str, u8, fn(&mut Random) -> Option<Parts>)] = &[
     }),
     ("refused_3_piece_side_9", 3, |random| {
         let (board, mut pieces) = plain(random)?;
-        pieces.push(Piece { count: 1, grid: full(rotated(random, [1, 1, 9])) });
+        pieces.push(Piece::new(1, full(rotated(random, [1, 1, 9]))));
         Some((board, pieces))
     }),
     ("refused_3_board_side_0", 3, |random| {
@@ -33,14 +33,14 @@ pub const REFUSED: &[(&str, u8, fn(&mut Random) -> Option<Parts>)] = &[
     }),
     ("refused_3_piece_side_0", 3, |random| {
         let (board, mut pieces) = plain(random)?;
-        let piece = Piece { count: random.between(0, 1), grid: full(rotated(random, [2, 3, 0])) };
+        let piece = Piece::new(random.between(0, 1), full(rotated(random, [2, 3, 0])));
         pieces.insert(random.below(pieces.len() + 1), piece);
         Some((board, pieces))
     }),
     ("refused_3", 3, |random| with_faults(random, [3, 3])),
     ("refused_3_side_257", 3, |random| {
         let (board, mut pieces) = plain(random)?;
-        pieces.push(Piece { count: 1, grid: full(rotated(random, [1, 1, 257])) });
+        pieces.push(Piece::new(1, full(rotated(random, [1, 1, 257]))));
         Some((board, pieces))
     }),
     ("refused_6", 6, |random| with_faults(random, [6, 6])),
@@ -50,7 +50,7 @@ pub const REFUSED: &[(&str, u8, fn(&mut Random) -> Option<Parts>)] = &[
         let (board, mut pieces) = plain(random)?;
         // The sum is 2^32 and a little more, and would wrap to an accepted one.
         for count in [999_999_999, 999_999_999, 999_999_999, 999_999_999, 294_967_300] {
-            pieces.push(Piece { count, grid: random_piece(random) });
+            pieces.push(Piece::new(count, random_piece(random)));
         }
         Some((board, pieces))
     }),
@@ -111,7 +111,7 @@ fn add_fault(random: &mut Random, fault: u8, board: &mut Grid, pieces: &mut Vec<
             *board = full([4, 5, 5]);
             for size in 2..=8 {
                 let grid = grids::piece_within(random, [2, 3, 3], size, true);
-                pieces.push(Piece { count: u32::from(random.one_in(3)), grid });
+                pieces.push(Piece::new(u32::from(random.one_in(3)), grid));
             }
         }
         _ => unreachable!("no fault for {fault}"),
@@ -119,7 +119,7 @@ fn add_fault(random: &mut Random, fault: u8, board: &mut Grid, pieces: &mut Vec<
 }
 
 fn add_spoilt(random: &mut Random, pieces: &mut Vec<Piece>, grid: Grid) {
-    let piece = Piece { count: random.between(0, 2), grid };
+    let piece = Piece::new(random.between(0, 2), grid);
     pieces.insert(random.below(pieces.len() + 1), piece);
 }
 

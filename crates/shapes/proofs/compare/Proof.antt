@@ -22,8 +22,8 @@ slice-aggregate-write-all c = search needs
 write-all-requires : tie.Need-write-all-requires
 write-all-requires c κs = search needs
 
-compare-kinds-requires : tie.Need-compare-kinds-requires
-compare-kinds-requires c κs =
+compare-smallest-requires : tie.Need-compare-smallest-requires
+compare-smallest-requires c κs =
     let t = c .before .before .before in
     let s = t .before .before in (
       decided-true (s .is-whole .result) (s .is-whole .ensures) (t .before .if1 .left),
@@ -33,8 +33,8 @@ compare-kinds-requires c κs =
 ordering-requires : tie.Need-ordering-requires
 ordering-requires c κs = search needs
 
-compare-kinds-requires-2 : tie.Need-compare-kinds-requires-2
-compare-kinds-requires-2 c κs = compare-kinds-requires (c .before .before) κs
+compare-smallest-requires-2 : tie.Need-compare-smallest-requires-2
+compare-smallest-requires-2 c κs = compare-smallest-requires (c .before .before) κs
 
 ordering-requires-2 : tie.Need-ordering-requires-2
 ordering-requires-2 c κs = search needs
@@ -55,9 +55,9 @@ compare-spec =
     returns-2
     slice-aggregate-write-all
     write-all-requires
-    compare-kinds-requires
+    compare-smallest-requires
     ordering-requires
-    compare-kinds-requires-2
+    compare-smallest-requires-2
     ordering-requires-2
     end-requires
     returns-3)

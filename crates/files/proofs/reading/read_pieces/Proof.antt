@@ -1,13 +1,14 @@
 -- The pieces of the lines passed are read, and what is left is the lines from the place reached on. Assumes nothing.
-use Prim.Native.Nat.{_-_}
+use Prim.Native.Nat.{ℕ, _-_}
+use mathlib.Core.List.{List}
 use mathlib.Core.Path.{ap, _∙_}
 use native.Mathlib.Omega.{arith}
 use Rattle.definitions.specs.Files.{isNumber, numberIn}
 use Rattle.definitions.specs.Lists.{all}
 use Rattle.files.specs.Stretches.{stretch}
 use Rattle.files.proofs.SpanLaws.{isCell}
-use Rattle.files.proofs.ReadingLaws.{piece-fields, piece-count, piece-grid, held, grid-cells}
-use Rattle.files.proofs.ReadingLineLaws.{ReadTo, none-read, piece-line, field-inside, rows-bound, cells-kept, one-more, all-read}
+use Rattle.files.proofs.ReadingLaws.{piece-fields, fields-many, piece-count, piece-grid, held, grid-cells}
+use Rattle.files.proofs.ReadingLineLaws.{ReadTo, PieceLine, none-read, piece-line, field-inside, rows-bound, cells-kept, one-more, all-read}
 use borrow.Author.Needs.{needs}
 use Rattle.files.proofs.reading.read_pieces.Statement.{statement}
 use Rattle.files.proofs.reading.read_pieces.Tie as tie
@@ -18,99 +19,94 @@ Inv-loop text start cells₀ to t₀ used₀ from₀ cells t used from = ReadTo 
 abbrev μ-loop : tie.MeasureT-loop
 μ-loop text start cells₀ to t₀ used₀ from₀ cells t used from = to - from
 
+-- ---- the stops of a turn, by what they are behind
+abbrev at-find : tie.After-slice-known2 Inv-loop μ-loop → tie.After-find Inv-loop μ-loop
+at-find c = c .before .before .before .before .before .before .before .before .before .before
+
+abbrev startOf : tie.After-find Inv-loop μ-loop → tie.Start Inv-loop μ-loop
+startOf c = c .before .before .before .before .before .before
+
+abbrev bytesAt : tie.After-find Inv-loop μ-loop → List ℕ
+bytesAt c = startOf c .args .text .now
+
+abbrev fromAt : tie.After-find Inv-loop μ-loop → ℕ
+fromAt c = c .before .before .loop .from
+
+abbrev lineAt : tie.After-find Inv-loop μ-loop → List ℕ
+lineAt c = stretch (record { from = c .before .before .loop .from; to = c .find .result }) (startOf c .args .text .now)
+
+-- the line that was found is a piece's
+here : (c : tie.After-find Inv-loop μ-loop) → PieceLine (bytesAt c) (fromAt c) (c .find .result)
+here c = piece-line (bytesAt c) (fromAt c) (c .find .result) (c .before .before .loop .inv .lines) (c .before .loop-test .taken) (c .find .ensures)
+
 empty-table-requires : tie.Need-empty-table-requires Inv-loop μ-loop
 empty-table-requires c κs = search needs
 
 loop-holds : tie.Need-loop-holds Inv-loop μ-loop
 loop-holds c =
-    let s = c .before .before .before in
-    none-read (s .args .text .now) (s .args .start) (s .args .cells .now) (s .pre .0) (s .pre .3) (c .empty-table .ensures)
+    let start = c .before .before .before in
+    none-read (start .args .text .now) (start .args .start) (start .args .cells .now) (start .pre .0) (start .pre .3) (c .empty-table .ensures)
 
 find-requires : tie.Need-find-requires Inv-loop μ-loop
 find-requires c κs = record { order = omega arith; inside = omega arith }
 
 field-of-requires : tie.Need-field-of-requires Inv-loop μ-loop
-field-of-requires c κs =
-    let s = c .before .before .before .before .before .before in
-    let l = c .before .before .loop in
-    let bytes = s .args .text .now in
-    let end = c .find .result in
-    let here = piece-line bytes (l .from) end (l .inv .lines) (c .before .loop-test .taken) (c .find .ensures) in
-    (here .within, omega (arith, piece-fields (stretch (record { from = l .from; to = end }) bytes) (here .piece)))
+field-of-requires c κs = let h = here c in (h .within, omega (arith, fields-many (lineAt c) (piece-fields (lineAt c) (h .piece))))
 
 number-in-requires : tie.Need-number-in-requires Inv-loop μ-loop
 number-in-requires c κs =
-    let s = c .before .before .before .before .before .before .before in
-    let l = c .before .before .before .loop in
-    let bytes = s .args .text .now in
-    let end = c .before .find .result in
-    let here = piece-line bytes (l .from) end (l .inv .lines) (c .before .before .loop-test .taken) (c .before .find .ensures) in
-    (c .field-of .ensures .0, held (isNumber 9) (c .field-of .ensures .1) (piece-count (stretch (record { from = l .from; to = end }) bytes) (here .piece)))
+    let found = c .before in
+    (c .field-of .ensures .0, held (isNumber 9) (c .field-of .ensures .1) (piece-count (lineAt found) (here found .piece)))
+
+wood-in-requires : tie.Need-wood-in-requires Inv-loop μ-loop
+wood-in-requires c κs = let found = c .before .before in (here found .within, piece-fields (lineAt found) (here found .piece))
 
 cast-record-in : tie.Need-cast-record-in Inv-loop μ-loop
-cast-record-in c = omega (arith, c .number-in .ensures .1)
+cast-record-in c = omega (arith, c .before .number-in .ensures .1)
 
 record-in-requires : tie.Need-record-in-requires Inv-loop μ-loop
 record-in-requires c κs =
-    let s = c .before .before .before .before .before .before .before .before in
-    let l = c .before .before .before .before .loop in
-    let bytes = s .args .text .now in
-    let end = c .before .before .find .result in
-    let here = piece-line bytes (l .from) end (l .inv .lines) (c .before .before .before .loop-test .taken) (c .before .before .find .ensures) in
-    (here .within, omega (arith, piece-fields (stretch (record { from = l .from; to = end }) bytes) (here .piece)), piece-grid (stretch (record { from = l .from; to = end }) bytes) (here .piece))
+    let found = c .before .before .before in
+    let h = here found in
+    (h .within, omega (arith, fields-many (lineAt found) (piece-fields (lineAt found) (h .piece))), piece-grid (lineAt found) (h .piece))
 
 push-row-requires : tie.Need-push-row-requires Inv-loop μ-loop
-push-row-requires c κs = let r = rows-bound (c .before .before .before .before .before .loop .inv) in omega arith
+push-row-requires c κs = let found = c .before .before .before .before in let r = rows-bound (found .before .before .loop .inv) in omega arith
 
 field-of-requires-2 : tie.Need-field-of-requires-2 Inv-loop μ-loop
 field-of-requires-2 c κs =
-    let s = c .before .before .before .before .before .before .before .before .before .before in
-    let l = c .before .before .before .before .before .before .loop in
-    let bytes = s .args .text .now in
-    let end = c .before .before .before .before .find .result in
-    let here = piece-line bytes (l .from) end (l .inv .lines) (c .before .before .before .before .before .loop-test .taken) (c .before .before .before .before .find .ensures) in
-    (here .within, omega (arith, piece-fields (stretch (record { from = l .from; to = end }) bytes) (here .piece)))
+    let found = c .before .before .before .before .before in
+    let h = here found in
+    (h .within, omega (arith, fields-many (lineAt found) (piece-fields (lineAt found) (h .piece))))
 
 put-cells-requires : tie.Need-put-cells-requires Inv-loop μ-loop
 put-cells-requires c κs =
-    let s = c .before .before .before .before .before .before .before .before .before .before .before .before in
-    let l = c .before .before .before .before .before .before .before .before .loop in
-    let bytes = s .args .text .now in
-    let end = c .before .before .before .before .before .before .find .result in
-    let here = piece-line bytes (l .from) end (l .inv .lines) (c .before .before .before .before .before .before .before .loop-test .taken) (c .before .before .before .before .before .before .find .ensures) in
+    let found = c .before .before .before .before .before .before .before in
+    let h = here found in
     let f = c .before .field-of2 .ensures in
-    let m = field-inside bytes (record { from = l .from; to = end }) 5 (here .within) f in
-    let k = cells-kept (l .inv) (omega arith) in
-    let o = here .within .order in
-    let e = here .ended in
-    (f .0, held (all isCell) (f .1) (grid-cells 2 (stretch (record { from = l .from; to = end }) bytes) (piece-grid (stretch (record { from = l .from; to = end }) bytes) (here .piece))), omega arith)
+    let m = field-inside (bytesAt found) (record { from = fromAt found; to = found .find .result }) 5 (h .within) f in
+    let k = cells-kept (found .before .before .loop .inv) (omega arith) in
+    let o = h .within .order in
+    let e = h .ended in
+    (f .0, held (all isCell) (f .1) (grid-cells 2 (lineAt found) (piece-grid (lineAt found) (h .piece))), omega arith)
 
 add-from : tie.Need-add-from Inv-loop μ-loop
-add-from c =
-    let s = c .before .before .before .before .before .before .before .before .before .before .before .before .before .before .before in
-    let l = c .before .before .before .before .before .before .before .before .before .before .before .loop in
-    let bytes = s .args .text .now in
-    let end = c .before .before .before .before .before .before .before .before .before .find .result in
-    let here = piece-line bytes (l .from) end (l .inv .lines) (c .before .before .before .before .before .before .before .before .before .before .loop-test .taken) (c .before .before .before .before .before .before .before .before .before .find .ensures) in
-    omega (arith, here .ended)
+add-from c = let found = at-find c in omega (arith, here found .ended, startOf found .pre .1)
 
 loop-less : tie.Need-loop-less Inv-loop μ-loop
-loop-less c =
-    let s = c .before .before .before .before .before .before .before .before .before .before .before .before .before .before .before in
-    let l = c .before .before .before .before .before .before .before .before .before .before .before .loop in
-    let bytes = s .args .text .now in
-    let end = c .before .before .before .before .before .before .before .before .before .find .result in
-    let here = piece-line bytes (l .from) end (l .inv .lines) (c .before .before .before .before .before .before .before .before .before .before .loop-test .taken) (c .before .before .before .before .before .before .before .before .before .find .ensures) in
-    omega (arith, here .ended, here .within .order)
+loop-less c = let h = here (at-find c) in omega (arith, h .ended, h .within .order)
 
 loop-again : tie.Need-loop-again Inv-loop μ-loop
 loop-again c =
-    let s = c .before .before .before .before .before .before .before .before .before .before .before .before .before .before .before in
-    let l = c .before .before .before .before .before .before .before .before .before .before .before .loop in
-    let bytes = s .args .text .now in
-    let end = c .before .before .before .before .before .before .before .before .before .find .result in
-    let here = piece-line bytes (l .from) end (l .inv .lines) (c .before .before .before .before .before .before .before .before .before .before .loop-test .taken) (c .before .before .before .before .before .before .before .before .before .find .ensures) in
-    one-more (l .inv) (omega arith) end here (c .before .before .before .before .field-of2 .ensures) (c .before .before .before .before .before .before .before .number-in .ensures .0 ∙ ap numberIn (c .before .before .before .before .before .before .before .before .field-of .ensures .1)) (c .before .before .before .before .before .before .record-in .ensures) (c .before .before .before .before .before .push-row .ensures) (c .before .before .put-cells .ensures)
+    let found = at-find c in
+    let at-put = c .before .before in
+    let at-field = at-put .before .before in
+    let at-push = at-field .before in
+    let at-record = at-push .before in
+    let at-wood = at-record .before in
+    let at-number = at-wood .before in
+    let count = at-number .number-in .ensures .0 ∙ ap numberIn (at-number .before .field-of .ensures .1) in
+    one-more (found .before .before .loop .inv) (omega (arith, startOf found .pre .1, startOf found .pre .2)) (found .find .result) (here found) (at-field .field-of2 .ensures) count (at-wood .wood-in .ensures) (at-record .record-in .ensures) (at-push .push-row .ensures) (at-put .put-cells .ensures)
 
 same-length : tie.Need-same-length Inv-loop μ-loop
 same-length c = cells-kept (c .before .loop .inv) (omega arith)
@@ -129,6 +125,7 @@ read-pieces-spec =
     find-requires
     field-of-requires
     number-in-requires
+    wood-in-requires
     cast-record-in
     record-in-requires
     push-row-requires

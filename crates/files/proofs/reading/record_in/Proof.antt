@@ -40,7 +40,7 @@ number-in-requires-3 c κs =
 returns : tie.Need-returns
 returns c =
     let a = c .before .before .before .before .before .before .before .args in
-    record-is (a .count) (a .n) (a .start) (stretch (a .line) (a .text .now)) (c .before .before .before .before .number-in .ensures .0) (c .before .before .before .before .before .field-of .ensures .1) (c .before .before .number-in2 .ensures .0) (c .before .before .before .field-of2 .ensures .1) (c .number-in3 .ensures .0) (c .before .field-of3 .ensures .1)
+    record-is (a .count) (a .wood) (a .n) (a .start) (stretch (a .line) (a .text .now)) (c .before .before .before .before .number-in .ensures .0) (c .before .before .before .before .before .field-of .ensures .1) (c .before .before .number-in2 .ensures .0) (c .before .before .before .field-of2 .ensures .1) (c .number-in3 .ensures .0) (c .before .field-of3 .ensures .1)
 
 pub record-in-spec : {M : Type 1} → statement M
 record-in-spec =

@@ -6,9 +6,8 @@ use borrow.Author.Needs.{needs}
 use denote.Ref.{now}
 use lib.ListN.{length, getD, take, length-set}
 use lib.Seq.{paste, paste-zero, lt-length-set}
-use Rattle.definitions.specs.Maps.{mapOf, mapGrid}
-use Rattle.definitions.specs.Kinds.{smallest}
-use Rattle.placements.specs.Merging.{copiesAt, gridAt}
+use Rattle.definitions.specs.Maps.{mapOf}
+use Rattle.placements.specs.Merging.{copiesAt, movedForm}
 use Rattle.placements.proofs.RefusalLaws.{rows-long}
 use Rattle.rows.proofs.PairLaws.{pairs}
 use Rattle.rows.proofs.KindListLaws.{partnerAt, lent-sound, kind-piece, copies-fit, number-fits, kind-next, kinds-end}
@@ -61,7 +60,7 @@ cast-kinds-2 : tie.Need-cast-kinds-2 Inv-loop μ-loop
 cast-kinds-2 c =
     let z = c .before .before .before .before .before .before .before .before in
     let a = z .args in
-    omega (arith, c .kind-of .ensures, number-fits _ _ _ _ _ (rows-long (a .t) (z .good .0)) (z .pre .0) (z .pre .1) (z .pre .2) (smallest (mapGrid (mapOf 26) (gridAt (a .t) (now (a .bytes)) (getD (now (a .first)) (c .before .before .before .before .loop .k) 0)))))
+    omega (arith, c .kind-of .ensures, number-fits _ _ _ _ _ (rows-long (a .t) (z .good .0)) (z .pre .0) (z .pre .1) (z .pre .2) (movedForm (mapOf 26) (a .t) (now (a .bytes)) (getD (now (a .first)) (c .before .before .before .before .loop .k) 0)))
 
 mul-kinds-2 : tie.Need-mul-kinds-2 Inv-loop μ-loop
 mul-kinds-2 c = search needs

@@ -7,9 +7,8 @@ use denote.Ref.{now}
 use lib.ListN.{length, length-set}
 use lib.Seq.{paste, paste-zero, lt-length-set}
 use Rattle.definitions.specs.Lists.{below}
-use Rattle.definitions.specs.Maps.{mapOf, mapGrid}
-use Rattle.definitions.specs.Kinds.{smallest}
-use Rattle.placements.specs.Merging.{gridAt}
+use Rattle.definitions.specs.Maps.{mapOf}
+use Rattle.placements.specs.Merging.{movedForm}
 use Rattle.placements.proofs.RefusalLaws.{rows-long}
 use Rattle.rows.proofs.PairLaws.{pairs}
 use Rattle.rows.proofs.KindListLaws.{kindAt, countAt, lent-sound, count-fits, number-fits, piece-next, pieces-end}
@@ -47,7 +46,7 @@ cast-pieces : tie.Need-cast-pieces Inv-loop μ-loop
 cast-pieces c =
     let z = c .before .before .before .before .before .before .before in
     let a = z .args in
-    omega (arith, c .kind-of .ensures, number-fits _ _ _ _ _ (rows-long (a .t1) (z .good .0)) (z .pre .0) (z .pre .1) (z .pre .2) (smallest (mapGrid (mapOf 0) (gridAt (a .t1) (now (a .bytes)) (c .before .before .before .loop .i)))))
+    omega (arith, c .kind-of .ensures, number-fits _ _ _ _ _ (rows-long (a .t1) (z .good .0)) (z .pre .0) (z .pre .1) (z .pre .2) (movedForm (mapOf 0) (a .t1) (now (a .bytes)) (c .before .before .before .loop .i)))
 
 mul-pieces : tie.Need-mul-pieces Inv-loop μ-loop
 mul-pieces c = omega (arith, few (c .before .before .before .before .before .before .before))

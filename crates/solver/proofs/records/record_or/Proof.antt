@@ -63,9 +63,9 @@ past [] i l = refl
 past (p ∷ ps) zero l = absurd (not-suc-le-zero l)
 past (p ∷ ps) (suc i) l = past ps i (le-of-suc-le-suc l)
 
--- the record of zeros has the machine value of five zeros
+-- the record of zeros has the machine value of six zeros
 is-zeros : Is T.the-row noRecord (LL.vals T.the-type T′.the-laws noRecord)
-is-zeros = LL.owes T.the-type T′.the-laws noRecord ((refl, lit< tt), ((refl, lit< tt), ((refl, lit< tt), ((refl, lit< tt), ((refl, lit< tt), tt)))))
+is-zeros = LL.owes T.the-type T′.the-laws noRecord ((refl, lit< tt), ((refl, lit< tt), ((refl, lit< tt), ((refl, lit< tt), ((refl, lit< tt), ((refl, lit< tt), tt))))))
 
 -- a `&[Record]` as MIR writes it
 abbrev Slices : Ty
@@ -143,7 +143,7 @@ module _ {M : Type 1} (𝓤 : URA M) (H : Heap 𝓤) (A : Atoms 𝓤) (W : Given
         leaves C Λ l₀ l₁ l₂ l₃ l₄ l₅ l₆ l₇ l₈ (getD (s .now) i noRecord) refl g)))
         -- i is at the end or past it
         (λ big.
-        assigns-last ! (agg ! (and-then ! (lit ! tt) (and-then ! (lit ! tt) (and-then ! (lit ! tt) (and-then ! (lit ! tt) (and-then ! (lit ! tt) (no-more !))))))) (from ! (stop !)) (init ! 6 refl (LL.lawful T.the-type T′.the-laws 𝓤 H A W .typed noRecord _ is-zeros .0)) $
+        assigns-last ! (agg ! (and-then ! (lit ! tt) (and-then ! (lit ! tt) (and-then ! (lit ! tt) (and-then ! (lit ! tt) (and-then ! (lit ! tt) (and-then ! (lit ! tt) (no-more !)))))))) (from ! (stop !)) (init ! 6 refl (LL.lawful T.the-type T′.the-laws 𝓤 H A W .typed noRecord _ is-zeros .0)) $
         exec ! C Λ (E C Λ l₀ l₁ l₂ l₃ l₄ l₅ l₆ l₇ l₈) body.t-4 (atRet (E C Λ l₀ l₁ l₂ l₃ l₄ l₅ l₆ l₇ l₈) Post) $
         forget ! 8 refl $ forget ! 10 refl $ forget ! 12 refl $ forget ! 14 refl $ move ! (18 ∷ 19 ∷ []) $
         leaves C Λ l₀ l₁ l₂ l₃ l₄ l₅ l₆ l₇ l₈ noRecord (sym (past (s .now) i (nltb→le i (length (s .now)) big))) is-zeros))))))))))
