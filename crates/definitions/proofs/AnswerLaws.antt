@@ -12,7 +12,7 @@ use Rattle.definitions.proofs.CountLaws.{howMany-length}
 use Rattle.definitions.specs.Grid.{Cell, box, volume, InBox}
 use Rattle.definitions.proofs.MapLaws.{box-of}
 use Rattle.definitions.specs.Scan.{scanNumber}
-use Rattle.definitions.specs.Kinds.{Tray, Piece, Form, sameForm, formAhead, Sorted, sortPiece, sorted, forms, Copy, copiesOf, Kind, kindsOf, formOf}
+use Rattle.definitions.specs.Kinds.{Tray, Piece, Form, sameForm, formAhead, Sorted, sortPiece, sorted, forms, Copy, copyOf, copiesOfPiece, copiesOf, Kind, kindsOf, formOf}
 use Rattle.definitions.specs.Placements.{Placement, Compiled, compile}
 use Rattle.definitions.specs.Packing.{ahead, used, limits, Packing}
 use Rattle.definitions.proofs.PackingLaws.{ahead-trans, ahead-irrefl, packing-placed, packing-once, packing-at, packing-within}
@@ -230,24 +230,21 @@ module _ (t : Tray) where
       apart-ascending (λ (x y : Sorted). ltb (x .piece) (y .piece)) (λ x s. ltb-irrefl (x .piece) s) (numbered (t .pieces) sortPiece)
       (numbered-ascending sortPiece (λ (x y : Sorted). ltb (x .piece) (y .piece)) (λ n m x y h. lt→ltb n m h) 0 (t .pieces))
 
-  copy-of : Sorted → ℕ → Copy
-  copy-of q n = record { piece = q .piece; copy = n }
-
   copies-at : (f : Form) (x : Copy) → List·Memᴰ x (copiesOf (sorted t) f) → (q : Sorted) × List·Memᴰ q (sorted t) × (q .form ≡ f) × (x .piece ≡ q .piece)
-  unfolding copiesOf copy-of
+  unfolding copiesOf
   copies-at f x m =
-      let r = each-at (λ (q : Sorted). map (copy-of q) (below (q .count))) (keep (λ (q : Sorted). sameForm (q .form) f) (sorted t)) m in
+      let r = each-at copiesOfPiece (keep (λ (q : Sorted). sameForm (q .form) f) (sorted t)) m in
       let k = keep-at (λ (q : Sorted). sameForm (q .form) f) (sorted t) (r .1) in
-      let n = Memᴰ·of-map (copy-of (r .0)) (below (r .0 .count)) (r .2) in
+      let n = Memᴰ·of-map (copyOf (r .0)) (below (r .0 .count)) (r .2) in
       (r .0, k .0, sameForm→eq (r .0 .form) f (k .1), sym (ap (λ (z : Copy). z .piece) (n .2)))
 
   -- a copy is numbered below the count of the piece that it is of
   copy-below : (f : Form) (x : Copy) → List·Memᴰ x (copiesOf (sorted t) f) → (q : Piece) × Nth (t .pieces) (x .piece) q × (x .copy < q .count)
-  unfolding copiesOf copy-of sorted
+  unfolding copiesOf sorted
   copy-below f x m =
-      let r = each-at (λ (q : Sorted). map (copy-of q) (below (q .count))) (keep (λ (q : Sorted). sameForm (q .form) f) (sorted t)) m in
+      let r = each-at copiesOfPiece (keep (λ (q : Sorted). sameForm (q .form) f) (sorted t)) m in
       let k = keep-at (λ (q : Sorted). sameForm (q .form) f) (sorted t) (r .1) in
-      let n = Memᴰ·of-map (copy-of (r .0)) (below (r .0 .count)) (r .2) in
+      let n = Memᴰ·of-map (copyOf (r .0)) (below (r .0 .count)) (r .2) in
       let y = numbered-at sortPiece 0 (t .pieces) (k .0) in
       let e : x .piece ≡ y .0 = let p = ap (λ (z : Copy). z .piece) (n .2) in let i = ap (λ (z : Sorted). z .piece) (y .3) in omega arith in
       let o₁ : r .0 .count ≡ y .1 .count = ap (λ (z : Sorted). z .count) (y .3) in
@@ -256,13 +253,13 @@ module _ (t : Tray) where
       (y .1, subst (λ (i : ℕ). Nth (t .pieces) i (y .1)) (sym e) (y .2), omega arith)
 
   copies-apart : (f : Form) → Apart (copiesOf (sorted t) f)
-  unfolding copiesOf copy-of
+  unfolding copiesOf
   copies-apart f =
-      apart-each (λ (q : Sorted). map (copy-of q) (below (q .count))) (keep (λ (q : Sorted). sameForm (q .form) f) (sorted t)) (apart-keep (λ (q : Sorted). sameForm (q .form) f) (sorted t) sorted-apart)
-      (λ q m. apart-map-in (copy-of q) (below (q .count)) (apart-ascending ltb ltb-irrefl (below (q .count)) (from-ascending 0 (q .count))) (λ a b k l e. ap (λ (z : Copy). z .copy) e))
+      apart-each copiesOfPiece (keep (λ (q : Sorted). sameForm (q .form) f) (sorted t)) (apart-keep (λ (q : Sorted). sameForm (q .form) f) (sorted t) sorted-apart)
+      (λ q m. apart-map-in (copyOf q) (below (q .count)) (apart-ascending ltb ltb-irrefl (below (q .count)) (from-ascending 0 (q .count))) (λ a b k l e. ap (λ (z : Copy). z .copy) e))
       (λ q r m k x a b.
-      let n = Memᴰ·of-map (copy-of q) (below (q .count)) a in
-      let o = Memᴰ·of-map (copy-of r) (below (r .count)) b in
+      let n = Memᴰ·of-map (copyOf q) (below (q .count)) a in
+      let o = Memᴰ·of-map (copyOf r) (below (r .count)) b in
       same-piece q r (keep-at (λ (z : Sorted). sameForm (z .form) f) (sorted t) m .0) (keep-at (λ (z : Sorted). sameForm (z .form) f) (sorted t) k .0) (ap (λ (z : Copy). z .piece) (n .2 ∙ sym (o .2))))
 
   copies-are : (d : Kind) → List·Memᴰ d (kindsOf t) → d .copies ≡ copiesOf (sorted t) (formOf d)

@@ -12,7 +12,7 @@ use Rattle.definitions.proofs.ListLaws.{and-left, and-right, and-both, 
 use Rattle.definitions.specs.Grid.{Cell, Grid, volume, filledCells, gridAhead}
 use Rattle.definitions.specs.Maps.{Map, mapGrid, turns, mirrorings, mirror, product}
 use Rattle.definitions.specs.Scan.{axes, cellAhead}
-use Rattle.definitions.specs.Kinds.{Piece, Tray, variants, smallest, Form, sameForm, formAhead, Sorted, sortPiece, sorted, forms, Copy, copiesOf, mirroredForm, partnerOf, Kind, kindNamed, kindsOf, formOf}
+use Rattle.definitions.specs.Kinds.{Piece, Tray, variants, smallest, Form, sameForm, formAhead, Sorted, sortPiece, sorted, forms, Copy, copyOf, copiesOfPiece, copiesOf, mirroredForm, partnerOf, Kind, kindNamed, kindsOf, formOf}
 use Rattle.definitions.specs.Placements.{Compiled, compile}
 use Rattle.definitions.specs.Moves.{Move, isOdd, gridAfter}
 use Rattle.definitions.specs.Moves.Move.{turn, mirroring}
@@ -284,19 +284,13 @@ module _ (l : Call) (ok : refusal l ≡ 0) where
   abbrev ofForm : Form → Sorted → Bool
   ofForm f q = sameForm (q .form) f
 
-  copy-of : Sorted → ℕ → Copy
-  copy-of q n = record { piece = q .piece; copy = n }
-
-  abbrev copiesFrom : Sorted → List Copy
-  copiesFrom q = map (copy-of q) (below (q .count))
-
-  copies-are : (k : ℕ) (g : Form) → Nth G k g → kindAt C k .copies ≡ each (keep (ofForm g) (sorted T₀)) copiesFrom
-  unfolding made copiesOf copy-of
+  copies-are : (k : ℕ) (g : Form) → Nth G k g → kindAt C k .copies ≡ each (keep (ofForm g) (sorted T₀)) copiesOfPiece
+  unfolding made copiesOf
   copies-are k g h = ap (λ (d : Kind). d .copies) (kind-made k g h)
 
   pub copies-lent : (k : ℕ) (x : Copy) → k < length (compile (trayOf l) .kinds)
       → List·Memᴰ x (kindAt (compile (trayOf l)) k .copies) ↔ ((x .piece < length (trayOf l .pieces)) × (kindNumber (x .piece) ≡ k) × (x .copy < pieceAt (trayOf l) (x .piece) .count))
-  unfolding copy-of formAt
+  unfolding formAt
   copies-lent k x h = (there, back)
     where
       g : Form
@@ -310,9 +304,9 @@ module _ (l : Call) (ok : refusal l ≡ 0) where
 
       there : List·Memᴰ x (kindAt C k .copies) → Lent (x .piece)
       there m =
-          let r = each-at copiesFrom (keep (ofForm g) (sorted T₀)) (subst (λ (xs : List Copy). List·Memᴰ x xs) (copies-are k g at-k) m) in
+          let r = each-at copiesOfPiece (keep (ofForm g) (sorted T₀)) (subst (λ (xs : List Copy). List·Memᴰ x xs) (copies-are k g at-k) m) in
           let s = keep-at (ofForm g) (sorted T₀) (r .1) in
-          let c = Memᴰ·of-map (copy-of (r .0)) (below (r .0 .count)) (r .2) in
+          let c = Memᴰ·of-map (copyOf (r .0)) (below (r .0 .count)) (r .2) in
           let p = sorted-at (r .0) (s .0) in
           let e : p .0 ≡ x .piece = sym (ap (λ (q : Sorted). q .piece) (p .2)) ∙ ap (λ (y : Copy). y .piece) (c .2) in
           let f : formAt (p .0) ≡ g = sym (ap (λ (q : Sorted). q .form) (p .2)) ∙ sameForm→eq (r .0 .form) g (s .1) in
@@ -326,7 +320,7 @@ module _ (l : Call) (ok : refusal l ≡ 0) where
           let a : Nth G k (formAt (x .piece)) = subst (λ (n : ℕ). Nth G n (formAt (x .piece))) (r .1) (number-nth (x .piece) (r .0)) in
           let f : formAt (x .piece) ≡ g = nth-unique G k (formAt (x .piece)) g a at-k in
           subst (λ (xs : List Copy). List·Memᴰ x xs) (sym (copies-are k g at-k))
-          (each-of copiesFrom (keep (ofForm g) (sorted T₀)) (keep-of (ofForm g) (sorted T₀) (sorted-of (x .piece) (r .0)) (sameForm-of f)) (Memᴰ·map (copy-of q) (below-of (q .count) (r .2))))
+          (each-of copiesOfPiece (keep (ofForm g) (sorted T₀)) (keep-of (ofForm g) (sorted T₀) (sorted-of (x .piece) (r .0)) (sameForm-of f)) (Memᴰ·map (copyOf q) (below-of (q .count) (r .2))))
 
   -- pieces by number, and each piece's copies from 0
   abbrev lentFirst : Sorted → Sorted → Bool
@@ -336,17 +330,17 @@ module _ (l : Call) (ok : refusal l ≡ 0) where
   unfolding sorted
   sorted-up = numbered-ascending sortPiece lentFirst (λ n m x y h. lt→ltb n m h) 0 (T₀ .pieces)
 
-  copy-next : (q : Sorted) (a b : ℕ) → T (ltb a b) → T (copyAhead (copy-of q a) (copy-of q b))
-  unfolding copyAhead copy-of
+  copy-next : (q : Sorted) (a b : ℕ) → T (ltb a b) → T (copyAhead (copyOf q a) (copyOf q b))
+  unfolding copyAhead
   copy-next q a b t =
       or-right (ltb (q .piece) (q .piece)) (eqb (q .piece) (q .piece) && less (a ∷ []) (b ∷ []))
       (and-both (eqb (q .piece) (q .piece)) (less (a ∷ []) (b ∷ [])) (eqb-refl (q .piece)) (or-left (ltb a b) (eqb a b && less [] []) t))
 
-  copy-later : (q r : Sorted) → T (lentFirst q r) → (x y : Copy) → List·Memᴰ x (copiesFrom q) → List·Memᴰ y (copiesFrom r) → T (copyAhead x y)
-  unfolding copyAhead copy-of
+  copy-later : (q r : Sorted) → T (lentFirst q r) → (x y : Copy) → List·Memᴰ x (copiesOfPiece q) → List·Memᴰ y (copiesOfPiece r) → T (copyAhead x y)
+  unfolding copyAhead
   copy-later q r t x y m k =
-      let a = Memᴰ·of-map (copy-of q) (below (q .count)) m in
-      let b = Memᴰ·of-map (copy-of r) (below (r .count)) k in
+      let a = Memᴰ·of-map (copyOf q) (below (q .count)) m in
+      let b = Memᴰ·of-map (copyOf r) (below (r .count)) k in
       let e : T (ltb (x .piece) (y .piece)) = subst (λ (z : Copy). T (ltb (z .piece) (y .piece))) (a .2) (subst (λ (z : Copy). T (ltb (q .piece) (z .piece))) (b .2) t) in
       or-left (ltb (x .piece) (y .piece)) (eqb (x .piece) (y .piece) && less (x .copy ∷ []) (y .copy ∷ [])) e
 
@@ -354,5 +348,5 @@ module _ (l : Call) (ok : refusal l ≡ 0) where
   copies-in-order k h =
       let r = kind-nth k h in
       subst (λ (xs : List Copy). T (ascending copyAhead xs)) (sym (copies-are k (r .0) (r .1)))
-      (each-ascending lentFirst copyAhead copiesFrom (keep (ofForm (r .0)) (sorted T₀)) (keep-ascending lentFirst (ofForm (r .0)) (sorted T₀) sorted-up)
-      (λ q m. map-up ltb copyAhead (copy-of q) (copy-next q) (below (q .count)) (from-ascending 0 (q .count))) (λ x y m k t. copy-later x y t))
+      (each-ascending lentFirst copyAhead copiesOfPiece (keep (ofForm (r .0)) (sorted T₀)) (keep-ascending lentFirst (ofForm (r .0)) (sorted T₀) sorted-up)
+      (λ q m. map-up ltb copyAhead (copyOf q) (copy-next q) (below (q .count)) (from-ascending 0 (q .count))) (λ x y m k t. copy-later x y t))

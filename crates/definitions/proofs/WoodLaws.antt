@@ -11,7 +11,7 @@ use Rattle.definitions.proofs.ListLaws.{is-true, is-false, ltb-irrefl, 
 use Rattle.definitions.specs.Grid.{Cell, Grid, box, sameGrid, gridAhead}
 use Rattle.definitions.specs.Maps.{mapGrid, mapCell, mirror, turns, mirrorings}
 use Rattle.definitions.specs.Scan.{axes, scan, scanNumber}
-use Rattle.definitions.specs.Kinds.{Piece, Tray, smallest, Form, pieceForm, sameForm, formAhead, Sorted, sortPiece, sorted, forms, Copy, copiesFrom, copiesOf, mirroredForm, partnerOf, Kind, kindNamed, kindsOf, formOf}
+use Rattle.definitions.specs.Kinds.{Piece, Tray, smallest, Form, pieceForm, sameForm, formAhead, Sorted, sortPiece, sorted, forms, Copy, copiesOfPiece, copiesOf, mirroredForm, partnerOf, Kind, kindNamed, kindsOf, formOf}
 use Rattle.definitions.specs.Placements.{Placement, Compiled, placementsOf, compile}
 use Rattle.definitions.specs.Packing.{ahead, limits, placed, coversOnce, withinCopies, used, isPacking}
 use Rattle.definitions.specs.Kept.{compared, smaller, kindAfter, cellAfter, moved, image, symmetries, turnedImages, mirroredImages, images, kept, Identify}
@@ -229,7 +229,7 @@ kindOfShape w t g =
       shape = g;
       wood = w;
       partner = before (sameGrid (smallest (mapGrid mirror g))) (smallestOf t);
-      copies = each (keep (λ q. sameGrid (q .form .grid) g) (sorted t)) copiesFrom;
+      copies = each (keep (λ q. sameGrid (q .form .grid) g) (sorted t)) copiesOfPiece;
     }
 
 forms-sorted : (i : ℕ) (qs : List Piece) → map (λ (q : Sorted). q .form) (numberedFrom i qs sortPiece) ≡ map pieceForm qs
@@ -250,10 +250,10 @@ module _ (t : Tray) (w : ℕ) (one : (q : Piece) → List·Memᴰ q (t .pieces) 
   unfolding sorted
   sorted-wood x m = let r = numbered-at sortPiece 0 (t .pieces) m in ap (λ (y : Sorted). y .form .wood) (r .3) ∙ one (r .1) (nth-mem (t .pieces) (r .0) (r .2))
 
-  copies-are : (g : Grid) → copiesOf (sorted t) (ofWood w g) ≡ each (keep (λ q. sameGrid (q .form .grid) g) (sorted t)) copiesFrom
+  copies-are : (g : Grid) → copiesOf (sorted t) (ofWood w g) ≡ each (keep (λ q. sameGrid (q .form .grid) g) (sorted t)) copiesOfPiece
   unfolding copiesOf ofWood
   copies-are g =
-      ap (λ (xs : List Sorted). each xs copiesFrom)
+      ap (λ (xs : List Sorted). each xs copiesOfPiece)
       (keep-same (λ (q : Sorted). sameForm (q .form) (ofWood w g)) (λ (q : Sorted). sameGrid (q .form .grid) g) (sorted t)
       (λ x m. ap (λ (n : ℕ). sameForm (record { grid = x .form .grid; wood = n }) (ofWood w g)) (sorted-wood x m) ∙ form-same w (x .form .grid) g))
 
@@ -282,12 +282,12 @@ module _ (t : Tray) where
   unfolding smallestOf unwooded woodless
   shapes-bare = ap (sort gridAhead) (map-map-of (λ (q : Piece). smallest (q .grid)) woodless (t .pieces))
 
-  copies-bare : (g : Grid) → each (keep (λ q. sameGrid (q .form .grid) g) (sorted (unwooded t))) copiesFrom ≡ each (keep (λ q. sameGrid (q .form .grid) g) (sorted t)) copiesFrom
+  copies-bare : (g : Grid) → each (keep (λ q. sameGrid (q .form .grid) g) (sorted (unwooded t))) copiesOfPiece ≡ each (keep (λ q. sameGrid (q .form .grid) g) (sorted t)) copiesOfPiece
   unfolding sorted unwooded unwoodSorted
   copies-bare g =
-      ap (λ (xs : List Sorted). each (keep (λ q. sameGrid (q .form .grid) g) xs) copiesFrom) (sorted-bare 0 (t .pieces))
-      ∙ ap (λ (xs : List Sorted). each xs copiesFrom) (keep-map unwoodSorted (λ (q : Sorted). sameGrid (q .form .grid) g) (sorted t))
-      ∙ each-map unwoodSorted copiesFrom (keep (λ (q : Sorted). sameGrid (q .form .grid) g) (sorted t))
+      ap (λ (xs : List Sorted). each (keep (λ q. sameGrid (q .form .grid) g) xs) copiesOfPiece) (sorted-bare 0 (t .pieces))
+      ∙ ap (λ (xs : List Sorted). each xs copiesOfPiece) (keep-map unwoodSorted (λ (q : Sorted). sameGrid (q .form .grid) g) (sorted t))
+      ∙ each-map unwoodSorted copiesOfPiece (keep (λ (q : Sorted). sameGrid (q .form .grid) g) (sorted t))
 
   bare-woods : (q : Piece) → List·Memᴰ q (unwooded t .pieces) → q .wood ≡ 0
   unfolding unwooded woodless

@@ -58,11 +58,14 @@ pub record Copy : Type 0 where
   pub piece : ℕ
   pub copy : ℕ
 
-abbrev pub copiesFrom : Sorted → List Copy
-copiesFrom q = map (λ n. record { piece = q .piece; copy = n }) (below (q .count))
+abbrev pub copyOf : Sorted → ℕ → Copy
+copyOf q n = record { piece = q .piece; copy = n }
+
+abbrev pub copiesOfPiece : Sorted → List Copy
+copiesOfPiece q = map (copyOf q) (below (q .count))
 
 unfoldable pub copiesOf : List Sorted → Form → List Copy
-copiesOf qs f = each (keep (λ q. sameForm (q .form) f) qs) copiesFrom
+copiesOf qs f = each (keep (λ q. sameForm (q .form) f) qs) copiesOfPiece
 
 -- "A kind's mirror partner is the kind of its mirrored grids, itself or another", and "must have the same wood": its number, or the number of kinds where
 -- there is none.

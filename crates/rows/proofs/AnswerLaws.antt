@@ -10,7 +10,7 @@ use lib.ListN.{length, getD, length-map}
 use Rattle.definitions.specs.Lists.{consIf, keep, joined, numberedFrom, from, below, before, each, ascending}
 use Rattle.definitions.specs.Grid.{box}
 use Rattle.definitions.specs.Scan.{scanNumber}
-use Rattle.definitions.specs.Kinds.{Tray, Piece, Form, pieceForm, sameForm, formAhead, Sorted, sortPiece, Copy, Kind, sorted, forms, copiesOf, kindNamed, kindsOf}
+use Rattle.definitions.specs.Kinds.{Tray, Piece, Form, pieceForm, sameForm, formAhead, Sorted, sortPiece, Copy, Kind, sorted, forms, copiesOfPiece, copiesOf, kindNamed, kindsOf}
 use Rattle.definitions.specs.Placements.{Placement, compile}
 use Rattle.definitions.specs.Packing.{Packing, limits}
 use Rattle.definitions.specs.Answers.{Taken, takes, taken, copyOn, answer}
@@ -53,11 +53,8 @@ module _ (t : Tray) where
   abbrev own : Piece → Owned
   own q = record { kind = before (sameForm (pieceForm q)) (forms (sorted t)); count = q .count }
 
-  abbrev copiesAs : Sorted → List Copy
-  copiesAs q = map (λ n. record { piece = q .piece; copy = n }) (below (q .count))
-
   module _ (k : ℕ) (g : Form) (m : Nth (forms (sorted t)) k g) where
-    by-pieces : (i : ℕ) (ps : List Piece) → joined (numberedFrom i (map own ps) (λ j q. copiesIf (eqb (q .kind) k) j (q .count))) ≡ each (keep (λ q. sameForm (q .form) g) (numberedFrom i ps sortPiece)) copiesAs
+    by-pieces : (i : ℕ) (ps : List Piece) → joined (numberedFrom i (map own ps) (λ j q. copiesIf (eqb (q .kind) k) j (q .count))) ≡ each (keep (λ q. sameForm (q .form) g) (numberedFrom i ps sortPiece)) copiesOfPiece
     by-pieces i [] = refl
     by-pieces i (p ∷ ps) = go (eqb (before (sameForm (pieceForm p)) shown) k) (sameForm (pieceForm p) g) (same-number k g m (pieceForm p)) (by-pieces (suc i) ps)
       where
@@ -67,8 +64,8 @@ module _ (t : Tray) where
         right : List Sorted
         right = keep (λ q. sameForm (q .form) g) (numberedFrom (suc i) ps sortPiece)
 
-        go : (a b : Bool) → a ≡ b → left ≡ each right copiesAs → copiesIf a i (p .count) ++ left ≡ each (consIf b (sortPiece i p) right) copiesAs
-        go true true e r = ap (λ (l : List Copy). copiesAs (sortPiece i p) ++ l) r
+        go : (a b : Bool) → a ≡ b → left ≡ each right copiesOfPiece → copiesIf a i (p .count) ++ left ≡ each (consIf b (sortPiece i p) right) copiesOfPiece
+        go true true e r = ap (λ (l : List Copy). copiesOfPiece (sortPiece i p) ++ l) r
         go true false e r = cc
         go false true e r = cc
         go false false e r = r
