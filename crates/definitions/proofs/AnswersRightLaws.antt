@@ -11,7 +11,7 @@ use Rattle.definitions.proofs.ListLaws.{keep-at, keep-none, keep-ascend
 use Rattle.definitions.proofs.CountLaws.{howMany-keep}
 use Rattle.definitions.specs.Grid.{Sides, Cell, InBox, box, placeOf, byteAt, gridWith, filledCells, sameCell}
 use Rattle.definitions.proofs.MapLaws.{cell-path, place-lt, byte-with, filled-at}
-use Rattle.definitions.proofs.MoveLaws.{length-box}
+use Rattle.definitions.proofs.GridLaws.{length-box}
 use Rattle.definitions.specs.Scan.{scanNumber}
 use Rattle.definitions.specs.Kinds.{Copy, Kind}
 use Rattle.definitions.specs.Placements.{Placement, Compiled, compile}

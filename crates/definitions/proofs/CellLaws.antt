@@ -20,7 +20,8 @@ use Rattle.definitions.specs.Placements.{origin, lies, reaches, fits, Pl
 use Rattle.definitions.proofs.SearchLaws.{WellMade}
 use Rattle.definitions.proofs.EngineLaws.{sort-at}
 use Rattle.definitions.proofs.WellMadeLaws.{Nth, nth-mem, nth-below, getD-nth, Made, ShapeFacts, from-made, up-board, nth-number, mem-nth, number-below, lies-on, lies-coordinate, the-variant, kind-in, some-cells, up-variant, cell-trans, cell-irrefl, scan-ascending}
-use Rattle.definitions.proofs.ShapeLaws.{sort-of, cells-tied, variant-at, smallest-at, kind-at, byte-bit}
+use Rattle.definitions.proofs.ShapeLaws.{sort-of, cells-tied, variant-at, smallest-at, kind-at}
+use Rattle.definitions.proofs.GridLaws.{byte-bit}
 use Rattle.definitions.specs.Refusals.{areBits, filledWhere, isTight}
 use Rattle.definitions.proofs.MoveLaws.{mapped-whole, mapped-bits}
 use Rattle.definitions.proofs.KeptLaws.{same-rank}

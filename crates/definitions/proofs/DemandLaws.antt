@@ -12,7 +12,7 @@ use lib.Seq.{length-front, length-take-le}
 use Rattle.definitions.specs.Lists.{all, keep, each, joined, headOr, member, sum, ascending, Apart}
 use Rattle.definitions.proofs.ListLaws.{and-left, and-right, all-of, keep-at, each-at, keep-ascending}
 use Rattle.definitions.specs.Grid.{Cell, box, volume}
-use Rattle.definitions.proofs.MoveLaws.{length-box}
+use Rattle.definitions.proofs.GridLaws.{length-box}
 use Rattle.definitions.specs.Scan.{scanNumber}
 use Rattle.definitions.specs.Kinds.{Tray, Piece, Copy, Kind}
 use Rattle.definitions.specs.Placements.{Placement, Compiled, compile}
@@ -22,7 +22,7 @@ use Rattle.definitions.specs.Kept.Identify.{None}
 use Rattle.definitions.specs.Orders.{listed, packings, fastList, fastAhead}
 use Rattle.definitions.specs.Answers.{Taken, taken, copyOn, answer}
 use Rattle.definitions.specs.Page.{page}
-use Rattle.definitions.specs.Refusals.{Call, sidesOf, gridOf, trayOf, identifyOf, isSide, sidesFit, copyCount, isPorted, isKnuth, refusal, pieceOf}
+use Rattle.definitions.specs.Refusals.{Call, sidesOf, gridOf, lentOf, trayOf, identifyOf, isSide, sidesFit, copyCount, isPorted, isKnuth, refusal, pieceOf}
 use Rattle.definitions.specs.Outcomes.{Outcome, answersOf, answerSize, capacity, pageOf, overStart, cleared, accepted, outcome}
 use Rattle.definitions.specs.Demands.{Stretch, Pages, placementsIn, coverAnswer, Covers, Demand2, demand2, OneList, demand3}
 use Rattle.definitions.specs.declared.SolverKind.{SolverKind}
@@ -91,7 +91,7 @@ answer-length c P =
 -- ---- pages
 module _ (l : Call) (ok : refusal l ≡ 0) where
   abbrev size : ℕ
-  size = answerSize (trayOf l .board .sides)
+  size = answerSize (sidesOf (l .board))
 
   -- a side is at least 1
   side-pos : (n : ℕ) → T (isSide n) → 0 < n
@@ -99,7 +99,7 @@ module _ (l : Call) (ok : refusal l ≡ 0) where
   side-pos n t = leb→le 1 n (and-left (leb 1 n) (leb n 8) t)
 
   size-pos : 0 < size
-  unfolding answerSize trayOf gridOf sidesOf volume sidesFit
+  unfolding answerSize sidesOf volume sidesFit
   size-pos =
       let t = board-sides l ok in
       let a = side-pos (l .board .a) (and-left (isSide (l .board .a)) (isSide (l .board .b) && isSide (l .board .c)) t) in
@@ -124,11 +124,11 @@ module _ (l : Call) (ok : refusal l ≡ 0) where
     room = capacity l
 
     fit : room * size ≤ length (l .answers)
-    unfolding capacity trayOf gridOf
+    unfolding capacity
     fit = div-mul-le-self (length (l .answers)) size
 
     no-more : length (l .answers) < (room + 1) * size
-    unfolding capacity trayOf gridOf
+    unfolding capacity
     no-more =
         let a = lt-div-mul-add {a = length (l .answers)} size-pos in
         let b = add-mul (length (l .answers) / size) 1 size in
@@ -204,11 +204,16 @@ answers-sized t i e x m =
     let r = Memᴰ·of-map (answer (compile t)) (listed (compile t) i e) m in
     ap length (sym (r .2)) ∙ answer-length (compile t) (r .0)
 
+-- the box of the tray is the one that was lent
+box-lent : (l : Call) → trayOf l .board .sides ≡ sidesOf (l .board)
+unfolding trayOf lentOf gridOf
+box-lent l = refl
+
 pub pages-of : (t : Tray) (i : Identify) (e : SolverKind) → Pages outcome t i e (answersOf t i e)
 unfolding Pages
 pages-of t i e l h =
     stretch l (h .notRefused) (answersOf t i e)
-    (λ x m. answers-sized t i e x m ∙ ap (λ (u : Tray). answerSize (u .board .sides)) (sym (h .tray)))
+    (λ x m. answers-sized t i e x m ∙ ap (λ (u : Tray). answerSize (u .board .sides)) (sym (h .tray)) ∙ ap answerSize (box-lent l))
     (sym (λ k. answersOf (h .tray k) (h .identification k) (h .engine k)))
 
 -- ---- copies fit a byte
@@ -223,11 +228,15 @@ member-sum f (p ∷ qs) q m = go (List·Memᴰ·cases-cons m) (λ (k : List·Mem
 -- in an accepted tray piece numbers are below 16 and copy numbers below 128
 module _ (l : Call) (ok : refusal l ≡ 0) where
   few-pieces : length (trayOf l .pieces) ≤ 16
-  unfolding trayOf
+  unfolding lentOf trayOf
   few-pieces =
       let a = passed l ok .lent .fewPieces in
       let b = length-map {B = Piece} (l .pieces) (pieceOf (l .bytes)) in
       omega arith
+
+  copies-lent : copyCount (trayOf l) ≡ copyCount (lentOf l)
+  unfolding trayOf
+  copies-lent = refl
 
   pub copy-fits : (d : Kind) → List·Memᴰ d (compile (trayOf l) .kinds) → (x : Copy) → List·Memᴰ x (d .copies) → (x .piece < 16) × (x .copy < 128)
   unfolding compile copyCount
@@ -237,6 +246,7 @@ module _ (l : Call) (ok : refusal l ≡ 0) where
       let b = few-pieces in
       let c = member-sum (λ (q : Piece). q .count) (trayOf l .pieces) (r .0) (nth-mem (trayOf l .pieces) (x .piece) (r .1)) in
       let e = passed l ok .lent .fewCopies in
+      let g = copies-lent in
       let f = r .2 in
       (omega arith, omega arith)
 

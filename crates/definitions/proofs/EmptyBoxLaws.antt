@@ -17,7 +17,7 @@ use Rattle.definitions.specs.Kept.{Identify, compared, smaller, images, 
 use Rattle.definitions.specs.Orders.{State, start, choose, search, fastChoices, identifiesTurned, kind0First}
 use Rattle.definitions.specs.Orders.{fastList, knuthChoices, knuthList, packings, listed}
 use Rattle.definitions.specs.Answers.{taken, copyOn, answer}
-use Rattle.definitions.specs.Refusals.{Call, Row, gridOf, trayOf, identifyOf, sidesFit, copyCount, withRecords}
+use Rattle.definitions.specs.Refusals.{Call, Row, gridOf, lentOf, trayOf, identifyOf, sidesFit, copyCount, withRecords}
 use Rattle.definitions.specs.Refusals.{isPorted, isKnuth, placementCount, rowsOf, linkCount, table, applies, refusal}
 use Rattle.definitions.specs.Outcomes.{Outcome, answersOf, answerSize, refused, outcome}
 use Rattle.definitions.specs.Demands.{Stretch, Pages, demand1}
@@ -28,7 +28,7 @@ use Rattle.definitions.specs.declared.SolverKind.the-variants.{Auto, Nai
 use Rattle.definitions.specs.declared.Record.{Record}
 use Rattle.definitions.proofs.ListLaws.{and-left, and-right, and-both, or-left, or-right, or-cases, decide, clash}
 use Rattle.definitions.proofs.ListLaws.{is-true, eqb-of, all-at, all-of, any-at, keep-length}
-use Rattle.definitions.proofs.MoveLaws.{length-box}
+use Rattle.definitions.proofs.GridLaws.{length-box}
 use Rattle.definitions.proofs.ShapeLaws.{scan-length}
 use Rattle.definitions.proofs.RefusalLaws.{passed, fit-volume, outcome-refused, demand1-holds}
 use Rattle.definitions.proofs.DemandLaws.{answer-length, pages-of}
@@ -179,16 +179,16 @@ module _ (l : Call) where
 
   -- its tray comes to a board with no kind and no placement, so its list and its packings are those above
   bare-list : refusal bare ≡ 0 → answersOf (trayOf bare) (identifyOf (bare .config)) (bare .config .solver) ≡ emptyBoxList (trayOf bare .board)
-  unfolding answersOf compile kindsOf forms sorted trayOf
+  unfolding answersOf compile kindsOf forms sorted lentOf trayOf
   bare-list ok = its-list (trayOf bare .board) (identifyOf (l .config)) (l .config .solver) (passed bare ok .ported)
 
   bare-packings : (P : List Placement) → Packing (compile (trayOf bare)) P ↔ ((P ≡ []) × (filledCells (trayOf bare .board) ≡ []))
-  unfolding compile kindsOf forms sorted trayOf
+  unfolding compile kindsOf forms sorted lentOf trayOf
   bare-packings P = its-packings (trayOf bare .board) P
 
   -- 15: with no piece the links are the filled board cells, which are few where 3 does not apply
   few-links : T (sidesFit (l .board)) → linkCount (compile (trayOf bare)) ≤ 512
-  unfolding linkCount rowsOf compile kindsOf forms sorted trayOf gridOf
+  unfolding linkCount rowsOf compile kindsOf forms sorted lentOf trayOf gridOf
   few-links t = let a = cells-few (trayOf bare .board) in let b = fit-volume (l .board) t in omega arith
 
   -- the number that the call gives
@@ -206,7 +206,7 @@ module _ (l : Call) where
 
   -- no row with another number is the one returned: with no piece 2, 6, 7, 8 and 14 fail by themselves
   others : T (all (λ r. member (r .number) numbers || not (r .applies && eqb (r .number) returned)) (table bare))
-  unfolding table trayOf copyCount placementCount compile kindsOf forms sorted
+  unfolding table lentOf trayOf copyCount placementCount compile kindsOf forms sorted
   others =
       go (isKnuth (l .config .solver)) (ltb 4096 (linkCount (compile (trayOf bare)))) (eqb 15 returned) (λ e t. no-15 (sym (eqb→eq 15 returned e)) t)
     where

@@ -21,18 +21,17 @@ use Rattle.definitions.specs.Kept.{Identify, kindAfter, image, images}
 use Rattle.definitions.specs.Kept.Identify.{None, Turned, Mirrored}
 use Rattle.definitions.specs.Moves.{Quarter, Move, Carries, inReach, bringsBack, isOdd, areTurns, gridAfter, cellAfterAll}
 use Rattle.definitions.specs.Moves.Move.{turn, mirroring}
-use Rattle.definitions.specs.Refusals.{Call, sidesOf, gridOf, trayOf, cellsLie, areBits, refusal, pieceOf}
-use Rattle.definitions.specs.declared.Record.{Record}
+use Rattle.definitions.specs.Refusals.{Call, trayOf, areBits, refusal}
 use Rattle.definitions.proofs.SearchLaws.{WellMade}
 use Rattle.definitions.proofs.WellMadeLaws.{nth-mem, getD-nth, nth-number, mem-nth, number-below, up-board, ShapeFacts}
-use Rattle.definitions.proofs.ShapeLaws.{bits, tight, shape-facts, accepted-well-made, variant-at, smallest-at, kind-at}
+use Rattle.definitions.proofs.ShapeLaws.{lent-board-whole, lent-whole, bits, tight, shape-facts, accepted-well-made, variant-at, smallest-at, kind-at}
 use Rattle.definitions.proofs.CellLaws.{Tight, tight-of, tight-mapped, by-cells, nth-value, scan-filled, filled-scan}
 use Rattle.definitions.proofs.MoveLaws.{movesMap, moves-in, moves-cell, moves-grid, mapped-whole, mapped-bits, turn-moves, mirroring-moves, turns-even, turns-alone}
 use Rattle.definitions.proofs.PartnerLaws.{kinds-partner}
 use Rattle.definitions.proofs.ImageLaws.{Numbered, image-still, image-same, carried-image, image-carried}
 use Rattle.definitions.proofs.ActLaws.{may, Allowed, ImageUnder, images-at, images-of, self-image, back-image, next-image, on-cells, act-inj}
 use Rattle.definitions.proofs.KeptLaws.{Acts}
-use Rattle.definitions.proofs.RefusalLaws.{PassedLent, passed}
+use Rattle.definitions.proofs.RefusalLaws.{passed}
 
 module _ (l : Call) (ok : refusal l ≡ 0) where
   abbrev T₀ : Tray
@@ -41,26 +40,17 @@ module _ (l : Call) (ok : refusal l ≡ 0) where
   abbrev facts : ShapeFacts T₀
   facts = shape-facts l ok
 
-  -- ---- what is tested
-  abbrev tested : PassedLent (l .pieces) (l .board) (l .bytes) (trayOf l)
-  tested = passed l ok .lent
-
-  grid-whole : (r : Record) → T (cellsLie (l .bytes) r) → length (gridOf (l .bytes) r .cells) ≡ volume (gridOf (l .bytes) r .sides)
-  unfolding gridOf cellsLie
-  grid-whole r t =
-      let a = leb→le (r .start + volume (sidesOf r)) (length (l .bytes)) t in
-      let b = length-drop (r .start) (l .bytes) in
-      length-take-le (volume (sidesOf r)) (drop (r .start) (l .bytes)) (omega arith)
-
   board-whole : length (T₀ .board .cells) ≡ volume (T₀ .board .sides)
   unfolding trayOf
-  board-whole = grid-whole (l .board) (all-at (cellsLie (l .bytes)) (l .board ∷ l .pieces) (tested .lie) (List·Memᴰ·head refl))
+  board-whole = lent-board-whole l ok
 
   pub piece-whole : (q : Piece) → List·Memᴰ q (T₀ .pieces) → length (q .grid .cells) ≡ volume (q .grid .sides)
   unfolding trayOf
-  piece-whole q m =
-      let r = Memᴰ·of-map (pieceOf (l .bytes)) (l .pieces) m in
-      subst (λ (g : Grid). length (g .cells) ≡ volume (g .sides)) (ap (λ (p : Piece). p .grid) (r .2)) (grid-whole (r .0) (all-at (cellsLie (l .bytes)) (l .board ∷ l .pieces) (tested .lie) (List·Memᴰ·tail (r .1))))
+  piece-whole q m = lent-whole l ok q m
+
+  board-bits : T (areBits (T₀ .board))
+  unfolding trayOf
+  board-bits = passed l ok .lent .boardBits
 
   pub good : (d : Kind) → List·Memᴰ d (kindsOf T₀) → (v : Grid) → List·Memᴰ v (variants (d .shape)) → Tight v × T (areBits v) × (length (v .cells) ≡ volume (v .sides))
   good d k v m =
@@ -119,7 +109,7 @@ module _ (l : Call) (ok : refusal l ≡ 0) where
 
   board-bits′ : T (areBits (C .board))
   unfolding compile
-  board-bits′ = tested .boardBits
+  board-bits′ = board-bits
 
   pub partners : (q r : Placement) → List·Memᴰ q (C .placements) → List·Memᴰ r (C .placements) → q .kind ≡ kindAfter C true (r .kind) → r .kind ≡ kindAfter C true (q .kind)
   partners = kinds-partner T₀ piece-whole W

@@ -11,6 +11,7 @@ pub mod WellMadeLaws
 pub mod RefusalLaws
 pub mod CoverLaws
 pub mod KeptLaws
+pub mod GridLaws
 pub mod ShapeLaws
 pub mod ImageLaws
 pub mod ActLaws

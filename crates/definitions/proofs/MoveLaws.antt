@@ -15,7 +15,7 @@ use Rattle.definitions.specs.Maps.{Map, side, coordinate, fromEnd, mapSi
 use Rattle.definitions.proofs.MapLaws.{Fits, box-at, byte-with, filled-at, filled-of, mapped-byte, mapped-sides, length-blocks}
 use Rattle.definitions.proofs.GroupLaws.{identity-turn, identity-cell, identity-sides, identity-grid, product-cell, product-sides, sameMap, sameMap→eq, codeOf, inMaps, in-maps, gridWith-same, sameGrid→eq, sameGrid-of}
 use Rattle.definitions.specs.Refusals.{areBits}
-use Rattle.definitions.proofs.ShapeLaws.{byte-bit}
+use Rattle.definitions.proofs.GridLaws.{byte-bit, length-box}
 use Rattle.definitions.proofs.WellMadeLaws.{sameCell→eq, sameCell-refl}
 use Rattle.definitions.proofs.ActLaws.{plus, mapsOf, fits-of, flips-of, product-in, product-on}
 use Rattle.definitions.specs.Moves.{Quarter, quarterSides, quarterCell, quartersSides, quartersCell, Move, stepCell, moveSides, moveCell, moveGrid, gridAfter, cellAfterAll, isOdd, areTurns}
@@ -142,15 +142,6 @@ moves-cell (m ∷ ms) s u b =
     ∙ product-cell (movesMap ms) (moveMap m) (flips-of (isOdd ms) (movesMap ms) (moves-in ms)) (flips-of (oddMove m) (moveMap m) (move-in m)) s u b
 
 -- ---- grids
-pub length-box : (s : Sides) → length (box s) ≡ volume s
-unfolding box volume
-length-box s =
-    length-blocks none (λ i. each (below (s .b)) (λ j. map (λ k. record { x = i; y = j; z = k }) (below (s .c)))) (s .b * s .c) (λ i. length-blocks none (λ j. map (λ k. record { x = i; y = j; z = k }) (below (s .c))) (s .c) (λ j. length-map (below (s .c)) (λ k. record { x = i; y = j; z = k }) ∙ length-below (s .c)) 0 (s .b)) 0 (s .a)
-    ∙ sym (mul-assoc (s .a) (s .b) (s .c))
-  where
-    none : Cell
-    none = record { x = 0; y = 0; z = 0 }
-
 pub mapped-whole : (m : Map) (g : Grid) → length (mapGrid m g .cells) ≡ volume (mapGrid m g .sides)
 unfolding mapGrid gridWith
 mapped-whole m g = length-map (box (mapSides m (g .sides))) (λ u. byteAt g (mapCell (inverse m) (mapSides m (g .sides)) u)) ∙ length-box (mapSides m (g .sides))

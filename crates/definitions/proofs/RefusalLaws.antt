@@ -14,7 +14,7 @@ use Rattle.definitions.specs.Grid.{volume}
 use Rattle.definitions.specs.Kinds.{Tray}
 use Rattle.definitions.specs.Placements.{compile}
 use Rattle.definitions.proofs.ListLaws.{and-left, and-right, and-both, or-left, or-right, or-cases, eqb-of, is-true, is-false, holds, all-at}
-use Rattle.definitions.specs.Refusals.{Call, Row, table, applies, firstThatApplies, refusal, sidesOf, trayOf, isSide, sidesFit, cellsLie, areBits, someFilled, isTight}
+use Rattle.definitions.specs.Refusals.{Call, Row, table, applies, firstThatApplies, refusal, sidesOf, lentOf, trayOf, isSide, sidesFit, cellsLie, areBits, someFilled, isTight}
 use Rattle.definitions.specs.Refusals.{copyCount, boardCellCount, isPorted, isKnuth, placementCount, linkCount}
 use Rattle.definitions.specs.declared.Record.{Record}
 use Rattle.definitions.specs.Outcomes.{Outcome, accepted, refused, outcome}
@@ -165,7 +165,7 @@ module _ (rs : List Record) (board : Record) (bytes : List ℕ) (t : Tray) where
 
 -- all of an accepted call
 pub record Passed (l : Call) : Type 0 where
-  pub lent : PassedLent (l .pieces) (l .board) (l .bytes) (trayOf l)
+  pub lent : PassedLent (l .pieces) (l .board) (l .bytes) (lentOf l)
   pub turnedToo : (l .config .«identify_mirrored_answers» && not (l .config .«identify_transformed_answers»)) ≡ false
   pub ported : T (isPorted (l .config .solver))
   pub workLong : 8192 ≤ length (l .work)
@@ -189,7 +189,7 @@ module _ (l : Call) where
   passed ok =
       let none : (n : ℕ) → testOf (table l) n ≡ false = none-applies (table l) table-numbered ok in
       record {
-        lent = passed-lent (l .pieces) (l .board) (l .bytes) (trayOf l) (none 2) (none 3) (none 4) (none 5) (none 6) (none 7) (none 8) (none 9);
+        lent = passed-lent (l .pieces) (l .board) (l .bytes) (lentOf l) (none 2) (none 3) (none 4) (none 5) (none 6) (none 7) (none 8) (none 9);
         turnedToo = none 10;
         ported = holds (isPorted (l .config .solver)) (not-false (isPorted (l .config .solver)) (none 11));
         workLong = ltb-false (length (l .work)) 8192 (none 12);

@@ -8,7 +8,7 @@ use lib.Dec.{T, ltb, leb, le→leb}
 use lib.ListN.{length}
 use Rattle.definitions.specs.Lists.{all, any, keep, sort, ascending, numbered, joined}
 use Rattle.definitions.proofs.ListLaws.{and-both, all-at, all-of, any-at, any-of, keep-of, ltb-trans, ltb-irrefl, sort-ascending, ascending-unique}
-use Rattle.definitions.specs.Grid.{Sides, Cell, Grid, volume, filledCells, sameCell}
+use Rattle.definitions.specs.Grid.{setDown, Sides, Cell, Grid, volume, filledCells, sameCell}
 use Rattle.definitions.specs.Maps.{Map, mapGrid, turns}
 use Rattle.definitions.proofs.MapLaws.{cell-path, turn-fits}
 use Rattle.definitions.proofs.GroupLaws.{map-same}
@@ -19,7 +19,7 @@ use Rattle.definitions.specs.Packing.{ahead}
 use Rattle.definitions.specs.Moves.{Move, areTurns, isOdd, gridAfter}
 use Rattle.definitions.specs.Moves.Move.{turn, mirroring}
 use Rattle.definitions.specs.Refusals.{Call, trayOf, refusal, areBits, isTight}
-use Rattle.definitions.specs.PlacementsRight.{setDown, SetDown, kindAt}
+use Rattle.definitions.specs.PlacementsRight.{SetDown, kindAt}
 use Rattle.definitions.proofs.EngineLaws.{sort-at}
 use Rattle.definitions.proofs.WellMadeLaws.{Nth, nth-kept, getD-nth, Made, from-made, the-variant, some-cells, up-variant, up-board, lies-on, mem-nth, sameCell→eq, sameCell-refl}
 use Rattle.definitions.proofs.ShapeLaws.{sort-of, cells-tied, variant-at, smallest-at, shape-facts}

@@ -7,11 +7,12 @@ use mathlib.Core.Logic.{_⊎_, inl, inr}
 use native.Mathlib.Nat.{le-antisymm}
 use native.Mathlib.Omega.{arith}
 use lib.Dec.{T, ltb, leb, eqb, leb→le, nltb→le}
-use lib.ListN.{length, getD}
+use lib.ListN.{length, drop, length-drop}
+use lib.Seq.{length-take-le}
 use Rattle.definitions.specs.Lists.{all, any, put, sort, headOr, less, sum, isEmpty, Apart}
 use Rattle.definitions.proofs.ListLaws.{and-left, and-right, all-at, decide, clash, eqb-of, put-tail, less-total, apart-ascending, apart-length, sort-ascending}
 use Rattle.definitions.proofs.CountLaws.{total-same, howMany-total, howMany-length, sum-map}
-use Rattle.definitions.specs.Grid.{Sides, Cell, Grid, box, byteAt, gridWith, filledCells, gridAhead, InBox}
+use Rattle.definitions.specs.Grid.{Sides, Cell, Grid, box, volume, byteAt, gridWith, filledCells, gridAhead, InBox}
 use Rattle.definitions.specs.Maps.{Map, side, coordinate, mapSides, mapCell, inverse, mapGrid, turns, transform, permutations, parity}
 use Rattle.definitions.proofs.MapLaws.{box-at, cell-path, turn-fits, filled-apart, filled-length, mapped-byte}
 use Rattle.definitions.specs.Scan.{axisAhead, axes, cellAhead, scan}
@@ -20,8 +21,10 @@ use Rattle.definitions.specs.Placements.{compile}
 use Rattle.definitions.proofs.SearchLaws.{WellMade}
 use Rattle.definitions.proofs.EngineLaws.{sort-at}
 use Rattle.definitions.proofs.WellMadeLaws.{ShapeFacts, well-made, cell-trans, cell-irrefl, numbered-at, nth-mem}
-use Rattle.definitions.specs.Refusals.{Call, trayOf, areBits, filledWhere, isTight, refusal}
-use Rattle.definitions.proofs.RefusalLaws.{passed}
+use Rattle.definitions.specs.Refusals.{Call, sidesOf, gridOf, pieceOf, lentOf, trayOf, cellsLie, areBits, filledWhere, isTight, refusal}
+use Rattle.definitions.specs.declared.Record.{Record}
+use Rattle.definitions.proofs.GridLaws.{byte-bit}
+use Rattle.definitions.proofs.RefusalLaws.{PassedLent, passed}
 
 -- ---- a sorted list has the entries of the list, where only equals are tied
 module _ {A : Type 0} (ahead : A → A → Bool) (tied : (x y : A) → T (not (ahead x y)) → T (not (ahead y x)) → x ≡ y) where
@@ -110,15 +113,6 @@ unfolding scan
 scan-length s g = sort-length (cellAhead (axes s)) (cells-tied s) (cell-trans (axes s)) (cell-irrefl (axes s)) (filledCells g) (filled-apart g)
 
 -- ---- bytes that are 0 or 1
-pub byte-bit : (g : Grid) → T (areBits g) → (u : Cell) → byteAt g u ≤ 1
-unfolding areBits byteAt
-byte-bit g t u = go (g .cells) ((u .x * g .sides .b + u .y) * g .sides .c + u .z) t
-  where
-    go : (xs : List ℕ) (k : ℕ) → T (all (λ n. leb n 1) xs) → getD xs k 0 ≤ 1
-    go [] k s = omega arith
-    go (x ∷ xs) zero s = leb→le x 1 (and-left (leb x 1) (all (λ n. leb n 1) xs) s)
-    go (x ∷ xs) (suc k) s = go xs k (and-right (leb x 1) (all (λ n. leb n 1) xs) s)
-
 -- a mapped grid's cells add up to how many are filled
 pub sum-filled : (m : Map) (g : Grid) → T (areBits g) → sum (mapGrid m g .cells) ≡ length (filledCells (mapGrid m g))
 unfolding mapGrid gridWith filledCells
@@ -182,11 +176,39 @@ kind-at t d k =
 
 -- ---- accepted calls
 module _ (l : Call) (ok : refusal l ≡ 0) where
+  -- ---- the grids as lent: what 4, 5 and 6 test
+  abbrev tested : PassedLent (l .pieces) (l .board) (l .bytes) (lentOf l)
+  tested = passed l ok .lent
+
+  grid-whole : (r : Record) → T (cellsLie (l .bytes) r) → length (gridOf (l .bytes) r .cells) ≡ volume (gridOf (l .bytes) r .sides)
+  unfolding gridOf cellsLie
+  grid-whole r t =
+      let a = leb→le (r .start + volume (sidesOf r)) (length (l .bytes)) t in
+      let b = length-drop (r .start) (l .bytes) in
+      length-take-le (volume (sidesOf r)) (drop (r .start) (l .bytes)) (omega arith)
+
+  pub lent-board-whole : length (lentOf l .board .cells) ≡ volume (lentOf l .board .sides)
+  unfolding lentOf
+  lent-board-whole = grid-whole (l .board) (all-at (cellsLie (l .bytes)) (l .board ∷ l .pieces) (tested .lie) (List·Memᴰ·head refl))
+
+  pub lent-whole : (q : Piece) → List·Memᴰ q (lentOf l .pieces) → length (q .grid .cells) ≡ volume (q .grid .sides)
+  unfolding lentOf
+  lent-whole q m =
+      let r = Memᴰ·of-map (pieceOf (l .bytes)) (l .pieces) m in
+      subst (λ (g : Grid). length (g .cells) ≡ volume (g .sides)) (ap (λ (p : Piece). p .grid) (r .2))
+      (grid-whole (r .0) (all-at (cellsLie (l .bytes)) (l .board ∷ l .pieces) (tested .lie) (List·Memᴰ·tail (r .1))))
+
+  pub lent-bits : (q : Piece) → List·Memᴰ q (lentOf l .pieces) → T (areBits (q .grid))
+  lent-bits q m = all-at (λ (x : Piece). areBits (x .grid)) (lentOf l .pieces) (tested .bits) m
+
+  -- ---- the grids of the tray that is listed
   pub bits : (q : Piece) → List·Memᴰ q (trayOf l .pieces) → T (areBits (q .grid))
-  bits q m = all-at (λ (x : Piece). areBits (x .grid)) (trayOf l .pieces) (passed l ok .lent .bits) m
+  unfolding trayOf
+  bits q m = lent-bits q m
 
   pub tight : (q : Piece) → List·Memᴰ q (trayOf l .pieces) → T (isTight (q .grid))
-  tight q m = all-at (λ (x : Piece). isTight (x .grid)) (trayOf l .pieces) (passed l ok .lent .tight) m
+  unfolding trayOf
+  tight q m = all-at (λ (x : Piece). isTight (x .grid)) (lentOf l .pieces) (tested .tight) m
 
   some-filled : (g : Grid) → T (isTight g) → 0 < length (filledCells g)
   unfolding isTight filledWhere

@@ -20,7 +20,7 @@ use Rattle.definitions.specs.Moves.{isOdd}
 use Rattle.definitions.specs.Orders.{start, choose, search, fastChoices, identifiesTurned, sizes, allCells, kind0First, fastList, knuthChoices, knuthList, packings, listed}
 use Rattle.definitions.specs.Answers.{takes, taken, copyOn, answer}
 use Rattle.definitions.specs.Page.{page, Page}
-use Rattle.definitions.specs.Refusals.{Call, sidesOf, gridOf, trayOf, sidesFit, cellsLie, areBits, someFilled, isTight, copyCount, boardCellCount, placementCount, rowsOf, linkCount, identifyOf, isKnuth, isPorted, row, table, firstThatApplies, refusal, pieceOf}
+use Rattle.definitions.specs.Refusals.{Call, sidesOf, gridOf, lentOf, trayOf, sidesFit, cellsLie, areBits, someFilled, isTight, copyCount, boardCellCount, placementCount, rowsOf, linkCount, identifyOf, isKnuth, isPorted, row, table, firstThatApplies, refusal, pieceOf}
 use Rattle.definitions.specs.Outcomes.{answersOf, capacity, pageOf, Outcome, refused, accepted, outcome, acceptedWith}
 use Rattle.definitions.specs.Files.{callIn, isFile, listing, packed, refusedLine}
 use Rattle.definitions.specs.PlacementsRight.{noKind, pieceAt, kindAt}
@@ -323,20 +323,24 @@ oneWood-holds t w one i e = sym (answers-bare t w one i e)
 
 -- ---- calls
 module _ (l : Call) where
-  tray-bare : trayOf (withoutWoods l) ≡ unwooded (trayOf l)
-  unfolding trayOf withoutWoods withWood unwooded woodless gridOf sidesOf
-  tray-bare = λ i. record { board = gridOf (l .bytes) (l .board); pieces = pieces-bare i }
+  lent-bare : lentOf (withoutWoods l) ≡ unwooded (lentOf l)
+  unfolding lentOf withoutWoods withWood unwooded woodless gridOf sidesOf
+  lent-bare = λ i. record { board = gridOf (l .bytes) (l .board); pieces = pieces-bare i }
     where
       pieces-bare : map (pieceOf (l .bytes)) (map (withWood 0) (l .pieces)) ≡ map woodless (map (pieceOf (l .bytes)) (l .pieces))
       pieces-bare = map-map-of (pieceOf (l .bytes)) (withWood 0) (l .pieces) ∙ sym (map-map-of woodless (pieceOf (l .bytes)) (l .pieces))
 
-  all-bare : (p : Grid → Bool) → all (λ q. p (q .grid)) (trayOf (withoutWoods l) .pieces) ≡ all (λ q. p (q .grid)) (trayOf l .pieces)
-  unfolding unwooded woodless
-  all-bare p = ap (λ (t : Tray). all (λ q. p (q .grid)) (t .pieces)) tray-bare ∙ all-map woodless (λ (q : Piece). p (q .grid)) (trayOf l .pieces)
+  tray-bare : trayOf (withoutWoods l) ≡ unwooded (trayOf l)
+  unfolding trayOf
+  tray-bare = lent-bare
 
-  board-bare : trayOf (withoutWoods l) .board ≡ trayOf l .board
+  all-bare : (p : Grid → Bool) → all (λ q. p (q .grid)) (lentOf (withoutWoods l) .pieces) ≡ all (λ q. p (q .grid)) (lentOf l .pieces)
+  unfolding unwooded woodless
+  all-bare p = ap (λ (t : Tray). all (λ q. p (q .grid)) (t .pieces)) lent-bare ∙ all-map woodless (λ (q : Piece). p (q .grid)) (lentOf l .pieces)
+
+  board-bare : lentOf (withoutWoods l) .board ≡ lentOf l .board
   unfolding unwooded
-  board-bare = ap (λ (t : Tray). t .board) tray-bare
+  board-bare = ap (λ (t : Tray). t .board) lent-bare
 
   sides-bare : all sidesFit (map (withWood 0) (l .pieces)) ≡ all sidesFit (l .pieces)
   unfolding sidesFit withWood
@@ -346,13 +350,13 @@ module _ (l : Call) where
   unfolding cellsLie withWood sidesOf
   lie-bare = all-map (withWood 0) (cellsLie (l .bytes)) (l .pieces)
 
-  copies-counted : copyCount (trayOf (withoutWoods l)) ≡ copyCount (trayOf l)
+  copies-counted : copyCount (lentOf (withoutWoods l)) ≡ copyCount (lentOf l)
   unfolding copyCount unwooded woodless
-  copies-counted = ap copyCount tray-bare ∙ ap sum (map-map-of (λ (q : Piece). q .count) woodless (trayOf l .pieces))
+  copies-counted = ap copyCount lent-bare ∙ ap sum (map-map-of (λ (q : Piece). q .count) woodless (lentOf l .pieces))
 
   module _ (w : ℕ) (one : (r : Record) → List·Memᴰ r (l .pieces) → r .wood ≡ w) where
     one-lent : (q : Piece) → List·Memᴰ q (trayOf l .pieces) → q .wood ≡ w
-    unfolding trayOf
+    unfolding lentOf trayOf
     one-lent q m = let r = Memᴰ·of-map (pieceOf (l .bytes)) (l .pieces) m in sym (ap (λ (x : Piece). x .wood) (r .2)) ∙ one (r .0) (r .1)
 
     compiled : compile (trayOf (withoutWoods l)) ≡ unwoodCompiled (compile (trayOf l))
@@ -429,7 +433,7 @@ unfolding oneWoodPrinted
 oneWoodPrinted-holds bytes plain file other w one e = packed-said plain other ∙ ap said e ∙ said-bare (callIn bytes 0 0) w one ∙ sym (packed-said bytes file)
 
 pub boardUnread-holds : boardUnread outcome
-unfolding boardUnread boardInWood withWood outcome refusal table accepted refused pageOf capacity trayOf gridOf sidesOf sidesFit cellsLie
+unfolding boardUnread boardInWood withWood outcome refusal table accepted refused pageOf capacity lentOf trayOf gridOf sidesOf sidesFit cellsLie
 boardUnread-holds l w = refl
 
 -- and so of whatever runs calls as the definitions' outcome says

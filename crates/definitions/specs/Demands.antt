@@ -18,7 +18,7 @@ use Rattle.definitions.specs.Moves.{Move, Carries, inReach}
 use Rattle.definitions.specs.Orders.{listed, fastAhead}
 use Rattle.definitions.specs.KnuthOrder.{KnuthAhead}
 use Rattle.definitions.specs.Answers.{answer}
-use Rattle.definitions.specs.Refusals.{Call, trayOf, identifyOf, isKnuth, rowsOf, applies, refusal}
+use Rattle.definitions.specs.Refusals.{Call, sidesOf, trayOf, identifyOf, isKnuth, rowsOf, applies, refusal}
 use Rattle.definitions.specs.Outcomes.{Outcome, answersOf, answerSize}
 use Rattle.definitions.specs.declared.SolverKind.{SolverKind}
 use Rattle.definitions.specs.declared.SolverKind.the-variants.{Fast, KnuthAlgorithm}
@@ -53,11 +53,11 @@ pub record Lends (l : Call) (t : Tray) (i : Identify) (e : SolverKind) : Type 0 
 pub record Stretch (list : List (List ℕ)) (l : Call) (o : Outcome) : Type 0 where
   pub number : o .number ≡ 0
   pub capacity : ℕ
-  pub theyFit : capacity * answerSize (trayOf l .board .sides) ≤ length (l .answers)
-  pub oneMoreDoesNot : length (l .answers) < (capacity + 1) * answerSize (trayOf l .board .sides)
+  pub theyFit : capacity * answerSize (sidesOf (l .board)) ≤ length (l .answers)
+  pub oneMoreDoesNot : length (l .answers) < (capacity + 1) * answerSize (sidesOf (l .board))
   pub written : o .written ≡ min capacity (length list - l .skip)
   pub further : T (o .further) ↔ (l .skip + o .written < length list)
-  pub bytes : o .answers ≡ joined (take (o .written) (drop (l .skip) list)) ++ drop (o .written * answerSize (trayOf l .board .sides)) (l .answers)
+  pub bytes : o .answers ≡ joined (take (o .written) (drop (l .skip) list)) ++ drop (o .written * answerSize (sidesOf (l .board))) (l .answers)
   pub answersLength : length (o .answers) ≡ length (l .answers)
   pub work : o .work ≡ replicate 8192 0 ++ drop 8192 (l .work)
   pub workLength : length (o .work) ≡ length (l .work)

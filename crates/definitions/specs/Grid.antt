@@ -23,6 +23,10 @@ pub record Grid : Type 0 where
 unfoldable pub sameCell : Cell → Cell → Bool
 sameCell u v = eqb (u .x) (v .x) && eqb (u .y) (v .y) && eqb (u .z) (v .z)
 
+-- the cell u of a grid that is set down with the corner of its box on a cell of another box
+unfoldable pub setDown : Cell → Cell → Cell
+setDown corner u = record { x = corner .x + u .x; y = corner .y + u .y; z = corner .z + u .z }
+
 -- the cells of a box, x slowest, z fastest, and how many they are
 unfoldable pub box : Sides → List Cell
 box s = each (below (s .a)) (λ i. each (below (s .b)) (λ j. map (λ k. record { x = i; y = j; z = k }) (below (s .c))))

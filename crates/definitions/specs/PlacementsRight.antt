@@ -1,7 +1,7 @@
 -- That the definitions of kinds and placements forget nothing and invent nothing, said by moves, cells and woods alone: a kind's placements are exactly its
 -- pieces' grids after sequences of quarter turns, set down on filled board cells, each once; its copies are exactly those lent. (A definition that forgot
 -- placements would satisfy the demands, since packings, covers and images all speak of the placements that there are.) Proved in proofs/PlacementLaws.
-use Prim.Native.Nat.{ℕ, _+_, _<_}
+use Prim.Native.Nat.{ℕ, _<_}
 use mathlib.Core.Bool.{Bool, _&&_, _||_}
 use mathlib.Core.List.{List, [], _∷_, map, List·Memᴰ}
 use mathlib.Core.Path.{_≡_}
@@ -9,7 +9,7 @@ use mathlib.Core.Logic.{_↔_}
 use lib.Dec.{T, ltb}
 use lib.ListN.{length, getD}
 use Rattle.definitions.specs.Lists.{all, any, ascending, less, sort}
-use Rattle.definitions.specs.Grid.{Cell, Grid, filledCells, sameCell, sameGrid, gridAhead}
+use Rattle.definitions.specs.Grid.{Cell, Grid, setDown, filledCells, sameCell, sameGrid, gridAhead}
 use Rattle.definitions.specs.Scan.{axes, cellAhead, scanNumber}
 use Rattle.definitions.specs.Kinds.{Piece, Tray, Kind, Copy}
 use Rattle.definitions.specs.Placements.{Placement, Compiled, compile}
@@ -27,10 +27,6 @@ pub record MirrorsOnto (g h : Grid) : Type 0 where
   pub moves : List Move
   pub byMirroring : T (isOdd moves)
   pub equal : gridAfter moves g ≡ h
-
--- the cell u of a grid that is set down with the corner of its box on a cell of the board's box
-unfoldable pub setDown : Cell → Cell → Cell
-setDown corner u = record { x = corner .x + u .x; y = corner .y + u .y; z = corner .z + u .z }
 
 -- the grid g after some quarter turns, set down somewhere on filled board cells; cells are their scan numbers, ascending
 pub record SetDown (c : Compiled) (g : Grid) (cells : List ℕ) : Type 0 where

@@ -55,8 +55,12 @@ gridOf bytes r = record { sides = sidesOf r; cells = take (volume (sidesOf r)) (
 abbrev pub pieceOf : List ℕ → Record → Piece
 pieceOf bytes r = record { grid = gridOf bytes r; count = r .count; wood = r .wood }
 
+unfoldable pub lentOf : Call → Tray
+lentOf l = record { board = gridOf (l .bytes) (l .board); pieces = map (pieceOf (l .bytes)) (l .pieces) }
+
+-- the tray that is listed
 unfoldable pub trayOf : Call → Tray
-trayOf l = record { board = gridOf (l .bytes) (l .board); pieces = map (pieceOf (l .bytes)) (l .pieces) }
+trayOf l = lentOf l
 
 unfoldable pub identifies : Bool → Bool → Identify
 identifies false false = None
@@ -137,8 +141,8 @@ row n b = record { number = n; applies = b }
 
 unfoldable pub table : Call → List Row
 table l =
-    let t = trayOf l in
-    let c = compile t in
+    let t = lentOf l in
+    let c = compile (trayOf l) in
     let turned = l .config .«identify_transformed_answers» in
     let mirrored = l .config .«identify_mirrored_answers» in
     let knuth = isKnuth (l .config .solver) in

@@ -17,7 +17,7 @@ use Rattle.definitions.specs.Kept.{Identify}
 use Rattle.definitions.specs.Orders.{State, start, identifiesTurned, kind0First}
 use Rattle.definitions.specs.Page.{Page}
 use Rattle.definitions.specs.Outcomes.{answersOf, capacity, cleared, refused, outcomeOf, numberOf}
-use Rattle.definitions.specs.Refusals.{Call, trayOf, identifies, identifyOf, isKnuth, placementCount, firstThatApplies, refusal}
+use Rattle.definitions.specs.Refusals.{Call, lentOf, trayOf, identifies, identifyOf, isKnuth, placementCount, firstThatApplies, refusal}
 use Rattle.definitions.specs.declared.Record.{Record}
 use Rattle.definitions.specs.declared.Refusal.{Refusal}
 use Rattle.definitions.specs.declared.Listing.the-variants as listing
@@ -105,7 +105,7 @@ module _ (t : Table) (board : Record) (bytes : List ℕ) (ok : Accepted9 t board
             go false false = refl
 
         decides : kind0First C (identifies turned mirrored) ≡ (turned && (eqb (getD left 0 0) 1 && eqb (cellsOfAll tray) (d .cells)))
-        unfolding kind0First trayOf
+        unfolding kind0First lentOf trayOf
         decides =
             let cells : d .cells ≡ length (C .cells) = unfold systemIn systemOf in (ap (λ (s : System). s .size) is) in
             (λ i. turned-is i && (eqb (sym left-first i) 1 && eqb (all-cells-same call accepted-it i) (sym cells i)))
@@ -141,18 +141,18 @@ module _ (t : Table) (board : Record) (bytes : List ℕ) (ok : Accepted9 t board
             }
 
         begins : stateBy S left covered [] ≡ start C
-        unfolding trayOf
+        unfolding lentOf trayOf
         begins = ap (λ (s : System). stateBy s left covered []) is ∙ start-same call accepted-it left left-of covered none
 
         -- what is listed
         pub lists-plain : (i : Identify) → kind0First (compile (trayIn (recordsOf t) board bytes)) i ≡ false
             → fastBelow (systemIn d work images scans kinds pieces) i (stateBy (systemIn d work images scans kinds pieces) left covered []) ≡ answersOf (trayIn (recordsOf t) board bytes) i Fast
-        unfolding trayOf answersOf
+        unfolding lentOf trayOf answersOf
         lists-plain i e = ap₂ (λ (s : System) (x : State). fastBelow s i x) is begins ∙ fast-plain call accepted-it i e
 
         pub lists-first : (i : Identify) → kind0First (compile (trayIn (recordsOf t) board bytes)) i ≡ true
             → fastFirst (systemIn d work images scans kinds pieces) i (stateBy (systemIn d work images scans kinds pieces) left covered []) ≡ answersOf (trayIn (recordsOf t) board bytes) i Fast
-        unfolding trayOf answersOf
+        unfolding lentOf trayOf answersOf
         lists-first i e = ap₂ (λ (s : System) (x : State). fastFirst s i x) is begins ∙ fast-first call accepted-it i e
 
 -- ---- the outcome of a call, over its list or over what lies behind an entry: Fast reads no links
@@ -180,7 +180,7 @@ module _ (t : Table) (board : Record) (bytes : List ℕ) (turned mirrored : Bool
       pub accepted-outcome : 0 ≡ fastNumber → (written : ℕ) (further : Bool) (after mid end : List ℕ)
           → PageIs last waiting (callOf Fast t board bytes turned mirrored skip answers work []) written further after → drop 8192 mid ≡ drop 8192 work → end ≡ cleared 8192 mid
           → outcomeOf (listing.Page written further) after end links ≡ outcomeFrom last waiting (callOf Fast t board bytes turned mirrored skip answers work links)
-      unfolding outcomeOf pageFrom callOf trayOf identifyOf capacity cleared isKnuth
+      unfolding outcomeOf pageFrom callOf lentOf trayOf identifyOf capacity cleared isKnuth
       accepted-outcome e written further after mid end p behind ends =
           let rest : end ≡ replicate 8192 0 ++ drop 8192 work = ends ∙ ap (λ (l : List ℕ). replicate 8192 0 ++ l) behind in
           (λ i. record { number = 0; written = p .writtenIs i; further = p .furtherIs i; answers = p .answersAre i; work = rest i; links = links })

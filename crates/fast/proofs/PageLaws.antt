@@ -17,7 +17,7 @@ use Rattle.definitions.specs.declared.Record.{Record}
 use Rattle.definitions.proofs.ListLaws.{is-true}
 use Rattle.shape.proofs.PlaceLaws.{volume-small}
 use Rattle.placements.specs.declared.Table.{Table}
-use Rattle.placements.specs.Tables.{noRecord, recordsOf, trayIn}
+use Rattle.placements.specs.Tables.{noRecord, recordsOf, lentIn}
 use Rattle.placements.specs.Merging.{Sound}
 use Rattle.placements.specs.Counting.{Accepted9}
 use Rattle.placements.proofs.RefusalLaws.{sides-small, cells-count, all-grids, records-few, records-count, records-from, record-passes}
@@ -43,7 +43,7 @@ left-end kinds left n h f =
 abbrev pub cellsFrom : Table → List ℕ → ℕ → ℕ
 cellsFrom t bytes i = sum (map (λ (q : Piece). q .count * sum (q .grid .cells)) (map (pieceOf bytes) (drop i (recordsOf t))))
 
-pub cells-start : (t : Table) (board : Record) (bytes : List ℕ) → cellsFrom t bytes 0 ≡ cellsOfAll (trayIn (recordsOf t) board bytes)
+pub cells-start : (t : Table) (board : Record) (bytes : List ℕ) → cellsFrom t bytes 0 ≡ cellsOfAll (lentIn (recordsOf t) board bytes)
 unfolding cellsOfAll
 cells-start t board bytes = refl
 

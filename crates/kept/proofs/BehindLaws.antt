@@ -11,7 +11,7 @@ use Rattle.definitions.specs.Demands.{Stretch, demand3}
 use Rattle.definitions.specs.Emission.{behind, onwards}
 use Rattle.definitions.specs.Page.{Page, page}
 use Rattle.definitions.specs.Outcomes.{Outcome, accepted, answersOf, capacity, outcome, pageOf, refused, acceptedWith}
-use Rattle.definitions.specs.Refusals.{Call, cellsLie, gridOf, identifyOf, refusal, sidesFit, sidesOf, table, trayOf}
+use Rattle.definitions.specs.Refusals.{Call, cellsLie, gridOf, identifyOf, refusal, sidesFit, sidesOf, table, lentOf, trayOf}
 use Rattle.definitions.specs.Woods.{boardInWood, boardUnread, oneWoodCalls, withWood, withoutWoods}
 use Rattle.definitions.proofs.DemandLaws.{demand3-holds}
 use Rattle.definitions.proofs.EmissionLaws.{same-test}
@@ -79,11 +79,11 @@ module _ (l : Call) (ok : refusal l ≡ 0) where
   apart = demand3-holds l ok .noneTwice
 
   still : (skip : ℕ) → refusal (skipping skip l) ≡ 0
-  unfolding refusal table trayOf
+  unfolding refusal table lentOf trayOf
   still skip = ok
 
   pub outcome-behind : (k : ℕ) → k < length (answersOf (trayOf l) (identifyOf (l .config)) (l .config .solver)) → outcomeBehind (entryOf l k) (skipping 0 l) ≡ outcome (skipping (suc k) l)
-  unfolding acceptedBehind accepted pageFrom pageOf trayOf capacity
+  unfolding acceptedBehind accepted pageFrom pageOf lentOf trayOf capacity
   outcome-behind k h =
       let later : page (behind (entryOf l k) list) 0 (capacity l) ≡ page list (suc k) (capacity l) = ap (λ (m : List (List ℕ)). page m 0 (capacity l)) (behind-drop (entryOf l k) list apart k h refl) ∙ page-later list k (capacity l) in
       from-accepted (entryOf l k) true (skipping 0 l) (still 0)
@@ -93,7 +93,7 @@ module _ (l : Call) (ok : refusal l ≡ 0) where
 -- a page from behind entry k, whatever left it, is demand 3's stretch of the one list from entry k + 1 on
 pub meets-behind : (l : Call) → refusal l ≡ 0 → (k : ℕ) → k < length (answersOf (trayOf l) (identifyOf (l .config)) (l .config .solver)) → (o : Outcome)
     → o ≡ outcomeBehind (entryOf l k) (skipping 0 l) → Stretch (answersOf (trayOf l) (identifyOf (l .config)) (l .config .solver)) (skipping (suc k) l) o
-unfolding answersOf trayOf
+unfolding answersOf lentOf trayOf
 meets-behind l ok k h o e = meets-stretch (skipping (suc k) l) o (e ∙ outcome-behind l ok k h) (still l ok (suc k))
 
 -- a page from behind an entry, too, is that without woods where all pieces are of one wood, and does not read the board's (document 02, A5)
@@ -104,7 +104,7 @@ behind-one-wood last l w one =
     (ap (λ (xs : List (List ℕ)). page (onwards last true xs) (l .skip) (capacity l)) (list-bare l w one)) (refusal-bare l w one))
 
 behind-unread : (last : List ℕ) → boardUnread (outcomeBehind last)
-unfolding boardUnread outcomeBehind acceptedBehind pageFrom capacity refused boardInWood withWood refusal table trayOf gridOf sidesOf sidesFit cellsLie
+unfolding boardUnread outcomeBehind acceptedBehind pageFrom capacity refused boardInWood withWood refusal table lentOf trayOf gridOf sidesOf sidesFit cellsLie
 behind-unread last l w = refl
 
 pub behind-woods : (last : List ℕ) → oneWoodCalls (outcomeBehind last) × boardUnread (outcomeBehind last)

@@ -13,7 +13,7 @@ use Rattle.definitions.specs.Orders.{start, listed}
 use Rattle.definitions.specs.Answers.{answer}
 use Rattle.definitions.specs.Emission.{Emitted, begin, emits}
 use Rattle.definitions.specs.Outcomes.{answersOf, answerSize, capacity}
-use Rattle.definitions.specs.Refusals.{trayOf, gridOf, sidesOf, identifies, identifyOf}
+use Rattle.definitions.specs.Refusals.{lentOf, trayOf, gridOf, sidesOf, identifies, identifyOf}
 use Rattle.definitions.specs.declared.Record.{Record}
 use Rattle.definitions.proofs.DemandLaws.{answer-length}
 use Rattle.definitions.proofs.EmissionLaws.{emits-page}
@@ -35,7 +35,7 @@ module _ (engine : SolverKind) (t : Table) (board : Record) (bytes : List ℕ) (
   pub page-is : (last : List ℕ) (waiting : Bool) (places : ℕ) → places ≡ volume (sidesOf board) → (x : Emitted)
       → x ≡ emits (length answers / (2 * places)) (answersOf (trayIn (recordsOf t) board bytes) (identifies turned mirrored) engine) (begin last waiting skip answers)
       → PageIs last waiting (callOf engine t board bytes turned mirrored skip answers work []) (x .written) (x .further) (x .answers)
-  unfolding pageFrom callOf trayOf identifyOf capacity answerSize
+  unfolding pageFrom callOf lentOf trayOf identifyOf capacity answerSize
   page-is last waiting places v x e =
       let n = 2 * volume (sidesOf board) in
       let list = answersOf (trayIn (recordsOf t) board bytes) (identifies turned mirrored) engine in

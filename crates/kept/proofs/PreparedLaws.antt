@@ -14,7 +14,7 @@ use Rattle.definitions.specs.Kinds.{Tray}
 use Rattle.definitions.specs.Placements.{Compiled, compile}
 use Rattle.definitions.specs.Kept.{symmetries}
 use Rattle.definitions.specs.Orders.{start}
-use Rattle.definitions.specs.Refusals.{Call, trayOf, sidesOf, isSide, sidesFit, placementCount, refusal, pieceOf}
+use Rattle.definitions.specs.Refusals.{Call, lentOf, trayOf, sidesOf, isSide, sidesFit, placementCount, refusal, pieceOf}
 use Rattle.definitions.specs.declared.Record.{Record}
 use Rattle.definitions.proofs.ListLaws.{and-left, and-right, keep-length, length-from, length-below}
 use Rattle.definitions.proofs.RefusalLaws.{passed, fit-volume}
@@ -76,7 +76,7 @@ module _ (t : Table) (board : Record) (bytes : List ℕ) (ok : Accepted9 t board
   passes = fast-accepted t board bytes work₀ ok few long
 
   system-lawful : Lawful (systemOf (trayIn (recordsOf t) board bytes))
-  unfolding trayOf
+  unfolding lentOf trayOf
   system-lawful = lawful call passes (copies-many (trayOf call))
 
   pieces-few : length (owned (trayIn (recordsOf t) board bytes)) ≤ 16

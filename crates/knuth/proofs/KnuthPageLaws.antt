@@ -14,7 +14,7 @@ use Rattle.definitions.specs.Kept.{Identify}
 use Rattle.definitions.specs.Emission.{Emitted, emits}
 use Rattle.definitions.specs.Orders.{start, search, knuthChoices, knuthList, packings, listed}
 use Rattle.definitions.specs.Outcomes.{answersOf, capacity, cleared, refused, outcomeOf, numberOf}
-use Rattle.definitions.specs.Refusals.{Call, trayOf, identifyOf, isKnuth, placementCount, rowsOf, linkCount, firstThatApplies, refusal}
+use Rattle.definitions.specs.Refusals.{Call, lentOf, trayOf, identifyOf, isKnuth, placementCount, rowsOf, linkCount, firstThatApplies, refusal}
 use Rattle.definitions.specs.declared.Record.{Record}
 use Rattle.definitions.specs.declared.Refusal.{Refusal}
 use Rattle.definitions.specs.declared.Listing.the-variants as listing
@@ -71,7 +71,7 @@ module _ (t : Table) (board : Record) (bytes : List ℕ) (ok : Accepted9 t board
 
   -- the list of all packings
   all-listed : (i : Identify) → entries (systemOf tray) i (search (knuthChoices (systemOf tray .rows)) (systemOf tray .size) (startOf (systemOf tray))) ≡ answersOf tray i KnuthAlgorithm
-  unfolding trayOf answersOf listed packings knuthList start startOf systemOf
+  unfolding lentOf trayOf answersOf listed packings knuthList start startOf systemOf
   all-listed i = entries-same call accepted-it i (knuthList C) (knuth-exact C (W call accepted-it) .only)
 
   module _ (d : Dims) (work images scans kinds pieces : List ℕ) (is : systemIn d work images scans kinds pieces ≡ systemOf (trayIn (recordsOf t) board bytes)) where
@@ -134,7 +134,7 @@ module _ (t : Table) (board : Record) (bytes : List ℕ) (turned mirrored : Bool
   -- a page does not depend on the links that are lent
   pub any-links : (last : List ℕ) (waiting : Bool) (written : ℕ) (further : Bool) (after : List ℕ) → PageIs last waiting (callOf KnuthAlgorithm t board bytes turned mirrored skip answers work []) written further after
       → PageIs last waiting (callOf KnuthAlgorithm t board bytes turned mirrored skip answers work links) written further after
-  unfolding pageFrom callOf trayOf identifyOf capacity
+  unfolding pageFrom callOf lentOf trayOf identifyOf capacity
   any-links last waiting written further after p = record { writtenIs = p .writtenIs; furtherIs = p .furtherIs; answersAre = p .answersAre }
 
   -- an accepted call's links are long enough, and its tray's links few
@@ -143,7 +143,7 @@ module _ (t : Table) (board : Record) (bytes : List ℕ) (turned mirrored : Bool
   accepted-links e = passed its (refusal-is ∙ e) .linksLong refl
 
   pub accepted-count : knuthNumber ≡ 0 → linkCount (compile (trayIn (recordsOf t) board bytes)) ≤ 4096
-  unfolding callOf isKnuth trayOf
+  unfolding callOf isKnuth lentOf trayOf
   accepted-count e = passed its (refusal-is ∙ e) .fewLinks refl
 
   -- refused or accepted, from the start of the list or from behind an entry

@@ -13,7 +13,7 @@ use lib.Seq.{length-take-le}
 use Rattle.definitions.specs.Files.{callIn}
 use Rattle.definitions.specs.Grid.{volume}
 use Rattle.definitions.specs.Outcomes.{Outcome, accepted, answerSize, numberOf, outcome, outcomeOf, refused}
-use Rattle.definitions.specs.Refusals.{Call, isSide, refusal, sidesFit, sidesOf, trayOf}
+use Rattle.definitions.specs.Refusals.{Call, isSide, refusal, sidesFit, sidesOf, lentOf, trayOf}
 use Rattle.definitions.specs.declared.Record.{Record}
 use Rattle.definitions.specs.declared.Refusal.{Refusal}
 use Rattle.definitions.specs.declared.Listing.the-variants as listing
@@ -85,7 +85,7 @@ module _ (text : List ℕ) (asked : Asked) (cells work links : List ℕ) (read :
   pub first-listed : (n : ℕ) (further : Bool) (page work' links' answers' : List ℕ)
       → outcomeOf (listing.Page n further) page work' links' ≡ outcome (callWith (recordsOf (asked .pieces)) (asked .board) (take (asked .used) cells) (asked .config) 0 (take (2 * places) answers) work links)
       → answers' ≡ page ++ drop (2 * places) answers → length answers' ≡ length answers → Begins text asked work links answers' work' links' 0 (startWith asked places n further)
-  unfolding outcomeOf listIn callWith trayOf answerSize
+  unfolding outcomeOf listIn callWith lentOf trayOf answerSize
   first-listed n further page work' links' answers' e f same =
       let z : 0 ≡ outcome l .number = ap (λ (o : Outcome). o .number) (e ∙ first-outcome) in
       let ok : refusal l ≡ 0 = sym (z ∙ number-is l) in

@@ -16,7 +16,7 @@ use Rattle.definitions.specs.Outcomes.{Outcome, accepted, answersOf, answerSize
 use Rattle.definitions.specs.Orders.{listed}
 use Rattle.definitions.specs.Answers.{answer}
 use Rattle.definitions.specs.Placements.{compile}
-use Rattle.definitions.specs.Refusals.{Call, gridOf, identifyOf, isKnuth, refusal, sidesOf, table, trayOf}
+use Rattle.definitions.specs.Refusals.{Call, gridOf, identifyOf, isKnuth, refusal, sidesOf, table, lentOf, trayOf}
 use Rattle.definitions.specs.declared.Refusal.{Refusal}
 use Rattle.definitions.specs.declared.Listing.the-variants as listing
 use Rattle.definitions.proofs.DemandLaws.{demand3-holds, drop-in, take-in}
@@ -63,7 +63,7 @@ page-some list skip room h k = let d = length-drop skip list in let t = length-t
 
 -- the answers of an accepted call have one size
 answers-sized : (l : Call) → refusal l ≡ 0 → (x : List ℕ) → List·Memᴰ x (answersOf (trayOf l) (identifyOf (l .config)) (l .config .solver)) → length x ≡ answerSize (sidesOf (l .board))
-unfolding answersOf demand3 trayOf gridOf
+unfolding answersOf demand3 lentOf trayOf gridOf
 answers-sized l ok x m =
     let r = Memᴰ·of-map (answer (compile (trayOf l))) (listed (compile (trayOf l)) (identifyOf (l .config)) (l .config .solver)) m in
     sym (ap length (r .2)) ∙ demand3-holds l ok .answerLength (r .0)
@@ -81,7 +81,7 @@ module _ (l : Call) (ok : refusal l ≡ 0) (size room : ℕ) (size-is : size ≡
   list = answersOf (trayOf l) (identifyOf (l .config)) (l .config .solver)
 
   still : (skip : ℕ) → refusal (skipping skip l) ≡ 0
-  unfolding refusal table trayOf
+  unfolding refusal table lentOf trayOf
   still skip = ok
 
   capacity-is : capacity l ≡ room
@@ -106,7 +106,7 @@ module _ (l : Call) (ok : refusal l ≡ 0) (size room : ℕ) (size-is : size ≡
   pub page-here : (skip : ℕ) → skip ≤ length (answersOf (trayOf l) (identifyOf (l .config)) (l .config .solver)) → (n : ℕ) (further : Bool) (answers work links rest : List ℕ)
       → outcomeOf (listing.Page n further) answers work links ≡ outcome (skipping skip l)
       → Here (answersOf (trayOf l) (identifyOf (l .config)) (l .config .solver)) skip size room n further (answers ++ rest)
-  unfolding outcomeOf accepted pageOf trayOf capacity
+  unfolding outcomeOf accepted pageOf lentOf trayOf capacity
   page-here skip h n further answers work links rest e =
       let f = e ∙ outcome-accepted (skipping skip l) (still skip) in
       let g = page list skip room in

@@ -9,7 +9,7 @@ use lib.Dec.{ltb, ltb→lt}
 use lib.ListN.{length, take, drop}
 use lib.Seq.{length-take-le}
 use Rattle.definitions.specs.Outcomes.{answerSize, outcome, outcomeOf}
-use Rattle.definitions.specs.Refusals.{Call, refusal, sidesOf, trayOf}
+use Rattle.definitions.specs.Refusals.{Call, refusal, sidesOf, lentOf, trayOf}
 use Rattle.definitions.specs.declared.Refusal.{Refusal}
 use Rattle.definitions.specs.declared.Listing.the-variants as listing
 use Rattle.definitions.proofs.ListLaws.{holds}
@@ -50,7 +50,7 @@ module _ (text : List ℕ) (p : Progress) (cells work links : List ℕ) (read : 
   -- the outcome asked for is that of the page behind the entries in the buffer
   turned-outcome : outcomeBehind (take (2 * p .places) (drop ((p .written - 1) * (2 * p .places)) answers)) (callWith (recordsOf (p .asked .pieces)) (p .asked .board) (take (p .asked .used) cells) (p .asked .config) 0 (take (room * (2 * p .places)) answers) work links)
       ≡ outcome (skipping (p .base + p .written) (callFor text 0 (take (room * (2 * p .places)) answers) work links))
-  unfolding listIn callWith trayOf
+  unfolding listIn callWith lentOf trayOf
   turned-outcome =
       let some = s .someWritten more in
       let f = follows in
@@ -65,7 +65,7 @@ module _ (text : List ℕ) (p : Progress) (cells work links : List ℕ) (read : 
       ≡ outcomeBehind (take (2 * p .places) (drop ((p .written - 1) * (2 * p .places)) answers)) (callWith (recordsOf (p .asked .pieces)) (p .asked .board) (take (p .asked .used) cells) (p .asked .config) 0 (take (room * (2 * p .places)) answers) work links)
       → answers' ≡ page ++ drop (room * (2 * p .places)) answers → length answers' ≡ length answers
       → Turned text p work links answers' work' links' (record { begun = p .begun; asked = p .asked; base = p .base + p .written; from = 0; written = n; further = further; room = room; places = p .places })
-  unfolding listIn callWith trayOf
+  unfolding listIn callWith lentOf trayOf
   turned n further page work' links' answers' e f long =
       let h : Here (listIn text) (p .base + p .written) (2 * p .places) room n further (page ++ drop (room * (2 * p .places)) answers)
       = page-here l ok (2 * p .places) room size-is sized room-is roomSome (p .base + p .written) (let k = follows in omega arith) n further page work' links' (drop (room * (2 * p .places)) answers) (e ∙ turned-outcome) in

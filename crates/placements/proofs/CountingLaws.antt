@@ -42,7 +42,7 @@ use Rattle.shape.proofs.VariantLaws.{variant-filled, scan-from}
 use Rattle.placements.specs.declared.Table.{Table}
 use Rattle.placements.specs.declared.Verdict.{Verdict}
 use Rattle.placements.specs.declared.Verdict.the-variants.{Refused}
-use Rattle.placements.specs.Tables.{noRecord, listed, recordsOf, trayIn}
+use Rattle.placements.specs.Tables.{noRecord, listed, recordsOf, lentIn}
 use Rattle.placements.specs.Stages.{verdictNumber, lentRows, gridRows, callRows}
 use Rattle.placements.specs.Merging.{Sound, gridAt, shapeAt, formAt, formsOf, AreKinds, copiesAt}
 use Rattle.placements.specs.Counting.{fitsIn, placementsIn, OnBoard, Accepted9}
@@ -284,7 +284,7 @@ module _ (t : Table) (board : Record) (bytes : List ℕ) (config : Config) (work
 -- ---- what rows 2 to 9 leave: their bounds, and so few records that the table lists them all
 pub record Lent (t : Table) (board : Record) (bytes : List ℕ) : Type 0 where
   pub few : t .n ≤ 16
-  pub passed : PassedLent (recordsOf t) board bytes (trayIn (recordsOf t) board bytes)
+  pub passed : PassedLent (recordsOf t) board bytes (lentIn (recordsOf t) board bytes)
 
 few-records : (t : Table) → length (recordsOf t) ≤ 16 → t .n ≤ 16
 unfolding recordsOf
@@ -299,7 +299,7 @@ unfolding Accepted9 lentRows gridRows
 lent-passes t board bytes ok =
     let rs = recordsOf t in
     let none : (n : ℕ) → testOf (lentRows rs board bytes) n ≡ false = none-applies (lentRows rs board bytes) tt ok in
-    let h = passed-lent rs board bytes (trayIn rs board bytes) (none 2) (none 3) (none 4) (none 5) (none 6) (none 7) (none 8) (none 9) in
+    let h = passed-lent rs board bytes (lentIn rs board bytes) (none 2) (none 3) (none 4) (none 5) (none 6) (none 7) (none 8) (none 9) in
     record { few = few-records t (h .fewPieces); passed = h }
 
 -- ---- a tray's counts by a piece of each kind
@@ -335,7 +335,7 @@ module _ (t : Table) (board : Record) (bytes : List ℕ) (l : Lent t board bytes
   board-size = grid-size board (board-fits .1)
 
   abbrev tray : Tray
-  tray = trayIn (recordsOf t) board bytes
+  tray = lentIn (recordsOf t) board bytes
 
   abbrev order : List ℕ
   order = axes (gridOf bytes board .sides)
@@ -367,10 +367,10 @@ module _ (t : Table) (board : Record) (bytes : List ℕ) (l : Lent t board bytes
           ∙ ap sum (map-map-of f (formAt t bytes) (take n first) ∙ map-same (λ i. f (formAt t bytes i)) g (take n first)
           (λ i m. e i (ltb→lt i (t .n) (all-at (λ (j : ℕ). ltb j (t .n)) (take n first) (are .ordered .pieces) m))))
 
-      pub placements-by-pieces : placementCount (compile (trayIn (recordsOf t) board bytes)) ≡ sum (map (placementsAtPiece (axes (gridOf bytes board .sides)) (gridOf bytes board) t bytes) (take n first))
+      pub placements-by-pieces : placementCount (compile (lentIn (recordsOf t) board bytes)) ≡ sum (map (placementsAtPiece (axes (gridOf bytes board .sides)) (gridOf bytes board) t bytes) (take n first))
       placements-by-pieces = placements-sum tray ∙ sum-kinds (λ f. placementsBy tray (f .grid)) (placementsAtPiece order (gridOf bytes board) t bytes) placements-by
 
-      pub links-by-pieces : n ≤ length first → linkCount (compile (trayIn (recordsOf t) board bytes))
+      pub links-by-pieces : n ≤ length first → linkCount (compile (lentIn (recordsOf t) board bytes))
           ≡ length (scan (axes (gridOf bytes board .sides)) (gridOf bytes board)) + n + sum (map (linksAtPiece (axes (gridOf bytes board .sides)) (gridOf bytes board) t bytes) (take n first))
       unfolding formsOf sorted
       links-by-pieces h =
@@ -381,15 +381,15 @@ module _ (t : Table) (board : Record) (bytes : List ℕ) (l : Lent t board bytes
 
 -- the kinds of a tray, given by a piece of each: their shapes are the pieces' smallest turned grids, and they are as many
 module _ (t : Table) (board : Record) (bytes first : List ℕ) (n : ℕ) (are : AreKinds t bytes first n) where
-  pub kinds-shapes : map (λ d. d .shape) (kindsOf (trayIn (recordsOf t) board bytes)) ≡ map (shapeAt t bytes) (take n first)
+  pub kinds-shapes : map (λ d. d .shape) (kindsOf (lentIn (recordsOf t) board bytes)) ≡ map (shapeAt t bytes) (take n first)
   unfolding kindsOf sorted formsOf formAt
   kinds-shapes =
-      map-map-of (λ (d : Kind). d .shape) (made (trayIn (recordsOf t) board bytes)) (forms (sorted (trayIn (recordsOf t) board bytes)))
+      map-map-of (λ (d : Kind). d .shape) (made (lentIn (recordsOf t) board bytes)) (forms (sorted (lentIn (recordsOf t) board bytes)))
       ∙ ap (map (λ (f : Form). f .grid)) (sym (are .formsAre)) ∙ map-map-of (λ (f : Form). f .grid) (formAt t bytes) (take n first)
 
-  pub kinds-many : n ≤ length first → length (kindsOf (trayIn (recordsOf t) board bytes)) ≡ n
+  pub kinds-many : n ≤ length first → length (kindsOf (lentIn (recordsOf t) board bytes)) ≡ n
   kinds-many h =
-      sym (length-map (kindsOf (trayIn (recordsOf t) board bytes)) (λ d. d .shape)) ∙ ap length kinds-shapes ∙ length-map (take n first) (shapeAt t bytes) ∙ length-take-le n first h
+      sym (length-map (kindsOf (lentIn (recordsOf t) board bytes)) (λ d. d .shape)) ∙ ap length kinds-shapes ∙ length-map (take n first) (shapeAt t bytes) ∙ length-take-le n first h
 
 -- the links of piece i as the code counts them
 module _ (order : List ℕ) (g : Grid) (t : Table) (bytes : List ℕ) (i rows copies : ℕ) (r : rows ≡ placementsAtPiece order g t bytes i) (m : copies ≡ copiesAt t bytes i) where
@@ -510,12 +510,12 @@ module _ (order : List ℕ) (g : Grid) (places : List ℕ) (n : ℕ) (is : axes 
 -- the counts of a tray from what the code adds up, a piece of each kind
 module _ (t : Table) (board : Record) (bytes : List ℕ) (l : Lent t board bytes) (long : length (t .rows) ≡ 16) (first : List ℕ) (kinds : ℕ) (are : AreKinds t bytes first kinds)
     (h : kinds ≤ length first) (order places : List ℕ) (n : ℕ) (on : OnBoard order (gridOf bytes board) places n) (g : Grid) (is : g ≡ gridOf bytes board) where
-  pub placements-counted : sum (map (placementsAtPiece order g t bytes) (take kinds first)) ≡ placementCount (compile (trayIn (recordsOf t) board bytes))
+  pub placements-counted : sum (map (placementsAtPiece order g t bytes) (take kinds first)) ≡ placementCount (compile (lentIn (recordsOf t) board bytes))
   placements-counted =
       ap₂ (λ (o : List ℕ) (b : Grid). sum (map (placementsAtPiece o b t bytes) (take kinds first))) (sym (on .isOrder)) is
       ∙ sym (placements-by-pieces t board bytes l long first kinds are)
 
-  pub links-counted : n + kinds + sum (map (linksAtPiece order g t bytes) (take kinds first)) ≡ linkCount (compile (trayIn (recordsOf t) board bytes))
+  pub links-counted : n + kinds + sum (map (linksAtPiece order g t bytes) (take kinds first)) ≡ linkCount (compile (lentIn (recordsOf t) board bytes))
   links-counted =
       ap (λ (m : ℕ). m + kinds + sum (map (linksAtPiece order g t bytes) (take kinds first))) (sym (cells-many order (gridOf bytes board) places n on))
       ∙ ap₂ (λ (o : List ℕ) (b : Grid). length (scan o (gridOf bytes board)) + kinds + sum (map (linksAtPiece o b t bytes) (take kinds first))) (sym (on .isOrder)) is

@@ -3,13 +3,13 @@ use mathlib.Core.List.{_++_}
 use mathlib.Core.Path.{_≡_, refl, ap}
 use lib.ListN.{length}
 use Rattle.definitions.specs.Placements.{compile}
-use Rattle.definitions.specs.Refusals.{Call, trayOf, table, refusal, firstThatApplies}
+use Rattle.definitions.specs.Refusals.{Call, lentOf, trayOf, table, refusal, firstThatApplies}
 use Rattle.placements.specs.Tables.{trayIn}
 use Rattle.placements.specs.Stages.{gridRows, lentRows, callRows, countRows}
 
 pub stages : (l : Call)
     → table l ≡ lentRows (l .pieces) (l .board) (l .bytes) ++ callRows (l .config) (length (l .work)) (length (l .links)) ++ countRows (compile (trayIn (l .pieces) (l .board) (l .bytes))) (l .config)
-unfolding table lentRows gridRows callRows countRows trayOf
+unfolding table lentRows gridRows callRows countRows lentOf trayOf
 stages l = refl
 
 pub refusal-stages : (l : Call)

@@ -12,7 +12,7 @@ use Rattle.definitions.specs.declared.Record.{Record}
 use Rattle.definitions.specs.declared.Config.{Config}
 use Rattle.placements.specs.declared.Verdict.{Verdict}
 use Rattle.placements.specs.declared.Verdict.the-variants.{Accepted, Refused}
-use Rattle.placements.specs.Tables.{trayIn}
+use Rattle.placements.specs.Tables.{lentIn}
 
 abbrev pub verdictNumber : Verdict → ℕ
 verdictNumber Accepted = 0
@@ -21,7 +21,7 @@ verdictNumber (Refused why) = numberOf why
 -- rows 5 to 9, 2 to 9, 10 to 13, 14 and 15
 unfoldable pub gridRows : List Record → Record → List ℕ → List Row
 gridRows rs board bytes =
-    let t = trayIn rs board bytes in
+    let t = lentIn rs board bytes in
     row 5 (not (areBits (t .board) && all (λ q. areBits (q .grid)) (t .pieces))) ∷
     row 6 (not (all (λ q. someFilled (q .grid)) (t .pieces))) ∷
     row 7 (not (all (λ q. isTight (q .grid)) (t .pieces))) ∷

@@ -21,5 +21,9 @@ listed false t = replicate (t .n) noRecord
 unfoldable pub recordsOf : Table → List Record
 recordsOf t = listed (leb (t .n) 16) t
 
+-- the tray that records and a board lend, and the tray that is listed
+abbrev pub lentIn : List Record → Record → List ℕ → Tray
+lentIn rs board bytes = record { board = gridOf bytes board; pieces = map (pieceOf bytes) rs }
+
 abbrev pub trayIn : List Record → Record → List ℕ → Tray
-trayIn rs board bytes = record { board = gridOf bytes board; pieces = map (pieceOf bytes) rs }
+trayIn rs board bytes = lentIn rs board bytes

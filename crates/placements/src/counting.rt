@@ -8,7 +8,7 @@ ghost use Rattle.definitions.specs.Refusals.{gridOf, placementCount, linkCount,
 ghost use Rattle.shape.specs.Grids.{asGrid, Whole};
 ghost use Rattle.shape.specs.Variants.{turnedBy};
 ghost use Rattle.shape.specs.Scans.{asOrder};
-ghost use Rattle.placements.specs.Tables.{recordsOf, trayIn};
+ghost use Rattle.placements.specs.Tables.{recordsOf, lentIn, trayIn};
 ghost use Rattle.placements.specs.Stages.{verdictNumber, lentRows, callRows, countRows};
 ghost use Rattle.placements.specs.Merging.{AreKinds};
 ghost use Rattle.placements.specs.Counting.{fitsIn, placementsIn, OnBoard, Accepted9};
@@ -90,7 +90,7 @@ pub fn count_tray(
     order: AxisOrder,
 ) -> Counts
     requires { ⌜ Accepted9 t board (now bytes) × AreKinds t (now bytes) (now first) kinds × (kinds ≤ length (now first)) × OnBoard (asOrder order) (gridOf (now bytes) board) (now places) n ⌝ }
-    ensures { λ r. ⌜ (r .placements ≡ placementCount (compile (trayIn (recordsOf t) board (now (bytes .entry))))) × (r .links ≡ linkCount (compile (trayIn (recordsOf t) board (now (bytes .entry))))) ⌝ }
+    ensures { λ r. ⌜ (r .placements ≡ placementCount (compile (lentIn (recordsOf t) board (now (bytes .entry))))) × (r .links ≡ linkCount (compile (lentIn (recordsOf t) board (now (bytes .entry))))) ⌝ }
 {
     let b = records::sides_of(board);
     let grid = records::cells_of(bytes, board);

@@ -16,7 +16,7 @@ use Rattle.definitions.specs.Refusals.{gridOf, sidesOf, placementCount}
 use Rattle.definitions.specs.declared.Record.{Record}
 use Rattle.definitions.proofs.ListLaws.{all-at, numbered-map}
 use Rattle.placements.specs.declared.Table.{Table}
-use Rattle.placements.specs.Tables.{noRecord, recordsOf, trayIn}
+use Rattle.placements.specs.Tables.{noRecord, recordsOf, lentIn}
 use Rattle.placements.specs.Merging.{gridAt, shapeAt, AreKinds}
 use Rattle.placements.proofs.RefusalLaws.{cells-end}
 use Rattle.placements.proofs.MergingLaws.{record-fits}
@@ -67,7 +67,7 @@ module _ (t : Table) (board : Record) (bytes : List ℕ) (lent : Lent t board by
   piece-variants i h = variants-smallest (gridAt t bytes i) (piece-size i h)
 
   module _ (first : List ℕ) (kinds : ℕ) (are : AreKinds t bytes first kinds) (order : List ℕ) (is-order : axes (gridOf bytes board .sides) ≡ order) (g : Grid) (is : g ≡ gridOf bytes board) where
-    pub placements-all : leftFrom order g t bytes first kinds 0 ≡ compile (trayIn (recordsOf t) board bytes) .placements
+    pub placements-all : leftFrom order g t bytes first kinds 0 ≡ compile (lentIn (recordsOf t) board bytes) .placements
     unfolding compile placementsOf
     placements-all =
         ap₂ (λ (o : List ℕ) (b : Grid). leftFrom o b t bytes first kinds 0) (sym is-order) is
@@ -76,7 +76,7 @@ module _ (t : Table) (board : Record) (bytes : List ℕ) (lent : Lent t board by
         (λ k i m. ap (placementsBy ord bd k) (sym (piece-variants i (ltb→lt i (t .n) (all-at (λ (j : ℕ). ltb j (t .n)) (take kinds first) (are .ordered .pieces) m)))))
         ∙ sym (numbered-map (shapeAt t bytes) by 0 (take kinds first))
         ∙ ap (λ (gs : List Grid). numberedFrom 0 gs by) (sym (kinds-shapes t board bytes first kinds are))
-        ∙ numbered-map (λ (d : Kind). d .shape) by 0 (kindsOf (trayIn (recordsOf t) board bytes)))
+        ∙ numbered-map (λ (d : Kind). d .shape) by 0 (kindsOf (lentIn (recordsOf t) board bytes)))
       where
         bd : Grid
         bd = gridOf bytes board
@@ -87,6 +87,6 @@ module _ (t : Table) (board : Record) (bytes : List ℕ) (lent : Lent t board by
         by : ℕ → Grid → List Placement
         by k h = placementsBy ord bd k (variants h)
 
-    pub placements-room : (size : ℕ) → 8 * placementCount (compile (trayIn (recordsOf t) board bytes)) ≤ size → 8 * (0 + length (leftFrom order g t bytes first kinds 0)) ≤ size
+    pub placements-room : (size : ℕ) → 8 * placementCount (compile (lentIn (recordsOf t) board bytes)) ≤ size → 8 * (0 + length (leftFrom order g t bytes first kinds 0)) ≤ size
     unfolding placementCount
     placements-room size h = let e = ap length placements-all in omega arith

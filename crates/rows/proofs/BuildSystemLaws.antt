@@ -16,7 +16,7 @@ use Rattle.definitions.specs.Scan.{axes, scan, scanNumber}
 use Rattle.definitions.specs.Kinds.{Tray}
 use Rattle.definitions.specs.Placements.{Placement, Compiled, compile}
 use Rattle.definitions.specs.Kept.{symmetries, cellAfter}
-use Rattle.definitions.specs.Refusals.{Call, Row, trayOf, gridOf, isPorted, isKnuth, placementCount, firstThatApplies, refusal}
+use Rattle.definitions.specs.Refusals.{Call, Row, lentOf, trayOf, gridOf, isPorted, isKnuth, placementCount, firstThatApplies, refusal}
 use Rattle.definitions.specs.declared.Record.{Record}
 use Rattle.definitions.specs.declared.SolverKind.the-variants.{Fast}
 use Rattle.definitions.proofs.ListLaws.{all-at, all-of, below-at, keep-length, length-from, length-below}
@@ -193,11 +193,11 @@ module _ (t : Table) (board : Record) (bytes : List ℕ) (ok : Accepted9 t board
   passes = fast-accepted t board bytes work ok few long
 
   pub spread-all : map spread (compile (trayIn (recordsOf t) board bytes) .placements) ≡ compile (trayIn (recordsOf t) board bytes) .placements
-  unfolding trayOf
+  unfolding lentOf trayOf
   spread-all = spread-placements call passes
 
   first-few : (q : Placement) → List·Memᴰ q (C .placements) → q .p < 128
-  unfolding trayOf
+  unfolding lentOf trayOf
   first-few q m = let a = W call passes .onBoard q m (q .p) (W call passes .coversP q m) in let b = few-cells call passes in omega arith
 
   -- the rows written: as many as placements, and each at one of 128 cells

@@ -22,7 +22,7 @@ use Rattle.definitions.proofs.ActLaws.{product-on}
 use Rattle.definitions.proofs.MoveLaws.{mirror-in, mapped-whole}
 use Rattle.definitions.proofs.PartnerLaws.{mirror-twice, form-path}
 use Rattle.placements.specs.declared.Table.{Table}
-use Rattle.placements.specs.Tables.{noRecord, recordsOf, trayIn}
+use Rattle.placements.specs.Tables.{noRecord, recordsOf, lentIn}
 use Rattle.placements.specs.Merging.{Sound, gridAt, shapeAt, woodAt, formAt, movedForm, formsOf, AreKinds, copiesAt}
 use Rattle.placements.specs.Counting.{Accepted9}
 use Rattle.placements.proofs.RefusalLaws.{cells-end, records-few, records-count}
@@ -32,7 +32,7 @@ use Rattle.rows.specs.Systems.{Owned, KindsIn, owned, ownedIn}
 use Rattle.rows.proofs.PairLaws.{number-at, map-below, pairs, first-stored, second-stored, front-next}
 
 -- ---- a tray has at most 128 copies
-pub few-copies : (t : Table) (board : Record) (bytes : List ℕ) → Accepted9 t board bytes → copyCount (trayIn (recordsOf t) board bytes) ≤ 128
+pub few-copies : (t : Table) (board : Record) (bytes : List ℕ) → Accepted9 t board bytes → copyCount (lentIn (recordsOf t) board bytes) ≤ 128
 few-copies t board bytes ok = lent-passes t board bytes ok .passed .fewCopies
 
 abbrev counts : List ℕ → List Record → ℕ
@@ -139,7 +139,7 @@ module _ (t : Table) (board : Record) (bytes first : List ℕ) (n : ℕ) (long :
       (p ∙ ap (copiesAt t bytes) x) (q ∙ ap (partnerAt t bytes first n) x)
 
   abbrev tray : Tray
-  tray = trayIn (recordsOf t) board bytes
+  tray = lentIn (recordsOf t) board bytes
 
   forms-are : forms (sorted tray) ≡ map (formAt t bytes) xs
   unfolding sorted formsOf
@@ -170,7 +170,7 @@ module _ (t : Table) (board : Record) (bytes first : List ℕ) (n : ℕ) (long :
   partners-are = by-pieces (λ (d : Kind). d .partner) (partnerAt t bytes first n) partner-is
 
   pub kinds-end : (old : List ℕ) → 2 * n ≤ length old → (new : List ℕ) → new ≡ paste old 0 (pairs (copiesAt t bytes) (partnerAt t bytes first n) (take n first)) (2 * n)
-      → KindsIn new n (compile (trayIn (recordsOf t) board bytes))
+      → KindsIn new n (compile (lentIn (recordsOf t) board bytes))
   unfolding compile limits
   kinds-end old fits new e =
       let s = size in
@@ -201,7 +201,7 @@ module _ (t : Table) (board : Record) (bytes first : List ℕ) (n : ℕ) (long :
       front-next (kindAt t bytes first n) (countAt t) old is 0 (omega arith) i (omega arith) new e a b
       (p ∙ ap (λ (g : Form). before (sameForm g) (formsOf t bytes (take n first))) (unmoved-form t bytes lent-sound long i l) ∙ ap (kindAt t bytes first n) x) (q ∙ ap (countAt t) x)
 
-  forms-here : formsOf t bytes (take n first) ≡ forms (sorted (trayIn (recordsOf t) board bytes))
+  forms-here : formsOf t bytes (take n first) ≡ forms (sorted (lentIn (recordsOf t) board bytes))
   unfolding sorted
   forms-here = are .formsAre
 
@@ -210,7 +210,7 @@ module _ (t : Table) (board : Record) (bytes first : List ℕ) (n : ℕ) (long :
   form-here i = refl
 
   pub pieces-end : (old : List ℕ) → 2 * t .n ≤ length old → (new : List ℕ) → new ≡ paste old 0 (pairs (kindAt t bytes first n) (countAt t) (below (t .n))) (2 * t .n)
-      → ownedIn new (t .n) ≡ owned (trayIn (recordsOf t) board bytes)
+      → ownedIn new (t .n) ≡ owned (lentIn (recordsOf t) board bytes)
   unfolding ownedIn owned
   pieces-end old fits new e =
       map-below (λ i. record { kind = getD new (2 * i) 0; count = getD new (2 * i + 1) 0 }) (t .n) (own (pieceOf bytes noRecord)) (map own (map (pieceOf bytes) (recordsOf t)))
@@ -218,7 +218,7 @@ module _ (t : Table) (board : Record) (bytes first : List ℕ) (n : ℕ) (long :
       (λ i l. ap₂ (λ (k m : ℕ). record { kind = k; count = m }) (kind-here i l) (count-here i l) ∙ sym (listed i l))
     where
       gs : List Form
-      gs = forms (sorted (trayIn (recordsOf t) board bytes))
+      gs = forms (sorted (lentIn (recordsOf t) board bytes))
 
       own : Piece → Owned
       own q = record { kind = before (sameForm (pieceForm q)) gs; count = q .count }

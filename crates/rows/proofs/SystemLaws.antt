@@ -14,7 +14,7 @@ use Rattle.definitions.specs.Kinds.{Piece, Form, sameForm, formAhead, Sorted, s
 use Rattle.definitions.specs.Placements.{Placement, Compiled, compile}
 use Rattle.definitions.specs.Packing.{limits}
 use Rattle.definitions.specs.Kept.{kindAfter}
-use Rattle.definitions.specs.Refusals.{Call, trayOf, copyCount, boardCellCount, placementCount, refusal}
+use Rattle.definitions.specs.Refusals.{Call, lentOf, trayOf, copyCount, boardCellCount, placementCount, refusal}
 use Rattle.definitions.proofs.ListLaws.{keep-at, keep-of, keep-ascending, below-of, from-ascending, member-at, member-of, ltb-trans, ltb-irrefl, ascending-unique, and-right, not-again, length-below, apart-ascending, apart-length, is-false}
 use Rattle.definitions.proofs.CountLaws.{total, total-add, total-zero, total-same, sum-map}
 use Rattle.definitions.proofs.GroupLaws.{identity-grid}
@@ -94,11 +94,11 @@ module _ (l : Call) (ok : refusal l ≡ 0) where
   C = compile (trayOf l)
 
   -- ---- limits
-  abbrev tested : PassedLent (l .pieces) (l .board) (l .bytes) (trayOf l)
+  abbrev tested : PassedLent (l .pieces) (l .board) (l .bytes) (lentOf l)
   tested = passed l ok .lent
 
   pub few-cells : length (compile (trayOf l) .cells) ≤ 128
-  unfolding compile boardCellCount
+  unfolding compile boardCellCount trayOf
   few-cells =
       let g = trayOf l .board in
       let a = tested .fewCells in
@@ -112,7 +112,7 @@ module _ (l : Call) (ok : refusal l ≡ 0) where
   few-rows = passed l ok .fewPlacements
 
   pub few-kinds : length (compile (trayOf l) .kinds) ≤ 16
-  unfolding compile kindsOf trayOf fs forms sorted
+  unfolding compile kindsOf lentOf trayOf fs forms sorted
   few-kinds =
       let a = tested .fewPieces in
       let qs = sorted (trayOf l) in
@@ -125,7 +125,7 @@ module _ (l : Call) (ok : refusal l ≡ 0) where
       omega arith
 
   pub few-copies : sum (limits (compile (trayOf l))) ≤ 128
-  unfolding compile limits kindsOf copyCount fs sorted
+  unfolding compile limits kindsOf copyCount trayOf fs sorted
   few-copies =
       let a = tested .fewCopies in
       let qs = sorted (trayOf l) in

@@ -11,7 +11,7 @@ ghost use Rattle.definitions.specs.Grid.{volume};
 ghost use Rattle.definitions.specs.Refusals.{placementCount, sidesOf};
 ghost use Rattle.placements.specs.Counting.{Accepted9};
 ghost use Rattle.placements.specs.Merging.{AreKinds};
-ghost use Rattle.placements.specs.Tables.{recordsOf, trayIn};
+ghost use Rattle.placements.specs.Tables.{recordsOf, lentIn, trayIn};
 ghost use Rattle.rows.specs.Chains.{Chained};
 ghost use Rattle.rows.specs.Systems.{KindsIn, owned, ownedIn, systemIn, systemOf};
 use super::Dims;
@@ -29,7 +29,7 @@ use shape::scan;
 // For each kind its copies and its mirror partner.
 fn list_kinds(t: Table, board: Record, bytes: &[u8], first: &[u8], n: usize, kinds: &mut [u8])
     requires { ⌜ Accepted9 t board (now bytes) × AreKinds t (now bytes) (now first) n × (n ≤ length (now first)) × (2 * n ≤ length (now kinds)) ⌝ }
-    ensures { λ _. ⌜ KindsIn (now (kinds .exit)) n (compile (trayIn (recordsOf t) board (now (bytes .entry)))) ⌝ }
+    ensures { λ _. ⌜ KindsIn (now (kinds .exit)) n (compile (lentIn (recordsOf t) board (now (bytes .entry)))) ⌝ }
 {
     let mut k = 0;
     while k < n {
@@ -43,7 +43,7 @@ fn list_kinds(t: Table, board: Record, bytes: &[u8], first: &[u8], n: usize, kin
 // For each piece its kind and its count.
 fn list_pieces(t: Table, board: Record, bytes: &[u8], first: &[u8], n: usize, pieces: &mut [u8])
     requires { ⌜ Accepted9 t board (now bytes) × AreKinds t (now bytes) (now first) n × (n ≤ length (now first)) × (32 ≤ length (now pieces)) ⌝ }
-    ensures { λ _. ⌜ ownedIn (now (pieces .exit)) (t .n) ≡ owned (trayIn (recordsOf t) board (now (bytes .entry))) ⌝ }
+    ensures { λ _. ⌜ ownedIn (now (pieces .exit)) (t .n) ≡ owned (lentIn (recordsOf t) board (now (bytes .entry))) ⌝ }
 {
     let m = t.n;
     let mut i = 0;

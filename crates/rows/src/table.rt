@@ -16,7 +16,7 @@ ghost use Rattle.shape.specs.Coords.{Fit, asCell, asSides};
 ghost use Rattle.shape.specs.Grids.{Whole, asGrid};
 ghost use Rattle.shape.specs.Scans.{asOrder};
 ghost use Rattle.shape.specs.Variants.{turnedBy};
-ghost use Rattle.placements.specs.Tables.{recordsOf, trayIn};
+ghost use Rattle.placements.specs.Tables.{recordsOf, lentIn};
 ghost use Rattle.placements.specs.Merging.{AreKinds};
 ghost use Rattle.placements.specs.Counting.{Accepted9, OnBoard};
 ghost use Rattle.rows.specs.Rows.{Appended, cellsOf, maskAt, rowAt, rowsIn, spread};
@@ -232,8 +232,8 @@ pub fn build_rows(
     work: &mut [u64],
 ) -> usize
     requires { ⌜ Accepted9 t board (now bytes) × AreKinds t (now bytes) (now first) kinds × (kinds ≤ length (now first)) × OnBoard (asOrder order) (gridOf (now bytes) board) (now places) size × Numbered (asOrder order) (gridOf (now bytes) board) (now scans) ⌝ }
-    requires { ⌜ 8 * placementCount (compile (trayIn (recordsOf t) board (now bytes))) ≤ length (now work) ⌝ }
-    ensures { λ r. ⌜ Appended (now (work .entry)) 0 (now (work .exit)) r (map spread (compile (trayIn (recordsOf t) board (now (bytes .entry))) .placements)) ⌝ }
+    requires { ⌜ 8 * placementCount (compile (lentIn (recordsOf t) board (now bytes))) ≤ length (now work) ⌝ }
+    ensures { λ r. ⌜ Appended (now (work .entry)) 0 (now (work .exit)) r (map spread (compile (lentIn (recordsOf t) board (now (bytes .entry))) .placements)) ⌝ }
 {
     let b = records::sides_of(board);
     let grid = records::cells_of(bytes, board);

@@ -12,7 +12,7 @@ use Rattle.definitions.specs.Placements.{Placement, compile}
 use Rattle.definitions.specs.Refusals.{gridOf}
 use Rattle.shape.specs.Grids.{asGrid}
 use Rattle.shape.specs.Scans.{asOrder}
-use Rattle.placements.specs.Tables.{recordsOf, trayIn}
+use Rattle.placements.specs.Tables.{recordsOf, lentIn}
 use Rattle.placements.specs.Counting.{OnBoard}
 use Rattle.placements.proofs.RefusalLaws.{rows-long, grid-is, grid-whole}
 use Rattle.placements.proofs.MergingLaws.{piece-at, record-fits, piece-whole, piece-grid}
@@ -50,7 +50,7 @@ left c k =
     leftFrom (asOrder (a .order)) (boardGrid c) (a .t1) (now (a .bytes)) (now (a .first)) (a .kinds) k
 
 all-is : (c : tie.After-cells-of Inv-loop μ-loop)
-    → left c 0 ≡ compile (trayIn (recordsOf (c .before .before .before .before .before .before .before .args .t1)) (c .before .before .before .before .before .before .before .args .board) (now (c .before .before .before .before .before .before .before .args .bytes))) .placements
+    → left c 0 ≡ compile (lentIn (recordsOf (c .before .before .before .before .before .before .before .args .t1)) (c .before .before .before .before .before .before .before .args .board) (now (c .before .before .before .before .before .before .before .args .bytes))) .placements
 all-is c =
     let z = c .before .before .before .before .before .before .before in
     let a = z .args in

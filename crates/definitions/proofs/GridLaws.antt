@@ -1,0 +1,33 @@
+-- Bytes that are 0 or 1, and how many cells a box has. Assumes nothing.
+use Prim.Native.Nat.{ℕ, zero, suc, _+_, _*_, _≤_}
+use mathlib.Core.Bool.{Bool, _&&_}
+use mathlib.Core.List.{List, [], _∷_, map}
+use mathlib.Core.Path.{_≡_, sym, _∙_}
+use native.Mathlib.Nat.{mul-assoc}
+use native.Mathlib.Omega.{arith}
+use lib.Dec.{T, leb, leb→le}
+use lib.ListN.{length, getD, length-map}
+use Rattle.definitions.specs.Lists.{all, each, below}
+use Rattle.definitions.proofs.ListLaws.{and-left, and-right, length-below}
+use Rattle.definitions.specs.Grid.{Sides, Cell, Grid, box, volume, byteAt}
+use Rattle.definitions.proofs.MapLaws.{length-blocks}
+use Rattle.definitions.specs.Refusals.{areBits}
+
+-- ---- bytes that are 0 or 1
+pub byte-bit : (g : Grid) → T (areBits g) → (u : Cell) → byteAt g u ≤ 1
+unfolding areBits byteAt
+byte-bit g t u = go (g .cells) ((u .x * g .sides .b + u .y) * g .sides .c + u .z) t
+  where
+    go : (xs : List ℕ) (k : ℕ) → T (all (λ n. leb n 1) xs) → getD xs k 0 ≤ 1
+    go [] k s = omega arith
+    go (x ∷ xs) zero s = leb→le x 1 (and-left (leb x 1) (all (λ n. leb n 1) xs) s)
+    go (x ∷ xs) (suc k) s = go xs k (and-right (leb x 1) (all (λ n. leb n 1) xs) s)
+
+pub length-box : (s : Sides) → length (box s) ≡ volume s
+unfolding box volume
+length-box s =
+    length-blocks none (λ i. each (below (s .b)) (λ j. map (λ k. record { x = i; y = j; z = k }) (below (s .c)))) (s .b * s .c) (λ i. length-blocks none (λ j. map (λ k. record { x = i; y = j; z = k }) (below (s .c))) (s .c) (λ j. length-map (below (s .c)) (λ k. record { x = i; y = j; z = k }) ∙ length-below (s .c)) 0 (s .b)) 0 (s .a)
+    ∙ sym (mul-assoc (s .a) (s .b) (s .c))
+  where
+    none : Cell
+    none = record { x = 0; y = 0; z = 0 }
