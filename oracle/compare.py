@@ -5,12 +5,15 @@ without a piece are judged by document 01's packing alone: the original panics o
 each of them and is not asked, and the oracle's own list is held to the model's.
 The original knows no woods: trays of one wood are compared with it, whichever wood
 that is. Mixed trays are the model's, and its lists are held to what the original
-finds with the woods left out, coloured in every way (`is_coloured_right`).
+finds with the woods left out, coloured in every way (`is_coloured_right`). The
+original is run on the grids without their empty outer layers, and its answers are
+put back into the lent box; the model's list of a tray with such layers is also held
+to its own list of the tray without, put back here (`is_put_back`).
 
     compare.py SEED COUNT
 
 Exit status 1 if a difference belongs to none of the known classes, if a case of
-the stream does not say what the model prints, or misses the limit it is for.
+the stream does not say what the model prints, or misses what its corner is for.
 """
 
 import collections
@@ -55,6 +58,17 @@ AT_LIMITS = {
     "woods_links_4096": ("links", 4096),
     "woods_links_4096_lent_again": ("links", 4096),
     "refused_15_woods_links_4097": ("links", 4097),
+    "layers_copies_128": ("copies", 128),
+    "refused_8_layers_copies_129": ("copies", 129),
+    "layers_filled_128": ("filled", 128),
+    "refused_9_layers_filled_129": ("filled", 129),
+    "layers_placements_1024": ("placements", 1024),
+    "layers_placements_1024_lent_again": ("placements", 1024),
+    "refused_14_layers_placements_1025": ("placements", 1025),
+    "refused_14_layers_that_fit_nowhere": ("placements", 1025),
+    "layers_links_4096": ("links", 4096),
+    "layers_links_4096_lent_again": ("links", 4096),
+    "refused_15_layers_links_4097": ("links", 4097),
     "empty_box_filled_128": ("filled", 128),
     "refused_9_empty_box_filled_129": ("filled", 129),
     "placements_1024": ("placements", 1024),
@@ -91,9 +105,9 @@ def cases(stream):
         yield name.decode(), tray, stream.read(int(expected_bytes)).decode(), kind.decode()
 
 
-def run_original(tray, program="oracle"):
+def run_original(tray, program="oracle", *words):
     run = subprocess.run(
-        [os.path.join(RELEASE, program)], input=tray, stdout=subprocess.PIPE, timeout=60
+        [os.path.join(RELEASE, program), *words], input=tray, stdout=subprocess.PIPE, timeout=60
     )
     return run.stdout.decode()
 
@@ -127,6 +141,55 @@ def is_woods_corner_missed(name, tray):
     return is_mixed(tray) == is_of_one and not name.startswith("woods_side_0")
 
 
+# -- empty outer layers: by the first and the last filled layer of each axis
+
+def stripped(cells):
+    """The grid of some cells between these layers, and the cell where it begins."""
+    low = tuple(min(cell[axis] for cell in cells) for axis in range(3))
+    sides = tuple(max(cell[axis] for cell in cells) - low[axis] + 1 for axis in range(3))
+    moved = {tuple(cell[axis] - low[axis] for axis in range(3)) for cell in cells}
+    return (sides, tuple(int(cell in moved) for cell in model.cells_of(sides))), low
+
+
+def set_down(cell, low):
+    return tuple(at + by for at, by in zip(cell, low))
+
+
+def has_layers(tray):
+    """Whether the board or a piece has an empty outer layer."""
+    _, _, board, pieces = model.parse(tray)
+    return any(map(model.has_empty_outer_layer, [board] + [grid for _, grid, _ in pieces]))
+
+
+def without_layers(tray):
+    """The file of the stripped tray, the box that was lent and where the board lies in it."""
+    engine, identified, board, pieces = model.parse(tray)
+    filled = model.filled_cells(board)
+    bare, low = stripped(filled) if filled else (board, (0, 0, 0))
+    lines = ["config\t%s\t%s" % (engine, identified), "board\t" + fields(bare)]
+    for count, grid, wood in pieces:
+        grid = stripped(model.filled_cells(grid))[0]
+        lines.append("piece\t%d\t%s\t%d" % (count, fields(grid), wood))
+    return "".join(line + "\n" for line in lines).encode(), board[0], bare[0], low
+
+
+def fields(grid):
+    return "\t".join(map(str, grid[0])) + "\t" + "".join(map(str, grid[1]))
+
+
+def is_put_back(tray, listing):
+    """Whether an accepted tray's listing is that of the stripped tray in the lent box."""
+    file, lent, bare, low = without_layers(tray)
+    *entries, last = model.listing(file).splitlines()
+    lines = []
+    for entry in entries:
+        number, owners = entry.split("\t")
+        cells = [set_down(cell, low) for cell in model.cells_of(bare)]
+        owner = dict(zip(cells, owners.split(" ")))
+        lines.append(number + "\t" + " ".join(owner.get(cell, "-") for cell in model.cells_of(lent)))
+    return "".join(line + "\n" for line in lines + [last]) == listing
+
+
 # -- mixed trays: packings as sets of (wood, cells), whatever their kinds are
 
 def parts_of(line, board):
@@ -139,10 +202,7 @@ def parts_of(line, board):
 
 
 def shape_of(cells):
-    low = [min(cell[axis] for cell in cells) for axis in range(3)]
-    sides = tuple(max(cell[axis] for cell in cells) - low[axis] + 1 for axis in range(3))
-    moved = {tuple(cell[axis] - low[axis] for axis in range(3)) for cell in cells}
-    return model.variants((sides, tuple(int(cell in moved) for cell in model.cells_of(sides))))[0]
+    return model.variants(stripped(cells)[0])[0]
 
 
 def colourings(parts, copies):
@@ -164,8 +224,8 @@ def coloured_packings(tray):
     _, _, board, pieces = model.parse(tray)
     copies = collections.Counter()
     for count, grid, wood in pieces:
-        copies[model.variants(grid)[0], wood] += count
-    lines = run_original(under(tray, "fast", "none"), "raw").splitlines()[:-1]
+        copies[shape_of(model.filled_cells(grid)), wood] += count
+    lines = run_original(under(tray, "fast", "none"), "raw", "stripped").splitlines()[:-1]
     return {
         frozenset(coloured)
         for line in lines
@@ -178,11 +238,19 @@ def is_coloured_right(tray, listing, packings):
     no other. Of the order, and of which one a class shows, this says nothing."""
     _, identified, board, pieces = model.parse(tray)
     maps = {"none": [], "turned": model.TURNS, "mirrored": model.TURNS + model.MIRRORINGS}
-    cells = model.cells_of(board[0])
+    # The maps are those of the stripped board, which lies at `low` in the lent box.
+    filled = model.filled_cells(board)
+    board_grid, low = stripped(filled) if filled else (board, (0, 0, 0))
     moved = [
-        dict(zip(cells, model.run_moves(moves, board[0], cells)[1]))
+        {
+            set_down(cell, low): set_down(to, low)
+            for cell, to in zip(
+                model.cells_of(board_grid[0]),
+                model.run_moves(moves, board_grid[0], model.cells_of(board_grid[0]))[1],
+            )
+        }
         for moves in maps[identified]
-        if model.moved_grid(moves, board) == board
+        if model.moved_grid(moves, board_grid) == board_grid
     ]
     left = set(packings)
     for line in listing.splitlines()[:-1]:
@@ -241,6 +309,14 @@ def main():
         if is_woods_corner_missed(name, tray) or is_mixed(tray) and kind == "rust":
             found[UNEXPLAINED] += 1
             print("woods not as they should be: %s\n%s" % (name, tray.decode(errors="replace")))
+        if "layers" in name and not has_layers(tray):
+            found[UNEXPLAINED] += 1
+            print("no empty outer layer: %s\n%s" % (name, tray.decode(errors="replace")))
+        if not expected.startswith("refused") and has_layers(tray):
+            found["trays with empty outer layers, accepted"] += 1
+            if not is_put_back(tray, expected):
+                found[UNEXPLAINED] += 1
+                print("not put back: %s\n%s" % (name, tray.decode(errors="replace")))
         problems = {}
         coloured = None
         if model.listing(tray, problems) != expected:

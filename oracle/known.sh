@@ -21,7 +21,9 @@ differs() {
 # Trays with a listing beside them: the model prints it byte for byte, and so
 # does the original, save where it is known to panic. (With no piece, trays
 # empty_box_*, the original is not asked: the oracle has a list of its own. Nor
-# is it where woods are mixed: the oracle says so. Of one wood are woods_one*.)
+# is it where woods are mixed: the oracle says so. Of one wood are woods_one*. Trays
+# with empty outer layers are layers_*, row_in_longer_box and drawn_in_a_box: it is
+# given the grids without them.)
 for listing in trays/*.listing ../trays/*.listing; do
     tray=${listing%.listing}.tray
     python3 model.py <"$tray" >"$got"
@@ -32,7 +34,7 @@ for listing in trays/*.listing ../trays/*.listing; do
     trays/no_copies_knuth.tray | trays/spare_handed_*.tray)
         [ "$(cat "$got")" = panic ] || differs "$tray (original, panic expected)" ;;
     trays/woods_two*.tray | trays/woods_handed.tray | trays/woods_order.tray | \
-        trays/woods_eight.tray)
+        trays/woods_eight.tray | trays/layers_woods.tray | trays/layers_placements_1024.tray)
         [ "$(cat "$got")" = mixed ] || differs "$tray (oracle, mixed expected)" ;;
     *)
         cmp -s "$got" "$listing" || differs "$tray (original)" ;;
@@ -84,6 +86,7 @@ limits() {
 counts soma 11520 480 240
 counts tetracubes 11120 1390 695
 counts slothouber_graatsma 8 1 1
+counts drawn_in_a_box 8 1 1
 mixed two_woods 160 8 4
 counts dominoes 6728 930 930
 counts t_tetrominoes 84 15 15
@@ -91,11 +94,14 @@ counts pentominoes 856 107 107
 limits soma 688 3330
 limits tetracubes 666 3370
 limits slothouber_graatsma 63 263
+limits drawn_in_a_box 63 263
 limits dominoes 60 217
 limits t_tetrominoes 168 905
 limits conway 769 4965
 limits woods_eight 1024 392 trays
 limits woods_nine 1152 393 trays
+limits layers_placements_1024 1024 392 trays
+limits layers_placements_1152 1152 393 trays
 last conway knuth none "refused\t15"
 
 # The long listings agree with the model line for line.
@@ -144,6 +150,22 @@ for none in trays/empty_box_filled.tray trays/empty_box_filled_knuth.tray; do
     page $none 0 0 "written\t0\nfollows\tno"
     page $none 0 1 "written\t0\nfollows\tno"
 done
+
+# room TRAY SKIP BYTES EXPECTED: the page that so many bytes hold; an answer's size is
+# that of the lent box, eight bytes for 1110.
+room() {
+    lines=$(python3 model.py room "$2" "$3" <"$1")
+    [ "$lines" = "$(printf "$4")" ] || differs "room of $3 bytes at $2 of $1: $lines"
+}
+
+row=trays/layers_row_none.tray
+room $row 0 7 "written\t0\nfollows\tyes"
+room $row 0 8 "0\t0.0 1.0 1.0 -\nwritten\t1\nfollows\tyes"
+room $row 0 15 "0\t0.0 1.0 1.0 -\nwritten\t1\nfollows\tyes"
+room $row 0 16 "0\t0.0 1.0 1.0 -\n1\t1.0 1.0 0.0 -\nwritten\t2\nfollows\tno"
+room $row 1 8 "1\t1.0 1.0 0.0 -\nwritten\t1\nfollows\tno"
+room trays/layers_unfilled.tray 0 7 "written\t0\nfollows\tyes"
+room trays/layers_unfilled.tray 0 8 "0\t- - - -\nwritten\t1\nfollows\tno"
 
 # Refusals that no file reaches, 8,191 work words among them.
 cargo test --release --offline --quiet --lib >"$got" 2>&1 || differs "cargo test"

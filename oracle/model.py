@@ -3,11 +3,14 @@
 original: parsing, refusals, kinds, placements, packings, which is kept, both
 engines' orders, answers and pages. No piece lent is a list like any other
 (document 02, A1): no kinds and no placements, and no refusal 1. A piece has a
-wood (A5): kinds and mirror partners are of one wood.
+wood (A5): kinds and mirror partners are of one wood. Empty outer layers carry no
+meaning (A4): they are taken off pieces and board behind refusals 3 to 6, answers
+are of the box that was lent, and there is no refusal 7.
 
     model.py < tray                      what `pack` prints
     model.py page SKIP CAPACITY < tray   the entries of one page, how many were
                                          written, whether a further one follows
+    model.py room SKIP BYTES < tray      the same, for so many bytes lent for answers
     model.py limits < tray               how many placements and links it has
     model.py serve                       many trays, see `serve` below
 """
@@ -156,13 +159,38 @@ def variants(grid):
 
 
 def has_empty_outer_layer(grid):
+    return any(empty_outer_layers(grid))
+
+
+def empty_outer_layers(grid):
+    """The outer layers without a filled cell, each as its axis and its place on it."""
     sides, _ = grid
     filled = filled_cells(grid)
-    return any(
-        all(cell[axis] != layer for cell in filled)
-        for axis in range(3)
-        for layer in (0, sides[axis] - 1)
-    )
+    for axis in range(3):
+        for layer in (0, sides[axis] - 1):
+            if all(cell[axis] != layer for cell in filled):
+                yield axis, layer
+
+
+def strip(grid):
+    """The grid without its empty outer layers, taken off one by one, and the cell of the
+    lent box where its first cell lies. Layers between filled ones stay; a grid with no
+    filled cell, which only a board can be, keeps its box."""
+    corner = [0, 0, 0]
+    while filled_cells(grid):
+        layer = next(empty_outer_layers(grid), None)
+        if layer is None:
+            break
+        grid = without_layer(grid, *layer)
+        corner[layer[0]] += layer[1] == 0
+    return grid, tuple(corner)
+
+
+def without_layer(grid, axis, layer):
+    sides, cells = grid
+    kept = [filled for cell, filled in zip(cells_of(sides), cells) if cell[axis] != layer]
+    fewer = tuple(side - (number == axis) for number, side in enumerate(sides))
+    return fewer, tuple(kept)
 
 
 # ------------------------------------------------------------- a problem
@@ -178,11 +206,13 @@ class Placement:
 
 
 class Problem:
-    """A board and pieces that no refusal 2 to 9 stops."""
+    """A board and pieces, as they are lent, that no refusal 2 to 9 stops. All but the
+    answers is of the board and the pieces without their empty outer layers."""
 
     def __init__(self, board, pieces):
-        self.board = board
-        self.pieces = pieces
+        self.lent_sides = board[0]
+        self.board, self.corner = strip(board)
+        self.pieces = [(count, strip(grid)[0], wood) for count, grid, wood in pieces]
         self.find_kinds()
         self.find_placements()
         self.kept_packings = {}
@@ -386,15 +416,25 @@ class Problem:
         return key
 
     def answer(self, packing):
-        """For each cell of the board's box (piece, copy), None where unfilled."""
+        """For each cell of the box that was lent (piece, copy), None where unfilled."""
         owner = {}
         for kind, copies in enumerate(self.copies):
             rows = sorted((row for row in packing if row.kind == kind), key=lambda row: row.place)
             for row, copy in zip(rows, copies):
                 for p, cell in enumerate(self.scanned):
                     if row.covers >> p & 1:
-                        owner[cell] = copy
-        return [owner.get(cell) for cell in cells_of(self.board[0])]
+                        owner[self.lent_cell(cell)] = copy
+        return [owner.get(cell) for cell in cells_of(self.lent_sides)]
+
+    def lent_cell(self, cell):
+        """Where a cell of the stripped board lies in the box that was lent."""
+        return tuple(at + by for at, by in zip(cell, self.corner))
+
+
+def capacity_of(lent_sides, room):
+    """How many whole answers fit in so many bytes: two for each cell of the lent box."""
+    a, b, c = lent_sides
+    return room // (2 * a * b * c)
 
 
 def page(entries, skip, capacity):
@@ -406,9 +446,10 @@ def page(entries, skip, capacity):
 # ------------------------------------------------------------- refusals
 
 def refusal(engine, turned, mirrored, board, pieces, cells, work_words, link_numbers):
-    """The refusal 2 to 15 of a call, None if it is accepted. Records are (sides,
-    count, wood, start), the board's too, whose count and wood are not read; engines
-    are auto, naive, fast, knuth."""
+    """The refusal 2 to 15 of a call, None if it is accepted; 7 is none of them. Records
+    are (sides, count, wood, start), the board's too, whose count and wood are not read;
+    engines are auto, naive, fast, knuth. 3 to 9 are of the grids as lent (for 8 and 9
+    that is all one), 14 and 15 of the stripped ones."""
     records = [board] + pieces
     if len(pieces) > 16:
         return 2
@@ -424,8 +465,6 @@ def refusal(engine, turned, mirrored, board, pieces, cells, work_words, link_num
         return 5
     if any(not filled_cells(grid) for grid in grids[1:]):
         return 6
-    if any(has_empty_outer_layer(grid) for grid in grids[1:]):
-        return 7
     if sum(count for _, count, _, _ in pieces) > 128:
         return 8
     if len(filled_cells(grids[0])) > 128:
@@ -504,6 +543,11 @@ def print_page(file, skip, capacity):
     return "".join(lines) + "written\t%d\nfollows\t%s\n" % (len(written), follows)
 
 
+def print_room(file, skip, room):
+    _, _, board, _ = parse(file)
+    return print_page(file, skip, capacity_of(board[0], room))
+
+
 def print_limits(file):
     _, _, board, pieces = parse(file)
     problem = Problem(board, pieces)
@@ -525,6 +569,8 @@ def main():
     file = sys.stdin.buffer.read()
     if sys.argv[1:2] == ["page"]:
         text = print_page(file, int(sys.argv[2]), int(sys.argv[3]))
+    elif sys.argv[1:2] == ["room"]:
+        text = print_room(file, int(sys.argv[2]), int(sys.argv[3]))
     elif sys.argv[1:2] == ["limits"]:
         text = print_limits(file)
     else:

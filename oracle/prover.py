@@ -10,6 +10,8 @@ is expected comes from the original (`oracle`; `raw refusal` for what only a
 call can ask for), and from model.py where the original panics (as it does where
 no piece is lent), where the order is document 01's alone (knuth, a kind without
 copies), where woods are mixed, or where no file can express a refused call. The
+original is run on the grids without their empty outer layers, which a third of the
+trays have round board and pieces (document 02, A4), and its answers are put back. The
 board's record has any wood, which is not to be read. Each call is a line of a
 table in a crate `sample`, in a temporary repository beside a copy of
 crates/definitions, and each table has a theorem that is proved by computing.
@@ -44,6 +46,7 @@ BIGGEST = 2**64 - 1
 # its estimated steps pass this, and a crate before its tables' do.
 STEPS_A_TABLE = 12e6
 STEPS_A_CRATE = 600e6
+STEPS_A_LENT_CELL = 6e3
 
 
 # ------------------------------------------------------------ random trays
@@ -66,7 +69,7 @@ SPARE_PIECES = [
 THEMES = (
     "solid", "holes", "long", "flat", "outer layers", "no filled cell", "apart", "lent twice",
     "partner", "no partner", "unequal partners", "no copies", "spare", "several", "any",
-    "empty box", "woods", "woods of partners",
+    "empty box", "woods", "woods of partners", "boxes", "boxes of a kind", "inner layers",
 )
 HANDED_THEMES = ("partner", "no partner", "unequal partners", "woods of partners")
 WOODS = (0, 1, 2, 9, 10, 100, 254, 255)
@@ -86,6 +89,24 @@ def tight(cells):
     sides = tuple(max(cell[axis] for cell in cells) - low[axis] + 1 for axis in range(3))
     moved = {tuple(cell[axis] - low[axis] for axis in range(3)) for cell in cells}
     return sides, tuple(int(cell in moved) for cell in model.cells_of(sides))
+
+
+def drawn(rng, grid, most=2):
+    """The grid with up to so many empty layers on each of its six sides, in a box that
+    is small enough to compute; if none is found, as it is."""
+    for _ in range(20):
+        low = [rng.randint(0, min(most, 8 - side)) for side in grid[0]]
+        high = [rng.randint(0, min(most, 8 - side - at)) for side, at in zip(grid[0], low)]
+        sides = tuple(at + side + to for at, side, to in zip(low, grid[0], high))
+        if volume(sides) <= 30:
+            return set_down(grid, sides, low)
+    return grid
+
+
+def set_down(grid, sides, low):
+    """The grid in a larger box, its first cell at `low`."""
+    filled = {tuple(c + at for c, at in zip(cell, low)) for cell in model.filled_cells(grid)}
+    return sides, tuple(int(cell in filled) for cell in model.cells_of(sides))
 
 
 def touch(one, other):
@@ -135,6 +156,14 @@ def random_board(rng, theme):
             cells = [cell[:axis] + (cell[axis] + before,) + cell[axis + 1:] for cell in cells]
         sides = tuple(sides)
         return sides, tuple(int(cell in cells) for cell in model.cells_of(sides))
+    if theme in ("boxes", "boxes of a kind"):
+        return drawn(rng, random_board(rng, rng.choice(("solid", "long", "flat"))))
+    if theme == "inner layers":
+        # A row with a gap, along any axis.
+        length = rng.randint(4, 7)
+        gap = rng.randint(1, length - 2)
+        row = (1, 1, length), tuple(int(at != gap) for at in range(length))
+        return drawn(rng, turned(rng, row), 1)
     if theme == "no filled cell":
         sides = box(rng, 1, 8, 4)
         return sides, (0,) * volume(sides)
@@ -223,10 +252,15 @@ def random_pieces(rng, theme, board):
     for kind in kinds:
         count = copies[kind]
         counts = [count]
-        if theme in ("lent twice", "woods") or rng.random() < 0.2:
+        if theme in ("lent twice", "woods", "boxes of a kind") or rng.random() < 0.2:
             first = rng.randint(0, count)
             counts = [first, count - first]
         pieces += [(count, turned(rng, kind)) for count in counts]
+    # In boxes of their own: one kind, however it is drawn.
+    often = 0.7 if theme in ("boxes", "boxes of a kind", "inner layers") else 0.12
+    pieces = [
+        (count, drawn(rng, grid) if rng.random() < often else grid) for count, grid in pieces
+    ]
     # Two woods in turn where the theme is of woods: for a shape lent twice, for a pair.
     woods = [rng.choice((0, 0, 0, 7, 255))] * 2
     if theme in ("woods", "woods of partners"):
@@ -242,13 +276,21 @@ def random_tray(rng, theme):
         pieces = random_pieces(rng, theme, board)
         if sum(board[1]) > 8 or len(pieces) > 5:
             continue
-        problem = model.Problem(board, pieces)
+        problem = Lent(board, pieces)
         if len(problem.kinds) > 3 or len(problem.packings()) > 10:
             continue
         if not has_its_woods(theme, problem):
             continue
         if steps(problem, "mirrored") <= STEPS_A_TABLE:
             return problem
+
+
+class Lent(model.Problem):
+    """A problem that keeps the board and the pieces as they are lent."""
+
+    def __init__(self, board, pieces):
+        super().__init__(board, pieces)
+        self.lent_board, self.lent_pieces = board, pieces
 
 
 def has_its_woods(theme, problem):
@@ -269,9 +311,11 @@ def has_its_woods(theme, problem):
 def steps(problem, identified):
     """About how many steps the prover takes for a call, as measured on samples."""
     grids = sum(24 * volume(grid[0]) for grid, _ in problem.kinds)
+    lent = volume(problem.lent_sides) + sum(volume(grid[0]) for _, grid, _ in problem.lent_pieces)
     maps = {"none": 0, "turned": 24, "mirrored": 48}[identified]
     return (
         6e5
+        + STEPS_A_LENT_CELL * lent
         + 4e3 * grids * (2 if identified == "mirrored" else 1)
         + 3e4 * len(problem.placements)
         + 3e2 * len(problem.packings()) * maps * len(problem.placements)
@@ -280,10 +324,13 @@ def steps(problem, identified):
 
 def corners(problem):
     """The corners that a tray has, for the count of what was covered."""
-    sides, cells = problem.board
-    filled = model.filled_cells(problem.board)
-    layers = [(axis, at) for axis in range(3) for at in (0, sides[axis] - 1)]
-    bare = any(all(cell[axis] != at for cell in filled) for axis, at in layers)
+    sides, cells = problem.lent_board
+    filled = model.filled_cells(problem.lent_board)
+    bare = model.has_empty_outer_layer(problem.lent_board)
+    boxed = [model.has_empty_outer_layer(grid) for _, grid, _ in problem.lent_pieces]
+    drawn_kinds = collections.defaultdict(set)
+    for (_, grid, wood), (_, own, _) in zip(problem.lent_pieces, problem.pieces):
+        drawn_kinds[kind_of(own), wood].add(kind_of(grid))
     used = [len(copies) for copies in problem.copies]
     partners = [
         (own, partner) for own, partner in enumerate(problem.partners) if partner != own
@@ -298,7 +345,15 @@ def corners(problem):
         for name, holds in (
             ("solid", 0 not in cells),
             ("holes", 0 in cells and not bare),
-            ("empty outer layer", bare and filled),
+            ("board in a larger box", bare and filled),
+            ("piece in a larger box", any(boxed)),
+            ("one kind in several boxes", any(len(own) > 1 for own in drawn_kinds.values())),
+            ("layer between filled ones", any(map(has_gap, [problem.board] + [
+                grid for _, grid, _ in problem.pieces]))),
+            ("turned by the stripped board alone",
+             bare and turns_of(problem.lent_board) < turns_of(problem.board)),
+            ("scanned by the stripped sides",
+             bare and scan_axes(problem.lent_sides) != scan_axes(problem.board[0])),
             ("no filled cell", not filled),
             ("long", ones >= 2 and max(sides) > 2),
             ("flat", ones == 1),
@@ -328,6 +383,22 @@ def corners(problem):
         )
         if holds
     ]
+
+
+def has_gap(grid):
+    """Whether a layer between filled ones is empty."""
+    filled = model.filled_cells(grid)
+    return bool(filled) and any(
+        {cell[axis] for cell in filled} != set(range(grid[0][axis])) for axis in range(3)
+    )
+
+
+def turns_of(grid):
+    return sum(model.moved_grid(moves, grid) == grid for moves in model.TURNS)
+
+
+def scan_axes(sides):
+    return sorted((2, 1, 0), key=lambda axis: -sides[axis])
 
 
 def is_apart(grid):
@@ -419,7 +490,7 @@ def layout(rng, grids):
 
 def page_lines(rng, problem):
     """The six calls of a tray."""
-    board, pieces = problem.board, problem.pieces
+    board, pieces = problem.lent_board, problem.lent_pieces
     for identified in IDENTIFIED:
         for engine in ENGINES:
             file = file_of(engine, identified, board, pieces)
@@ -475,6 +546,12 @@ def shown_page(answers, further):
 
 # ----------------------------------------------------- calls to be refused
 
+# What the calls at the limits are made for: the refusals 2 to 13 (1 and 7 are gone), and
+# empty outer layers, which are none.
+LAYERS = "layers"
+AIMS = (2, 3, 4, 5, 6, LAYERS, 8, 9, 10, 11, 12, 13)
+
+
 def around(rng, limit):
     return limit + rng.choice((-1, 0, 0, 1, 1, 1, 2, rng.randint(2, 9)))
 
@@ -483,7 +560,7 @@ def random_refusal(rng, aim):
     """A call, made refused by number `aim` and sometimes by another one too; its
     grids stand one after the other in the bytes, as a file's do, unless that is
     what is wrong with it. In some no piece is lent, where the number needs none."""
-    is_bare = aim not in (2, 6, 7, 8) and rng.random() < 0.3
+    is_bare = aim not in (2, 6, LAYERS, 8) and rng.random() < 0.3
     made = {
         "engine": rng.choice(ENGINES),
         "turned": rng.random() < 0.5,
@@ -499,7 +576,7 @@ def random_refusal(rng, aim):
     made["mirrored"] = made["turned"] and rng.random() < 0.5
     spoil(rng, made, aim)
     if rng.random() < 0.4:
-        spoil(rng, made, rng.randint(2, 13))
+        spoil(rng, made, rng.choice(AIMS))
     return made
 
 
@@ -519,14 +596,21 @@ def spoil(rng, made, number):
             pieces[at] = (pieces[at][0], grid, pieces[at][2])
     elif number in (4, 5):
         made["spoils"].append(number)
-    elif number in (6, 7) and pieces:
-        sides = box(rng, 1 if number == 6 else 2, 8, 8)
-        cells = [0] * volume(sides)
-        if number == 7:
-            axis = rng.choice([axis for axis in range(3) if sides[axis] > 1])
-            bare = 0 if rng.random() < 0.5 else sides[axis] - 1
-            cells = [int(cell[axis] != bare) for cell in model.cells_of(sides)]
-        pieces[at] = (rng.choice((0, pieces[at][0])), (sides, tuple(cells)), pieces[at][2])
+    elif number == 6 and pieces:
+        sides = box(rng, 1, 8, 8)
+        grid = sides, (0,) * volume(sides)
+        pieces[at] = (rng.choice((0, pieces[at][0])), grid, pieces[at][2])
+    elif number == LAYERS and pieces:
+        # A layer on one side at the least; sometimes the side is then beyond the limit.
+        if on_board:
+            made["board"] = drawn(rng, made["board"])
+        sides, axis = list(pieces[at][1][0]), rng.randrange(3)
+        more = rng.choice((1, 1, 2, 8 - sides[axis], 9 - sides[axis]))
+        sides[axis] += more
+        low = [0, 0, 0]
+        low[axis] = rng.choice((0, more))
+        grid = set_down(pieces[at][1], tuple(sides), low)
+        pieces[at] = (pieces[at][0], grid, pieces[at][2])
     elif number == 8 and pieces:
         left = rng.choice((around(rng, 128), around(rng, 128), 999999999, 256, 300))
         for other in range(len(pieces)):
@@ -548,7 +632,7 @@ def spoil(rng, made, number):
 
 
 def refusal_line(rng, aim):
-    """A line for a random call, None where it is accepted and large."""
+    """A line for a random call, None where it is large and its placements are counted."""
     made = random_refusal(rng, aim)
     board, pieces = made["board"], made["pieces"]
     grids = [board] + [grid for _, grid, _ in pieces]
@@ -586,7 +670,9 @@ def refusal_line(rng, aim):
         file += "cells %s\nstarts %s\nwork %d, links %d\n" % (
             "".join(map(str, lent)), starts, made["work"], made["links"]
         )
-    if number == 0 and (sum(board[1]) > 8 or len(pieces) > 4 or len(lent) > 40):
+    # Behind 13 the placements are counted.
+    is_large = sum(board[1]) > 8 or len(pieces) > 4 or len(lent) > (90 if aim == LAYERS else 40)
+    if number in (0, 14, 15) and is_large:
         return None
     call = "call %s %s %s (%s) (%s) (%s) 0 0 %d %d" % (
         ENGINE_NAMES[made["engine"]],
@@ -601,6 +687,9 @@ def refusal_line(rng, aim):
     line = Line("refusals", call, str(number), 1e6 if number == 0 else 2e5 + 1e3 * len(lent))
     line.number = number
     line.is_bare = not pieces
+    line.has_layers = is_file and any(
+        1 in cells and model.has_empty_outer_layer((sides, cells)) for sides, cells in grids
+    )
     return line.tell(file, "refusal %d" % number, source)
 
 
@@ -911,12 +1000,15 @@ def main():
         pages += page_lines(rng, problem)
     refusals = []
     while len(refusals) < REFUSED:
-        line = refusal_line(rng, len(refusals) % 12 + 2)
-        if line and (line.number or rng.random() < 0.3):
+        aim = AIMS[len(refusals) % len(AIMS)]
+        line = refusal_line(rng, aim)
+        if line and (line.number or aim == LAYERS or rng.random() < 0.3):
             refusals.append(line)
             covered["refusal %d" % line.number] += 1
             if line.is_bare:
                 covered["refusal %d, no piece" % line.number] += 1
+            if line.has_layers:
+                covered["refusal %d, empty outer layers" % line.number] += 1
 
     with tempfile.TemporaryDirectory() as folder:
         prover = Prover(folder)

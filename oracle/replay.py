@@ -9,6 +9,8 @@ slice, numbers of the links slice, what is shown (0 its row system, 1 its pages 
 2 its pages alone); for the board, then
 for each of the first 16 pieces, three sides, a count, a wood and the place where its
 cells begin; the lent bytes, a digit each. The board's count and wood are not read.
+A row system is that of the tray without empty outer layers; its places, in the line
+`scan`, are those of the lent box, and so are the answers.
 
 `calls` needs the oracle built (it takes random trays from target/release/trays).
 """
@@ -21,6 +23,7 @@ from pathlib import Path
 import model
 
 FAST, KNUTH = 2, 3
+MOST_TEXT = 65536  # what the program reads of its input
 
 
 # ------------------------------------------------------------- the model
@@ -68,8 +71,6 @@ def refusal(call):
         return 5
     if any(sum(cells) == 0 for _, cells in grids[1:]):
         return 6
-    if any(model.has_empty_outer_layer(grid) for grid in grids[1:]):
-        return 7
     if sum(count for _, _, _, count, _, _ in pieces) > 128:
         return 8
     if sum(grids[0][1]) > 128:
@@ -128,8 +129,9 @@ def show(call):
         ]),
     ]
     if size <= 30:
+        lent = {problem.lent_cell(cell): p for cell, p in problem.scan_number.items()}
         lines.append(words("scan", [
-            problem.scan_number.get(cell, size) for cell in model.cells_of(sides)
+            lent.get(cell, size) for cell in model.cells_of(problem.lent_sides)
         ]))
         lines += [
             words("map", [
@@ -218,6 +220,18 @@ CORNER = ((1, 2, 2), (1, 1, 1, 0))
 HOLLOW = ((1, 1, 3), (1, 0, 1))
 
 
+def row(text):
+    """A grid of one row along z."""
+    return (1, 1, len(text)), tuple(map(int, text))
+
+
+def drawn(grid, low, high):
+    """The grid with so many empty layers before it and behind it on each axis."""
+    sides = tuple(before + side + behind for before, side, behind in zip(low, grid[0], high))
+    filled = {tuple(at + by for at, by in zip(cell, low)) for cell in model.filled_cells(grid)}
+    return sides, tuple(int(cell in filled) for cell in model.cells_of(sides))
+
+
 def changed(call, **fields):
     names = ("n", "engine", "turned", "mirrored", "work", "links", "paged", "records", "data")
     call = list(call)
@@ -269,6 +283,7 @@ def limits():
     for place in (0, 3, 5):
         yield changed(small, data=[2 if i == place else 1 for i in range(6)])
         yield changed(small, data=[0 if i == place else 1 for i in range(6)])
+    # an empty outer layer is none
     yield lent([(1, full(1, 1, 3)), (1, ((1, 1, 2), (1, 0)))])
     yield lent([(1, full(1, 1, 3)), (1, ((3, 1, 1), (0, 1, 1)))])
     yield lent([(1, full(1, 1, 3)), (1, ((1, 3, 1), (1, 1, 0)))])
@@ -332,6 +347,7 @@ def pairs():
         4: lambda call: record(call, 2, start=6),
         5: lambda call: changed(call, data=[3] + call[8][1:]),
         6: lambda call: changed(call, data=call[8][:3] + [0] + call[8][4:]),
+        # an empty outer layer, which was 7 and is no refusal
         7: lambda call: changed(call, data=call[8][:4] + [0] + call[8][5:]),
         8: lambda call: record(call, 1, count=128),
         10: lambda call: changed(call, turned=0, mirrored=1),
@@ -469,6 +485,78 @@ def shared(board, pieces, engine):
     return changed(call, records=records, data=call[8][:len(board[1])])
 
 
+def layers():
+    """Calls with empty outer layers, with pages of both engines: the same trays stripped, in other boxes."""
+    identifications = ((0, 0), (1, 0), (1, 1))
+    drawn_trays = (
+        # one packing where the stripped board is turned, two where nothing is
+        [(1, row("1110")), (1, M), (1, D)],
+        [(1, row("00111")), (1, row("100")), (1, ((3, 2, 1), (0, 0, 1, 1, 0, 0)))],
+        # scan order by the stripped sides: z before y
+        [(1, ((1, 3, 2), (0, 0, 0, 1, 1, 0))), (2, M)],
+        [(1, drawn(full(2, 3, 1), (0, 0, 5), (1, 1, 1))), (2, D), (2, drawn(M, (1, 0, 1), (0, 2, 0)))],
+        # layers between filled ones stay
+        [(1, row("01010")), (1, row("1010"))],
+        [(1, row("11")), (1, row("101"))],
+        [(1, row("0110110")), (1, row("0011")), (2, D), (1, row("0110110"))],
+        # one kind in several boxes: copies go by the lent order alone
+        [(1, row("11")), (1, row("10")), (1, M)],
+        [(1, full(1, 2, 4)), (1, row("00110")), (2, D), (1, drawn(full(2, 1, 1), (0, 1, 1), (2, 0, 1)))],
+        # handed pieces and their partners in boxes of their own
+        [(1, drawn(full(2, 2, 2), (1, 0, 2), (1, 1, 0))), (2, drawn(HANDED, (0, 1, 0), (1, 0, 0))), (2, PARTNER)],
+        [(1, full(2, 2, 2)), (1, HANDED), (1, drawn(PARTNER, (1, 0, 0), (0, 0, 1))), (4, drawn(M, (0, 0, 0), (1, 2, 3)))],
+        # a cell in a box that looks handed, and stays in the box
+        [(1, row("010")), (1, M), (0, drawn(M, (0, 0, 0), (1, 2, 3)))],
+        # a board with no filled cell keeps its box
+        [(1, row("0000")), (1, row("010"))],
+        # two woods, in two boxes
+        [(1, row("0110")), (1, row("01"), 9), (1, M, 2)],
+    )
+    for grids in drawn_trays:
+        for turned, mirrored in identifications:
+            yield lent(grids, FAST, turned, mirrored, paged=2 if turned else 1)
+    # two layers on one side of one axis
+    for axis in range(3):
+        for ends in ((2, 0), (0, 2)):
+            low, high = ([end if axis == number else 0 for number in range(3)] for end in ends)
+            grids = [(1, drawn(full(1, 2, 2), low, high)), (2, D), (1, drawn(CORNER, high, low)), (1, M)]
+            yield lent(grids, FAST, 1, paged=1)
+    # the longest box, and the lent bytes of the board as those of a piece
+    yield lent([(1, drawn(full(1, 1, 2), (3, 7, 6), (4, 0, 0))), (2, M)], FAST, 1, paged=2)
+    yield record(lent([(1, row("0110")), (1, M)], FAST, 0, 0, paged=1), 1, c=4, start=0)
+    # no piece
+    yield lent([(1, row("00100"))], FAST, 1, paged=2)
+    # 3 to 6 are of the grids as lent
+    small = lent([(1, row("0110")), (1, row("1100"))], paged=1)
+    yield lent([(1, full(1, 1, 1)), (1, row("100000000"))], paged=1)
+    yield lent([(1, row("000000001")), (1, M)], paged=1)
+    yield lent([(1, row("0110")), (1, row("000"))], paged=1)
+    yield record(small, 1, start=5)
+    for place in (0, 7):
+        yield changed(small, data=[2 if at == place else cell for at, cell in enumerate(small[8])])
+    # one kind in two boxes is counted once, with 1,024 placements; in a ninth wood it is 14
+    for wood in (7, 8):
+        pieces = [(0, M if number % 2 else row("10"), number) for number in range(8)] + [(1, row("10"), wood)]
+        yield in_bytes(full(4, 4, 8), pieces)
+    # as many links in two boxes as in one
+    pieces = [(1, full(2, 2, 4), 1), (1, full(2, 2, 4), 2), (0, drawn(full(2, 2, 4), (1, 0, 0), (0, 0, 0)), 2)]
+    yield in_bytes(full(4, 4, 8), pieces)
+
+
+def in_bytes(board, pieces):
+    """A call of Knuth without pages whose grids begin where their cells first stand."""
+    data, records = list(board[1]), [(*board[0], 1, 0, 0)]
+    for count, (sides, cells), wood in pieces:
+        text, own = "".join(map(str, data)), "".join(map(str, cells))
+        if own not in text:
+            # behind what is there, as far as its beginning stands there already
+            shared = max(n for n in range(len(own)) if text.endswith(own[:n]))
+            data += cells[shared:]
+            text = "".join(map(str, data))
+        records.append((*sides, count, wood, text.index(own)))
+    return [len(pieces), KNUTH, 0, 0, 8192, 32768, 0, records, data]
+
+
 def is_small(call):
     """Few enough cells that its pages are found at once."""
     return sum(call[8]) < 40
@@ -492,7 +580,7 @@ def trays(seed, count, most):
             continue
         turned, mirrored = {"none": (0, 0), "turned": (1, 0), "mirrored": (1, 1)}[identified]
         call = lent([(1, board)] + pieces, FAST, turned, mirrored, paged=2)
-        if 0 < len(call[8]) <= 400:
+        if 0 < len(call[8]) <= 200:
             found += 1
             yield call
 
@@ -520,16 +608,15 @@ def read(source):
 
 def main():
     if sys.argv[1:] == ["calls"]:
-        for call in systems():
-            print(text(call))
+        calls = list(systems())
         for part_of in (limits, pairs):
-            for call in part_of():
-                print(text(changed(call, paged=int(is_small(call)))))
-        for part_of in (empty_boxes, woods):
-            for call in part_of():
-                print(text(call))
-        for call in trays(31, 700, 220):
-            print(text(call))
+            calls += [changed(call, paged=int(is_small(call))) for call in part_of()]
+        for part_of in (empty_boxes, woods, layers):
+            calls += part_of()
+        calls += trays(31, 800, 220)
+        lines = "".join(text(call) + "\n" for call in calls)
+        assert len(lines) <= MOST_TEXT, len(lines)
+        sys.stdout.write(lines)
         return
     for call in read(sys.stdin.read()):
         print("\n".join(show(call)))

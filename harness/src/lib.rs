@@ -186,6 +186,9 @@ pub fn ask(lent: &Lent, start: Start, room: usize, words: usize, numbers: usize)
     let cleared = if is_accepted { 8_192 } else { 0 };
     let unlinked = if is_accepted && lent.engine == Engine::Knuth { 32_768 } else { 0 };
     let behind = answer.written * lent.size();
+    if behind > room {
+        return Err("more written than fits".to_string());
+    }
     let is_kept = answers[behind..].iter().all(|&byte| byte == STAIN)
         && work[..cleared].iter().all(|&word| word == 0)
         && work[cleared..].iter().all(|&word| word == WORD_STAIN)

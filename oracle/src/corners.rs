@@ -3,6 +3,7 @@
 
 mod accepted;
 mod empty_box;
+mod layers;
 mod refused;
 mod woods;
 
@@ -49,6 +50,8 @@ pub struct Corner {
 
 const MIRRORED: &[(&str, &str)] = &[("fast", "mirrored"), ("knuth", "mirrored")];
 const IDENTIFIED_FAST: &[(&str, &str)] = &[("fast", "turned"), ("fast", "mirrored")];
+const IDENTIFIED: &[(&str, &str)] =
+    &[("fast", "turned"), ("knuth", "mirrored"), ("knuth", "turned"), ("fast", "mirrored")];
 
 impl Corner {
     /// A file for this corner.
@@ -64,17 +67,23 @@ impl Corner {
     }
 
     fn attempt(&self, random: &mut Random, config: (&str, &str)) -> Option<Vec<u8>> {
-        let (board, mut pieces) = match self.make {
+        let (mut board, mut pieces) = match self.make {
             Make::Parts(parts) => parts(random)?,
             Make::Board(board) => (board(random)?, vec![]),
             Make::Faults(one, other) => with_faults(random, [one, other])?,
             Make::File(_) | Make::Spoilt(_) => plain(random)?,
         };
-        // Some trays are all of one wood, which changes nothing.
-        let is_plain = pieces.iter().all(|piece| piece.wood == 0);
-        if is_plain && !matches!(self.make, Make::File(_) | Make::Spoilt(_)) && random.one_in(4) {
-            let wood = random.between(1, 255) as u8;
-            pieces.iter_mut().for_each(|piece| piece.wood = wood);
+        if !matches!(self.make, Make::File(_) | Make::Spoilt(_)) {
+            // Some trays are all of one wood, which changes nothing.
+            let is_plain = pieces.iter().all(|piece| piece.wood == 0);
+            if is_plain && random.one_in(4) {
+                let wood = random.between(1, 255) as u8;
+                pieces.iter_mut().for_each(|piece| piece.wood = wood);
+            }
+            // Some have empty outer layers, which change the box of the answers alone.
+            if !self.name.contains("layers") && random.one_in(3) {
+                layers::add(random, &mut board, &mut pieces);
+            }
         }
         let file = tray::write(config, &board, &pieces);
         let text = |file| String::from_utf8(file).unwrap();
@@ -125,8 +134,12 @@ pub fn corners() -> Vec<Corner> {
     let mut add_with = |name: String, make, refused, bound, configs| {
         corners.push(Corner { name, make, refused, bound, configs })
     };
-    for &(name, parts) in WHEN_MIRRORED.iter().chain(woods::WHEN_MIRRORED) {
+    let when_mirrored = WHEN_MIRRORED.iter().chain(woods::WHEN_MIRRORED);
+    for &(name, parts) in when_mirrored.chain(layers::WHEN_MIRRORED) {
         add_with(name.into(), Make::Parts(parts), None, SHORT, MIRRORED);
+    }
+    for &(name, parts) in layers::WHEN_IDENTIFIED {
+        add_with(name.into(), Make::Parts(parts), None, SHORT, IDENTIFIED);
     }
     for &(name, parts) in WHEN_IDENTIFIED_FAST.iter().chain(woods::WHEN_IDENTIFIED_FAST) {
         add_with(name.into(), Make::Parts(parts), None, SHORT, IDENTIFIED_FAST);
@@ -138,19 +151,19 @@ pub fn corners() -> Vec<Corner> {
     for &(name, parts) in WITH_LONG_SEARCHES {
         add(name.into(), Make::Parts(parts), None, LONG);
     }
-    for &(name, board) in empty_box::LISTED {
+    for &(name, board) in empty_box::LISTED.iter().chain(layers::BOARDS) {
         add(name.into(), Make::Board(board), None, SHORT);
     }
-    for &(name, parts) in woods::LISTED {
+    for &(name, parts) in woods::LISTED.iter().chain(layers::LISTED) {
         add(name.into(), Make::Parts(parts), None, SHORT);
     }
-    for &(name, parts) in woods::WITH_LONG_SEARCHES {
+    for &(name, parts) in woods::WITH_LONG_SEARCHES.iter().chain(layers::WITH_LONG_SEARCHES) {
         add(name.into(), Make::Parts(parts), None, LONG);
     }
     for &(name, refused, board) in empty_box::REFUSED {
         add(name.into(), Make::Board(board), Some(refused), SHORT);
     }
-    for &(name, refused, parts) in REFUSED.iter().chain(woods::REFUSED) {
+    for &(name, refused, parts) in REFUSED.iter().chain(woods::REFUSED).chain(layers::REFUSED) {
         add(name.into(), Make::Parts(parts), Some(refused), LONG);
     }
     for (index, &one) in FAULTS.iter().enumerate() {

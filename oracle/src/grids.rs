@@ -1,7 +1,9 @@
 //! Random grids: boards of many forms, pieces grown, scattered, or cut from a board.
 
+use crate::layers;
 use crate::placements::shape;
 use crate::random::Random;
+use crate::refusals::LONGEST_SIDE;
 use crate::shape::{Coord, Shape, MIRROR_TRANSFORMS, TRANSFORMS};
 use crate::tray::{Grid, Piece};
 
@@ -100,7 +102,8 @@ pub fn mirrored(grid: &Grid) -> Grid {
 
 /// Whether pieces with these grids are of one kind if their woods agree.
 pub fn is_same_kind(one: &Grid, other: &Grid) -> bool {
-    shape(one).normalize() == shape(other).normalize()
+    let kind = |grid| shape(&layers::strip(grid)).normalize();
+    kind(one) == kind(other)
 }
 
 pub fn is_handed(grid: &Grid) -> bool {
@@ -144,6 +147,11 @@ pub fn has_mirroring(board: &Grid) -> bool {
 pub fn in_larger_box(random: &mut Random, grid: &Grid, largest: u32) -> Grid {
     let sides = grid.sides.map(|side| random.between(side, largest.max(side)));
     let shift = [0, 1, 2].map(|axis| random.between(0, sides[axis] - grid.sides[axis]));
+    in_box(grid, sides, shift)
+}
+
+/// The grid in a box of these sides, its first cell at `shift`.
+pub fn in_box(grid: &Grid, sides: [u32; 3], shift: [u32; 3]) -> Grid {
     let mut larger = full(sides);
     larger.cells.fill(0);
     for cell in filled(grid) {
@@ -151,4 +159,20 @@ pub fn in_larger_box(random: &mut Random, grid: &Grid, largest: u32) -> Grid {
         larger.cells[((x * sides[1] + y) * sides[2] + z) as usize] = 1;
     }
     larger
+}
+
+/// The grid with up to two empty layers on each of its six sides, as far as no side of
+/// the box passes 8. (One that is at fault by a side stays as it is.)
+pub fn with_layers(random: &mut Random, grid: &Grid) -> Grid {
+    if grid.sides.iter().any(|side| !(1..=LONGEST_SIDE).contains(side)) {
+        return grid.clone();
+    }
+    let (mut sides, mut shift) = (grid.sides, [0; 3]);
+    for axis in 0..3 {
+        let room = LONGEST_SIDE - sides[axis];
+        shift[axis] = random.between(0, room.min(2));
+        let behind = random.between(0, (room - shift[axis]).min(2));
+        sides[axis] += shift[axis] + behind;
+    }
+    in_box(grid, sides, shift)
 }

@@ -16,6 +16,7 @@ pub mod utils;
 pub mod corners;
 pub mod effort;
 pub mod grids;
+pub mod layers;
 pub mod limits;
 pub mod listing;
 pub mod malformed;

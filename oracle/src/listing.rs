@@ -1,8 +1,10 @@
-//! What `pack` prints, with the original's `solve` behind it.
+//! What `pack` prints, with the original's `solve` behind it. The original is given the
+//! grids without their empty outer layers, and its answers are put back into the lent box.
 
 use std::fmt::Write;
 use std::panic;
 
+use crate::layers::strip_tray;
 use crate::placements::{filled_cells, shape};
 use crate::refusals::{refusal_of_tray, MALFORMED};
 use crate::shape::{Answer, Shape};
@@ -40,9 +42,18 @@ pub fn of_empty_box(board: &Grid) -> String {
     format!("0\t{}\npackings\t1\n", vec!["-"; board.cells.len()].join(" "))
 }
 
-/// The listing of what the original's `solve` returns, or `panic`. Woods are left out.
+/// The listing of what the original's `solve` returns for the stripped tray, put back
+/// into the lent box, or `panic`. Woods are left out.
 pub fn of_original(tray: &Tray) -> String {
-    panic::catch_unwind(|| solve(tray)).unwrap_or_else(|_| PANIC.to_string())
+    let (stripped, frame) = strip_tray(tray);
+    let listing = || solve(&stripped, |answer| frame.put_back(&answer.data));
+    panic::catch_unwind(listing).unwrap_or_else(|_| PANIC.to_string())
+}
+
+/// The same for the tray as it is lent, empty layers and all.
+pub fn of_original_as_lent(tray: &Tray) -> String {
+    let listing = || solve(tray, |answer| answer.data);
+    panic::catch_unwind(listing).unwrap_or_else(|_| PANIC.to_string())
 }
 
 /// The panic message goes nowhere: the line `panic` stands for it.
@@ -51,6 +62,7 @@ pub fn silence_panics() {
 }
 
 /// The whole list of the original, built and read entry by entry, and how long it is.
+/// The tray is taken as it stands: whoever wants it stripped has that done before.
 pub fn count_of_original(tray: &Tray) -> usize {
     let answers = answers(tray);
     (0..answers.len())
@@ -74,20 +86,23 @@ fn answers(tray: &Tray) -> solver::Answers {
     solver::solve(&pieces, &counts, &shape(&tray.board), config)
 }
 
-fn solve(tray: &Tray) -> String {
+/// An answer's cells: piece and copy, None where the board is unfilled.
+type Owners = Vec<Option<(usize, usize)>>;
+
+fn solve(tray: &Tray, in_box: impl Fn(Answer) -> Owners) -> String {
     let answers = answers(tray);
     let mut listing = String::new();
     for entry in 0..answers.len() {
-        writeln!(listing, "{entry}\t{}", box_cells(&answers.get(entry))).unwrap();
+        writeln!(listing, "{entry}\t{}", box_cells(&in_box(answers.get(entry)))).unwrap();
     }
     writeln!(listing, "packings\t{}", answers.len()).unwrap();
     listing
 }
 
-fn box_cells(answer: &Answer) -> String {
+fn box_cells(owners: &Owners) -> String {
     let cell = |&owner: &Option<(usize, usize)>| match owner {
         Some((piece, copy)) => format!("{piece}.{copy}"),
         None => "-".to_string(),
     };
-    answer.data.iter().map(cell).collect::<Vec<_>>().join(" ")
+    owners.iter().map(cell).collect::<Vec<_>>().join(" ")
 }

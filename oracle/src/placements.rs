@@ -1,6 +1,7 @@
 //! Kinds and their placements, as far as the limits and the cost of a search
 //! need them: each placement is the set of board cells that it covers.
 
+use crate::layers;
 use crate::shape::{Coord, Shape};
 use crate::tray::{Grid, Piece};
 
@@ -25,9 +26,10 @@ pub fn filled_cells(grid: &Grid) -> usize {
 }
 
 /// The kinds of the pieces, by smallest grid, then by wood, with their placements
-/// on a board of at most `MOST_CELLS` filled cells. No piece may be empty or have
-/// an empty outer layer.
+/// on a board of at most `MOST_CELLS` filled cells. Empty outer layers of both are
+/// taken off first. No piece may be empty.
 pub fn kinds(board: &Grid, pieces: &[Piece]) -> Vec<Kind> {
+    let (board, pieces) = (&layers::strip(board), layers::strip_pieces(pieces));
     let numbers = scan_numbers(board);
 
     let mut lent: Vec<((Shape, u8), u64)> = pieces

@@ -1,5 +1,7 @@
 //! The refusals 2 to 15 of a call, tested in their order. The original knows none.
-//! (16, a malformed file, is the parser's. No piece, once 1, is no refusal.)
+//! (16, a malformed file, is the parser's. No piece, once 1, is no refusal, nor is an
+//! empty outer layer, once 7.) 3 to 6 are of the grids as lent, 14 and 15 of what is
+//! left without empty outer layers; for 8 and 9 that is all one.
 
 use crate::placements::{self, kinds};
 use crate::tray::{Config, Engine, Grid, Piece, Tray};
@@ -66,9 +68,6 @@ pub fn refusal(call: &Call) -> Option<u8> {
     if pieces.iter().any(|piece| placements::filled_cells(&piece.grid) == 0) {
         return Some(6);
     }
-    if pieces.iter().any(|piece| has_empty_outer_layer(&piece.grid)) {
-        return Some(7);
-    }
     if pieces.iter().map(|piece| u64::from(piece.count)).sum::<u64>() > MOST_COPIES {
         return Some(8);
     }
@@ -131,20 +130,6 @@ fn read(grid: &Record, cells: &[u8]) -> Grid {
     Grid { sides: grid.sides, cells: lent_cells(grid, cells).unwrap().to_vec() }
 }
 
-/// Whether the first or last layer across one of the three axes has no filled cell.
-fn has_empty_outer_layer(grid: &Grid) -> bool {
-    let [_, b, c] = grid.sides;
-    (0..3).any(|axis| {
-        let is_filled = |layer: u32| {
-            (0u32..).zip(&grid.cells).any(|(index, &cell)| {
-                let place = [index / (b * c), index / c % b, index % c];
-                cell == 1 && place[axis] == layer
-            })
-        };
-        !is_filled(0) || !is_filled(grid.sides[axis] - 1)
-    })
-}
-
 #[cfg(test)]
 mod tests {
     use super::*;
@@ -178,7 +163,7 @@ mod tests {
         assert_eq!(of_pieces(&[Record { start: 2, ..CELL }]), Some(4));
         assert_eq!(of_pieces(&[Record { start: u64::MAX, ..CELL }]), Some(4));
         assert_eq!(refusal(&call(&[CELL], &[2])), Some(5));
-        assert_eq!(of_pieces(&[Record { sides: [1, 1, 2], ..CELL }]), Some(7));
+        assert_eq!(of_pieces(&[Record { sides: [1, 1, 2], ..CELL }]), None);
         assert_eq!(of_pieces(&[Record { count: 128, ..CELL }]), None);
         assert_eq!(of_pieces(&[Record { count: 129, ..CELL }]), Some(8));
         assert_eq!(of_pieces(&[Record { count: u32::MAX, ..CELL }; 2]), Some(8));
@@ -242,6 +227,49 @@ mod tests {
             let call = Call { board: Record { wood, ..CELL }, ..call(&[CELL], &full) };
             assert_eq!(refusal(&call), None);
         }
+    }
+
+    #[test]
+    fn empty_outer_layers() {
+        // 3 to 6 are of the grids as lent: the sides, all the cells, and one of them filled.
+        let with = |sides, cells: &[u8]| {
+            let piece = Record { sides, start: 1, ..CELL };
+            refusal(&call(&[piece], cells))
+        };
+        assert_eq!(with([1, 1, 4], &[1, 0, 0, 1, 0]), None);
+        assert_eq!(with([1, 1, 9], &[1, 1, 0, 0, 0, 0, 0, 0, 0, 0]), Some(3));
+        assert_eq!(with([1, 1, 4], &[1, 1, 0, 0]), Some(4));
+        assert_eq!(with([1, 1, 4], &[1, 1, 0, 0, 2]), Some(5));
+        assert_eq!(with([1, 1, 4], &[1, 0, 0, 0, 0]), Some(6));
+        // 128 filled cells, then 129, in the longest box.
+        let filled = |number| [vec![0; 512 - number], vec![1; number]].concat();
+        let on = |cells: &[u8], pieces: &[Record], engine| {
+            let board = Record { sides: [8, 8, 8], ..CELL };
+            let config = Config { engine, ..CONFIG };
+            refusal(&Call { config, board, ..call(pieces, cells) })
+        };
+        let cell = Record { start: 511, ..CELL };
+        assert_eq!(on(&filled(128), &[cell], Engine::Knuth), None);
+        assert_eq!(on(&filled(129), &[cell], Engine::Knuth), Some(9));
+        // 14 counts kinds, and one cell in two boxes is one: eight woods, then nine.
+        let in_two = |woods: u8| -> Vec<Record> {
+            let boxed = Record { sides: [1, 1, 2], start: 383, ..CELL };
+            let of = |wood| [Record { wood, ..cell }, Record { wood, ..boxed }];
+            (0..woods).flat_map(of).collect()
+        };
+        assert_eq!(on(&filled(128), &in_two(8), Engine::Knuth), None);
+        let nine = [in_two(7), vec![Record { wood: 8, ..cell }, Record { wood: 9, ..cell }]];
+        assert_eq!(on(&filled(128), &nine.concat(), Engine::Fast), Some(14));
+        // 15 likewise: a box of two by two by four has 87 placements in the full board.
+        let block = |wood, thick| Record { sides: [thick, 2, 4], wood, ..CELL };
+        let cells = [vec![1; 128], vec![0; 8]].concat();
+        let with = |pieces: &[Record]| {
+            let board = Record { sides: [4, 4, 8], ..CELL };
+            refusal(&Call { board, ..call(pieces, &cells) })
+        };
+        let boxed = |wood| Record { start: 112, ..block(wood, 3) };
+        assert_eq!(with(&[block(1, 2), block(2, 2), boxed(1), boxed(2)]), None);
+        assert_eq!(with(&[block(1, 2), block(2, 2), boxed(3)]), Some(15));
     }
 
     #[test]

@@ -39,12 +39,12 @@ corner i b ps skip room further fast knuth =
 unfoldable pub corners : List Corner
 corners =
     -- kind 0 first decides Fast's order; the engines differ
-    corner Turned (board 1 1 6 (cells 6 111110)) (M 1 ∷ D 1 ∷ piece 1 1 1 3 (cells 3 101) ∷ []) 0 3 false
-    ((20 ∷ 0 ∷ 20 ∷ 10 ∷ 10 ∷ gap ∷ []) ∷ (10 ∷ 10 ∷ 20 ∷ 0 ∷ 20 ∷ gap ∷ []) ∷ [])
-    ((10 ∷ 10 ∷ 20 ∷ 0 ∷ 20 ∷ gap ∷ []) ∷ (20 ∷ 0 ∷ 20 ∷ 10 ∷ 10 ∷ gap ∷ []) ∷ []) ∷
-    corner Mirrored (board 1 1 6 (cells 6 111110)) (M 1 ∷ D 1 ∷ piece 1 1 1 3 (cells 3 101) ∷ []) 0 3 false
-    ((20 ∷ 0 ∷ 20 ∷ 10 ∷ 10 ∷ gap ∷ []) ∷ (10 ∷ 10 ∷ 20 ∷ 0 ∷ 20 ∷ gap ∷ []) ∷ [])
-    ((10 ∷ 10 ∷ 20 ∷ 0 ∷ 20 ∷ gap ∷ []) ∷ (20 ∷ 0 ∷ 20 ∷ 10 ∷ 10 ∷ gap ∷ []) ∷ []) ∷
+    corner Turned (board 1 1 6 (cells 6 111011)) (M 1 ∷ D 1 ∷ piece 1 1 1 3 (cells 3 101) ∷ []) 0 3 false
+    ((20 ∷ 0 ∷ 20 ∷ gap ∷ 10 ∷ 10 ∷ []) ∷ (10 ∷ 10 ∷ 20 ∷ gap ∷ 20 ∷ 0 ∷ []) ∷ [])
+    ((10 ∷ 10 ∷ 20 ∷ gap ∷ 20 ∷ 0 ∷ []) ∷ (20 ∷ 0 ∷ 20 ∷ gap ∷ 10 ∷ 10 ∷ []) ∷ []) ∷
+    corner Mirrored (board 1 1 6 (cells 6 111011)) (M 1 ∷ D 1 ∷ piece 1 1 1 3 (cells 3 101) ∷ []) 0 3 false
+    ((20 ∷ 0 ∷ 20 ∷ gap ∷ 10 ∷ 10 ∷ []) ∷ (10 ∷ 10 ∷ 20 ∷ gap ∷ 20 ∷ 0 ∷ []) ∷ [])
+    ((10 ∷ 10 ∷ 20 ∷ gap ∷ 20 ∷ 0 ∷ []) ∷ (20 ∷ 0 ∷ 20 ∷ gap ∷ 10 ∷ 10 ∷ []) ∷ []) ∷
     -- five packings, the engines differ; whole, then pages of it: the middle, the last, room for none, past the end
     corner None (board 1 2 3 (cells 6 111111)) (M 2 ∷ piece 2 1 1 3 (cells 3 111) ∷ piece 1 1 2 3 (cells 6 111100) ∷ []) 0 6 false
     ((0 ∷ 1 ∷ 20 ∷ 20 ∷ 20 ∷ 20 ∷ []) ∷ (10 ∷ 10 ∷ 10 ∷ 11 ∷ 11 ∷ 11 ∷ []) ∷ (20 ∷ 0 ∷ 1 ∷ 20 ∷ 20 ∷ 20 ∷ []) ∷ (20 ∷ 20 ∷ 20 ∷ 0 ∷ 1 ∷ 20 ∷ []) ∷ (20 ∷ 20 ∷ 20 ∷ 20 ∷ 0 ∷ 1 ∷ []) ∷ [])
@@ -113,6 +113,10 @@ corners =
     corner Turned (board 1 3 3 (cells 9 111101111)) (D 4 ∷ []) 0 2 false
     ((0 ∷ 0 ∷ 3 ∷ 1 ∷ gap ∷ 3 ∷ 1 ∷ 2 ∷ 2 ∷ []) ∷ [])
     ((0 ∷ 0 ∷ 3 ∷ 1 ∷ gap ∷ 3 ∷ 1 ∷ 2 ∷ 2 ∷ []) ∷ []) ∷
+    -- empty outer layers in front of the board and of a piece: a page of whole answers, each in the box that was lent
+    corner None (board 2 2 4 (cells 16 0000000000000111)) (M 1 ∷ piece 1 2 1 3 (cells 6 000011) ∷ []) 1 1 false
+    ((gap ∷ gap ∷ gap ∷ gap ∷ gap ∷ gap ∷ gap ∷ gap ∷ gap ∷ gap ∷ gap ∷ gap ∷ gap ∷ 10 ∷ 10 ∷ 0 ∷ []) ∷ [])
+    ((gap ∷ gap ∷ gap ∷ gap ∷ gap ∷ gap ∷ gap ∷ gap ∷ gap ∷ gap ∷ gap ∷ gap ∷ gap ∷ 10 ∷ 10 ∷ 0 ∷ []) ∷ []) ∷
     []
 
 abbrev pub isTurned : Identify → Bool

@@ -1,31 +1,34 @@
 -- No two packings share an answer. Assumes nothing.
 use Prim.Native.Nat.{ℕ, zero, suc, _+_, _<_}
+use mathlib.Core.Bool.{Bool, cond, not}
 use mathlib.Core.List.{List, [], _∷_, _++_, map, List·Memᴰ, List·Memᴰ·head, List·Memᴰ·tail, List·Memᴰ·not-nil, List·Memᴰ·cases-cons, Memᴰ·append-left, Memᴰ·append-right, Memᴰ·cast, Memᴰ·of-map, head-eq-of-cons-eq, tail-eq-of-cons-eq}
 use mathlib.Core.Path.{_≡_, refl, sym, ap, ap₂, _∙_, subst}
 use mathlib.Core.Logic.{_⊎_, inl, inr}
 use native.Mathlib.Omega.{arith}
-use lib.Dec.{ltb, eqb, eqb→eq, eqb-refl, lt→ltb}
+use lib.Dec.{T, ltb, eqb, eqb→eq, eqb-refl, lt→ltb}
 use lib.ListN.{length, getD}
 use Rattle.definitions.specs.Lists.{keep, each, joined, numbered, numberedFrom, headOr, member, below, Apart}
-use Rattle.definitions.proofs.ListLaws.{keep-at, keep-of, each-at, member-at, member-of, apart-each, apart-keep, apart-ascending, ascending-unique, from-ascending, ltb-trans, ltb-irrefl, below-at}
+use Rattle.definitions.proofs.ListLaws.{is-true, is-false, decide, clash, keep-at, keep-of, each-at, member-at, member-of, apart-each, apart-keep, apart-ascending, ascending-unique, from-ascending, ltb-trans, ltb-irrefl, below-at}
 use Rattle.definitions.proofs.CountLaws.{howMany-length}
-use Rattle.definitions.specs.Grid.{Cell, box, volume, InBox}
+use Rattle.definitions.specs.Grid.{Cell, setDown, sameCell, box, volume, InBox}
 use Rattle.definitions.proofs.MapLaws.{box-of}
 use Rattle.definitions.specs.Scan.{scanNumber}
 use Rattle.definitions.specs.Kinds.{Tray, Piece, Form, sameForm, formAhead, Sorted, sortPiece, sorted, forms, Copy, copyOf, copiesOfPiece, copiesOf, Kind, kindsOf, formOf}
 use Rattle.definitions.specs.Placements.{Placement, Compiled, compile}
 use Rattle.definitions.specs.Packing.{ahead, used, limits, Packing}
 use Rattle.definitions.proofs.PackingLaws.{ahead-trans, ahead-irrefl, packing-placed, packing-once, packing-at, packing-within}
-use Rattle.definitions.specs.Answers.{Taken, takes, taken, copyOn, answer}
-use Rattle.definitions.specs.Refusals.{Call, trayOf, refusal}
+use Rattle.definitions.specs.Answers.{Taken, takes, taken, copyOn, lentCells, answer}
+use Rattle.definitions.specs.Refusals.{Call, lentOf, stripTray, trayOf, refusal}
 use Rattle.definitions.proofs.SearchLaws.{WellMade}
-use Rattle.definitions.proofs.WellMadeLaws.{Nth, nth-mem, nth-below, nth-getD, getD-nth, joined-at, numbered-at, numbered-ascending}
+use Rattle.definitions.proofs.WellMadeLaws.{sameCell→eq, sameCell-refl, Nth, nth-mem, nth-below, nth-getD, getD-nth, joined-at, numbered-at, numbered-ascending}
 use Rattle.definitions.proofs.CellLaws.{nth-unique, nth-apart, apart-map-in}
 use Rattle.definitions.proofs.ImageLaws.{Numbered}
 use Rattle.definitions.proofs.PartnerLaws.{sameForm→eq, form-irrefl, fs, fs-up, form-nth}
 use Rattle.definitions.proofs.GeometryLaws.{numbered-cells, acts, onto-itself, only-itself, W, in-box, piece-whole}
 use Rattle.definitions.specs.Kept.Identify.{Turned, Mirrored}
 use Rattle.definitions.proofs.KeptLaws.{Geometry}
+use Rattle.definitions.proofs.StrippingLaws.{strip-fits}
+use Rattle.definitions.proofs.StrippedLaws.{set-down-one}
 
 -- ---- lists
 two-at : {A : Type 0} (a b a′ b′ : A → ℕ) (xs : List A) → each xs (λ x. a x ∷ b x ∷ []) ≡ each xs (λ x. a′ x ∷ b′ x ∷ []) → (x : A) → List·Memᴰ x xs → (a x ≡ a′ x) × (b x ≡ b′ x)
@@ -204,13 +207,28 @@ module _ (c : Compiled) (w : WellMade c) where
     pub copies-differ : (P Q : List Placement) → Packing c P → Packing c Q → ((n : ℕ) → n < length (c .cells) → copyOn (taken c P) n ≡ copyOn (taken c Q) n) → P ≡ Q
     copies-differ P Q g k same = ascending-unique ahead ahead-trans ahead-irrefl P Q (g .aSet) (k .aSet) (half P Q g k same) (half Q P k g (λ n l. sym (same n l)))
 
+-- scan numbers of cells that are all set down by one cell
+pub set-number : (at : Cell) (cells : List Cell) (u : Cell) → scanNumber (map (setDown at) cells) (setDown at u) ≡ scanNumber cells u
+unfolding scanNumber
+set-number at [] u = refl
+set-number at (v ∷ vs) u = ap₂ (λ (b : Bool) (n : ℕ). cond b 0 (suc n)) (go (decide (sameCell u v))) (set-number at vs u)
+  where
+    go : T (sameCell u v) ⊎ T (not (sameCell u v)) → sameCell (setDown at u) (setDown at v) ≡ sameCell u v
+    go (inl t) = let e = sameCell→eq u v t in is-true (sameCell (setDown at u) (setDown at v)) (subst (λ (w : Cell). T (sameCell (setDown at u) (setDown at w))) e (sameCell-refl (setDown at u))) ∙ sym (is-true (sameCell u v) t)
+    go (inr t) =
+        is-false (sameCell (setDown at u) (setDown at v)) (λ k. clash (sameCell u v) (subst (λ (w : Cell). T (sameCell u w)) (set-down-one at u v (sameCell→eq (setDown at u) (setDown at v) k)) (sameCell-refl u)) t)
+        ∙ sym (is-false (sameCell u v) (λ k. clash (sameCell u v) k t))
+
 -- the two bytes of a cell, from an answer
-answers-at : (c : Compiled) (P Q : List Placement) → answer c P ≡ answer c Q → (u : Cell) → List·Memᴰ u (box (c .board .sides))
-    → (copyOn (taken c P) (scanNumber (c .cells) u) .piece ≡ copyOn (taken c Q) (scanNumber (c .cells) u) .piece) × (copyOn (taken c P) (scanNumber (c .cells) u) .copy ≡ copyOn (taken c Q) (scanNumber (c .cells) u) .copy)
+answers-at : (c : Compiled) (P Q : List Placement) → answer c P ≡ answer c Q → (u : Cell) → List·Memᴰ (setDown (c .frame .at) u) (box (c .frame .lent))
+    → (copyOn (taken c P) (scanNumber (c .cells) u) .piece ≡ copyOn (taken c Q) (scanNumber (c .cells) u) .piece)
+    × (copyOn (taken c P) (scanNumber (c .cells) u) .copy ≡ copyOn (taken c Q) (scanNumber (c .cells) u) .copy)
 unfolding answer
 answers-at c P Q e u k =
-    two-at (λ v. copyOn (taken c P) (scanNumber (c .cells) v) .piece) (λ v. copyOn (taken c P) (scanNumber (c .cells) v) .copy)
-    (λ v. copyOn (taken c Q) (scanNumber (c .cells) v) .piece) (λ v. copyOn (taken c Q) (scanNumber (c .cells) v) .copy) (box (c .board .sides)) e u k
+    subst (λ (n : ℕ). (copyOn (taken c P) n .piece ≡ copyOn (taken c Q) n .piece) × (copyOn (taken c P) n .copy ≡ copyOn (taken c Q) n .copy))
+    (set-number (c .frame .at) (c .cells) u)
+    (two-at (λ v. copyOn (taken c P) (scanNumber (lentCells c) v) .piece) (λ v. copyOn (taken c P) (scanNumber (lentCells c) v) .copy)
+    (λ v. copyOn (taken c Q) (scanNumber (lentCells c) v) .piece) (λ v. copyOn (taken c Q) (scanNumber (lentCells c) v) .copy) (box (c .frame .lent)) e (setDown (c .frame .at) u) k)
 
 -- ---- copies are numbered apart
 module _ (t : Tray) where
@@ -295,6 +313,11 @@ module _ (l : Call) (ok : refusal l ≡ 0) where
   unfolding compile
   kinds-of = refl
 
+  -- where a cell of the stripped board's box lies in the lent one
+  pub in-lent : (u : Cell) → InBox (compile (trayOf l) .board .sides) u → InBox (compile (trayOf l) .frame .lent) (setDown (compile (trayOf l) .frame .at) u)
+  unfolding compile trayOf stripTray setDown
+  in-lent u k = let f = strip-fits (lentOf l .board) in (omega (arith, k .0, f .alongX), omega (arith, k .1, f .alongY), omega (arith, k .2, f .alongZ))
+
   answers-differ : (P Q : List Placement) → Packing (compile (trayOf l)) P → Packing (compile (trayOf l)) Q → answer (compile (trayOf l)) P ≡ answer (compile (trayOf l)) Q → P ≡ Q
   answers-differ P Q g h e = copies-differ C (W l ok) (numbered-cells l ok) one-copy P Q g h same
     where
@@ -312,7 +335,7 @@ module _ (l : Call) (ok : refusal l ≡ 0) where
           copy-path p q = λ i. record { piece = p i; copy = q i }
 
           copy-same : (u : Cell) → InBox (C .board .sides) u → copyOn (taken C P) (scanNumber (C .cells) u) ≡ copyOn (taken C Q) (scanNumber (C .cells) u)
-          copy-same u k = let r = answers-at C P Q e u (box-of (C .board .sides) u k) in copy-path (r .0) (r .1)
+          copy-same u k = let r = answers-at C P Q e u (box-of (C .frame .lent) (setDown (C .frame .at) u) (in-lent u k)) in copy-path (r .0) (r .1)
 
   pub geometry : Geometry (compile (trayOf l))
   geometry = record { ontoItself = onto-itself l ok; onlyItself = only-itself l ok; turned = acts l ok Turned tt; mirrored = acts l ok Mirrored tt; answersDiffer = answers-differ }

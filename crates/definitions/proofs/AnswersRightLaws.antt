@@ -1,15 +1,15 @@
 -- An answer has the bytes that document 01 says, cell by cell. Assumes nothing.
 use Prim.Native.Nat.{ℕ, zero, suc, _*_, _<_}
 use mathlib.Core.Bool.{Bool}
-use mathlib.Core.List.{List, [], _∷_, map, List·Memᴰ, Memᴰ·cast}
+use mathlib.Core.List.{List, [], _∷_, map, List·Memᴰ, Memᴰ·cast, Memᴰ·map, Memᴰ·of-map}
 use mathlib.Core.Path.{_≡_, sym, ap, _∙_, subst, subst₂}
 use native.Mathlib.Omega.{arith}
 use lib.Dec.{T, eqb}
-use lib.ListN.{length, take, drop}
+use lib.ListN.{length, take, drop, length-map}
 use Rattle.definitions.specs.Lists.{each, keep, headOr, member}
 use Rattle.definitions.proofs.ListLaws.{keep-at, keep-none, keep-ascending, member-at}
 use Rattle.definitions.proofs.CountLaws.{howMany-keep}
-use Rattle.definitions.specs.Grid.{Sides, Cell, InBox, box, placeOf, byteAt, gridWith, filledCells, sameCell}
+use Rattle.definitions.specs.Grid.{Sides, Cell, InBox, setDown, box, placeOf, byteAt, gridWith, filledCells, sameCell}
 use Rattle.definitions.proofs.MapLaws.{cell-path, place-lt, byte-with, filled-at}
 use Rattle.definitions.proofs.GridLaws.{length-box}
 use Rattle.definitions.specs.Scan.{scanNumber}
@@ -17,7 +17,7 @@ use Rattle.definitions.specs.Kinds.{Copy, Kind}
 use Rattle.definitions.specs.Placements.{Placement, Compiled, compile}
 use Rattle.definitions.specs.Packing.{ahead, Packing}
 use Rattle.definitions.specs.PlacementsRight.{noKind, kindAt}
-use Rattle.definitions.specs.Answers.{Taken, taken, copyOn, answer}
+use Rattle.definitions.specs.Answers.{Taken, taken, copyOn, lentCells, answer}
 use Rattle.definitions.specs.Refusals.{Call, trayOf, refusal}
 use Rattle.definitions.specs.Outcomes.{answerSize}
 use Rattle.definitions.specs.AnswersRight.{bytesOf, numberIn, copyFor, AnswerRight, answersRight}
@@ -27,7 +27,7 @@ use Rattle.definitions.proofs.WellMadeLaws.{Nth, nth-mem, nth-below, nt
 use Rattle.definitions.proofs.CellLaws.{nth-value}
 use Rattle.definitions.proofs.PartnerLaws.{before-holds}
 use Rattle.definitions.proofs.GeometryLaws.{W, to-filled}
-use Rattle.definitions.proofs.AnswerLaws.{kindList, Held, held, taken-at}
+use Rattle.definitions.proofs.AnswerLaws.{kindList, Held, held, taken-at, set-number, in-lent}
 use Rattle.definitions.proofs.DemandLaws.{answer-length}
 
 -- ---- two bytes for each cell of the box
@@ -52,11 +52,11 @@ box-nth s u h = subst (λ (v : Cell). Nth (box s) (placeOf s u) v) (cell-path (s
 abbrev bytes : Copy → List ℕ
 bytes d = d .piece ∷ d .copy ∷ []
 
-bytes-are : (c : Compiled) (P : List Placement) (u : Cell) → InBox (c .board .sides) u → bytesOf c P u ≡ bytes (copyOn (taken c P) (scanNumber (c .cells) u))
+bytes-are : (c : Compiled) (P : List Placement) (u : Cell) → InBox (c .frame .lent) u → bytesOf c P u ≡ bytes (copyOn (taken c P) (scanNumber (lentCells c) u))
 unfolding bytesOf answer
 bytes-are c P u h =
-    let on : Cell → Copy = λ v. copyOn (taken c P) (scanNumber (c .cells) v) in
-    let s = c .board .sides in
+    let on : Cell → Copy = λ v. copyOn (taken c P) (scanNumber (lentCells c) v) in
+    let s = c .frame .lent in
     two-of (λ v. on v .piece) (λ v. on v .copy) (box s) (placeOf s u) (box-nth s u h)
 
 -- ---- the copies of a packing
@@ -108,15 +108,16 @@ module _ (l : Call) (ok : refusal l ≡ 0) where
   abbrev C : Compiled
   C = compile (trayOf l)
 
-  abbrev number : Cell → ℕ
-  number u = scanNumber (C .cells) u
+  abbrev at : Cell
+  at = C .frame .at
 
-  -- a cell that has a number of the board's is filled
-  numbered-filled : (u : Cell) → number u < length (C .cells) → List·Memᴰ u (filledCells (C .board))
+  -- a cell of the lent box that has a number of the board's is a filled one
+  numbered-filled : (u : Cell) → scanNumber (lentCells C) u < length (C .cells) → List·Memᴰ u (map (setDown at) (filledCells (C .board)))
   unfolding scanNumber
   numbered-filled u h =
-      let r = getD-nth (C .cells) (number u) h in
-      to-filled l ok u (Memᴰ·cast (sameCell→eq u (r .0) (before-holds (sameCell u) (C .cells) (r .0) (r .1))) (nth-mem (C .cells) (number u) (r .1)))
+      let r = getD-nth (lentCells C) (scanNumber (lentCells C) u) (subst (λ (n : ℕ). scanNumber (lentCells C) u < n) (sym (length-map (C .cells) (setDown at))) h) in
+      let m = Memᴰ·of-map (setDown at) (C .cells) (nth-mem (lentCells C) (scanNumber (lentCells C) u) (r .1)) in
+      Memᴰ·cast (sameCell→eq u (r .0) (before-holds (sameCell u) (lentCells C) (r .0) (r .1)) ∙ sym (m .2)) (Memᴰ·map (setDown at) (to-filled l ok (m .0) (m .1)))
 
   answer-right : (P : List Placement) → Packing C P → AnswerRight C P
   unfolding answerSize
@@ -124,9 +125,11 @@ module _ (l : Call) (ok : refusal l ≡ 0) where
       let w = W l ok in
       record {
         twoBytes = answer-length C P;
-        unfilled = λ u b out. bytes-are C P u b ∙ ap bytes (none-on C w P g (number u) (λ h. out (numbered-filled u h)));
+        unfilled = λ u b out. bytes-are C P u b ∙ ap bytes (none-on C w P g (scanNumber (lentCells C) u) (λ h. out (numbered-filled u h)));
         hasCopy = λ q m. nth-below (kindAt C (q .kind) .copies) (numberIn P q) (copyOn (taken C P) (q .p)) (copy-of C w P g q m (q .p) (w .coversP q (packing-placed C P g q m)));
-        filled = λ u m q k n. bytes-are C P u (filled-at (C .board) u m .0) ∙ ap bytes (copy-is C w P g q k (number u) n);
+        filled = λ u m q k n.
+            bytes-are C P (setDown at u) (in-lent l ok u (filled-at (C .board) u m .0))
+            ∙ ap bytes (ap (copyOn (taken C P)) (set-number at (C .cells) u) ∙ copy-is C w P g q k (scanNumber (C .cells) u) n);
       }
 
 pub answersRight-holds : answersRight

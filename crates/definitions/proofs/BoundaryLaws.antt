@@ -2,8 +2,9 @@
 use mathlib.Core.Bool.{_&&_}
 use lib.Dec.{T}
 use Rattle.definitions.specs.Lists.{all}
-use Rattle.definitions.specs.Grid.{sameCell, box, volume, byteAt, gridWith, filledCells, sidesThenCells, sameGrid, gridAhead}
+use Rattle.definitions.specs.Grid.{setDown, sameCell, box, volume, byteAt, gridWith, filledCells, sidesThenCells, sameGrid, gridAhead}
 use Rattle.definitions.specs.Maps.{side, coordinate, fromEnd, mapSides, mapCell, axisOf, flipOf, inverse, mapGrid, permutations, transform, parity, turns, mirrorings, mirror}
+use Rattle.definitions.specs.Stripping.{along, corner, span, spanned, strip, frameOf, ownFrame}
 use Rattle.definitions.specs.Scan.{axisAhead, axes, cellAhead, scan, scanNumber}
 use Rattle.definitions.specs.Kinds.{variants, smallest, sameForm, formAhead, sorted, forms, mirroredForm, copiesOf, partnerOf, kindsOf}
 use Rattle.definitions.specs.Placements.{origin, lies, reaches, fits, placementsAt, placementsOf, compile}
@@ -12,7 +13,7 @@ use Rattle.definitions.specs.Kept.{compared, smaller, kindAfter, cellAft
 use Rattle.definitions.specs.Orders.{start, possible, choose, search, fastChoices, identifiesTurned, sizes, allCells, kind0First, fastList, tallyAhead, tallies, knuthChoices, knuthList, packings, listed}
 use Rattle.definitions.specs.Answers.{taken, copyOn, answer}
 use Rattle.definitions.specs.Page.{page}
-use Rattle.definitions.specs.Refusals.{sidesOf, gridOf, lentOf, trayOf, identifies, identifyOf, isSide, sidesFit, cellsLie, areBits, someFilled, filledWhere, isTight, copyCount, boardCellCount, isPorted, isKnuth, placementCount, rowsOf, linkCount, table, refusal}
+use Rattle.definitions.specs.Refusals.{sidesOf, gridOf, lentOf, stripTray, trayOf, identifies, identifyOf, isSide, sidesFit, cellsLie, areBits, someFilled, filledWhere, isTight, copyCount, boardCellCount, isPorted, isKnuth, placementCount, rowsOf, linkCount, table, refusal}
 use Rattle.definitions.specs.Outcomes.{answersOf, answerSize, capacity, pageOf, overStart, cleared, refused, accepted, outcome}
 use Rattle.definitions.specs.Files.{callOn, fieldsOf, field, linesOf, isDigit, isNumber, numberIn, gridIn, isGridIn, isConfig, isBoard, isWood, hasPieceFields, isPiece, woodIn, pieceIn, isFile, callIn, decimal, cellShown, entryLine, lastLine, refusedLine, listing, packed}
 use Rattle.definitions.specs.Fillings.{lists, holds}
@@ -20,33 +21,33 @@ use Rattle.definitions.specs.declared.SolverKind.the-variants.{Fast, Knu
 use Rattle.definitions.specs.Boundaries.{refusals, largeBoards, isGiven, afterwards, isLeft, counts, isCounted, pages, isPaged, files, isPrinted, moreFillings, fastFillings}
 
 pub refusals-hold : T (all isGiven refusals)
-unfolding refusals isGiven sameCell box volume byteAt gridWith filledCells sidesThenCells sameGrid gridAhead side coordinate fromEnd mapSides mapCell axisOf flipOf inverse mapGrid permutations transform parity turns mirrorings mirror axisAhead axes cellAhead scan scanNumber variants smallest sameForm formAhead sorted forms mirroredForm copiesOf partnerOf kindsOf origin lies reaches fits placementsAt placementsOf compile rank ahead samePlacement covering used limits placed coversOnce withinCopies isPacking compared smaller kindAfter cellAfter moved image symmetries turnedImages mirroredImages images kept start possible choose search fastChoices identifiesTurned sizes allCells kind0First fastList tallyAhead tallies knuthChoices knuthList packings listed taken copyOn answer page sidesOf gridOf lentOf trayOf identifies identifyOf isSide sidesFit cellsLie areBits someFilled filledWhere isTight copyCount boardCellCount isPorted isKnuth placementCount rowsOf linkCount table refusal answersOf answerSize capacity pageOf overStart refused accepted outcome
+unfolding refusals isGiven sameCell box volume byteAt gridWith filledCells sidesThenCells sameGrid gridAhead side coordinate fromEnd mapSides mapCell axisOf flipOf inverse mapGrid permutations transform parity turns mirrorings mirror axisAhead axes cellAhead scan scanNumber variants smallest sameForm formAhead sorted forms mirroredForm copiesOf partnerOf kindsOf origin lies reaches fits placementsAt placementsOf compile rank ahead samePlacement covering used limits placed coversOnce withinCopies isPacking compared smaller kindAfter cellAfter moved image symmetries turnedImages mirroredImages images kept start possible choose search fastChoices identifiesTurned sizes allCells kind0First fastList tallyAhead tallies knuthChoices knuthList packings listed taken copyOn answer page sidesOf gridOf lentOf stripTray trayOf setDown along corner span spanned strip frameOf ownFrame identifies identifyOf isSide sidesFit cellsLie areBits someFilled filledWhere isTight copyCount boardCellCount isPorted isKnuth placementCount rowsOf linkCount table refusal answersOf answerSize capacity pageOf overStart refused accepted outcome
 refusals-hold = tt
 
 pub large-boards-hold : T (all isGiven largeBoards)
-unfolding largeBoards isGiven sameCell box volume byteAt gridWith filledCells sidesThenCells sameGrid gridAhead side coordinate fromEnd mapSides mapCell axisOf flipOf inverse mapGrid permutations transform parity turns mirrorings mirror axisAhead axes cellAhead scan scanNumber variants smallest sameForm formAhead sorted forms mirroredForm copiesOf partnerOf kindsOf origin lies reaches fits placementsAt placementsOf compile rank ahead samePlacement covering used limits placed coversOnce withinCopies isPacking compared smaller kindAfter cellAfter moved image symmetries turnedImages mirroredImages images kept start possible choose search fastChoices identifiesTurned sizes allCells kind0First fastList tallyAhead tallies knuthChoices knuthList packings listed taken copyOn answer page sidesOf gridOf lentOf trayOf identifies identifyOf isSide sidesFit cellsLie areBits someFilled filledWhere isTight copyCount boardCellCount isPorted isKnuth placementCount rowsOf linkCount table refusal answersOf answerSize capacity pageOf overStart refused accepted outcome
+unfolding largeBoards isGiven sameCell box volume byteAt gridWith filledCells sidesThenCells sameGrid gridAhead side coordinate fromEnd mapSides mapCell axisOf flipOf inverse mapGrid permutations transform parity turns mirrorings mirror axisAhead axes cellAhead scan scanNumber variants smallest sameForm formAhead sorted forms mirroredForm copiesOf partnerOf kindsOf origin lies reaches fits placementsAt placementsOf compile rank ahead samePlacement covering used limits placed coversOnce withinCopies isPacking compared smaller kindAfter cellAfter moved image symmetries turnedImages mirroredImages images kept start possible choose search fastChoices identifiesTurned sizes allCells kind0First fastList tallyAhead tallies knuthChoices knuthList packings listed taken copyOn answer page sidesOf gridOf lentOf stripTray trayOf setDown along corner span spanned strip frameOf ownFrame identifies identifyOf isSide sidesFit cellsLie areBits someFilled filledWhere isTight copyCount boardCellCount isPorted isKnuth placementCount rowsOf linkCount table refusal answersOf answerSize capacity pageOf overStart refused accepted outcome
 large-boards-hold = tt
 
 pub afterwards-hold : T (all isLeft afterwards)
-unfolding afterwards isLeft cleared sameCell box volume byteAt gridWith filledCells sidesThenCells sameGrid gridAhead side coordinate fromEnd mapSides mapCell axisOf flipOf inverse mapGrid permutations transform parity turns mirrorings mirror axisAhead axes cellAhead scan scanNumber variants smallest sameForm formAhead sorted forms mirroredForm copiesOf partnerOf kindsOf origin lies reaches fits placementsAt placementsOf compile rank ahead samePlacement covering used limits placed coversOnce withinCopies isPacking compared smaller kindAfter cellAfter moved image symmetries turnedImages mirroredImages images kept start possible choose search fastChoices identifiesTurned sizes allCells kind0First fastList tallyAhead tallies knuthChoices knuthList packings listed taken copyOn answer page sidesOf gridOf lentOf trayOf identifies identifyOf isSide sidesFit cellsLie areBits someFilled filledWhere isTight copyCount boardCellCount isPorted isKnuth placementCount rowsOf linkCount table refusal answersOf answerSize capacity pageOf overStart refused accepted outcome
+unfolding afterwards isLeft cleared sameCell box volume byteAt gridWith filledCells sidesThenCells sameGrid gridAhead side coordinate fromEnd mapSides mapCell axisOf flipOf inverse mapGrid permutations transform parity turns mirrorings mirror axisAhead axes cellAhead scan scanNumber variants smallest sameForm formAhead sorted forms mirroredForm copiesOf partnerOf kindsOf origin lies reaches fits placementsAt placementsOf compile rank ahead samePlacement covering used limits placed coversOnce withinCopies isPacking compared smaller kindAfter cellAfter moved image symmetries turnedImages mirroredImages images kept start possible choose search fastChoices identifiesTurned sizes allCells kind0First fastList tallyAhead tallies knuthChoices knuthList packings listed taken copyOn answer page sidesOf gridOf lentOf stripTray trayOf setDown along corner span spanned strip frameOf ownFrame identifies identifyOf isSide sidesFit cellsLie areBits someFilled filledWhere isTight copyCount boardCellCount isPorted isKnuth placementCount rowsOf linkCount table refusal answersOf answerSize capacity pageOf overStart refused accepted outcome
 afterwards-hold = tt
 
 pub counts-hold : T (all isCounted counts)
-unfolding counts isCounted callOn sameCell box volume byteAt gridWith filledCells sidesThenCells sameGrid gridAhead side coordinate fromEnd mapSides mapCell axisOf flipOf inverse mapGrid permutations transform parity turns mirrorings mirror axisAhead axes cellAhead scan scanNumber variants smallest sameForm formAhead sorted forms mirroredForm copiesOf partnerOf kindsOf origin lies reaches fits placementsAt placementsOf compile rank ahead samePlacement covering used limits placed coversOnce withinCopies isPacking compared smaller kindAfter cellAfter moved image symmetries turnedImages mirroredImages images kept start possible choose search fastChoices identifiesTurned sizes allCells kind0First fastList tallyAhead tallies knuthChoices knuthList packings listed taken copyOn answer page sidesOf gridOf lentOf trayOf identifies identifyOf isSide sidesFit cellsLie areBits someFilled filledWhere isTight copyCount boardCellCount isPorted isKnuth placementCount rowsOf linkCount table refusal answersOf answerSize capacity pageOf overStart refused accepted outcome
+unfolding counts isCounted callOn sameCell box volume byteAt gridWith filledCells sidesThenCells sameGrid gridAhead side coordinate fromEnd mapSides mapCell axisOf flipOf inverse mapGrid permutations transform parity turns mirrorings mirror axisAhead axes cellAhead scan scanNumber variants smallest sameForm formAhead sorted forms mirroredForm copiesOf partnerOf kindsOf origin lies reaches fits placementsAt placementsOf compile rank ahead samePlacement covering used limits placed coversOnce withinCopies isPacking compared smaller kindAfter cellAfter moved image symmetries turnedImages mirroredImages images kept start possible choose search fastChoices identifiesTurned sizes allCells kind0First fastList tallyAhead tallies knuthChoices knuthList packings listed taken copyOn answer page sidesOf gridOf lentOf stripTray trayOf setDown along corner span spanned strip frameOf ownFrame identifies identifyOf isSide sidesFit cellsLie areBits someFilled filledWhere isTight copyCount boardCellCount isPorted isKnuth placementCount rowsOf linkCount table refusal answersOf answerSize capacity pageOf overStart refused accepted outcome
 counts-hold = tt
 
 pub pages-hold : T (all (λ x. isPaged Fast x && isPaged KnuthAlgorithm x) pages)
-unfolding pages isPaged callOn lists sameCell box volume byteAt gridWith filledCells sidesThenCells sameGrid gridAhead side coordinate fromEnd mapSides mapCell axisOf flipOf inverse mapGrid permutations transform parity turns mirrorings mirror axisAhead axes cellAhead scan scanNumber variants smallest sameForm formAhead sorted forms mirroredForm copiesOf partnerOf kindsOf origin lies reaches fits placementsAt placementsOf compile rank ahead samePlacement covering used limits placed coversOnce withinCopies isPacking compared smaller kindAfter cellAfter moved image symmetries turnedImages mirroredImages images kept start possible choose search fastChoices identifiesTurned sizes allCells kind0First fastList tallyAhead tallies knuthChoices knuthList packings listed taken copyOn answer page sidesOf gridOf lentOf trayOf identifies identifyOf isSide sidesFit cellsLie areBits someFilled filledWhere isTight copyCount boardCellCount isPorted isKnuth placementCount rowsOf linkCount table refusal answersOf answerSize capacity pageOf overStart refused accepted outcome
+unfolding pages isPaged callOn lists sameCell box volume byteAt gridWith filledCells sidesThenCells sameGrid gridAhead side coordinate fromEnd mapSides mapCell axisOf flipOf inverse mapGrid permutations transform parity turns mirrorings mirror axisAhead axes cellAhead scan scanNumber variants smallest sameForm formAhead sorted forms mirroredForm copiesOf partnerOf kindsOf origin lies reaches fits placementsAt placementsOf compile rank ahead samePlacement covering used limits placed coversOnce withinCopies isPacking compared smaller kindAfter cellAfter moved image symmetries turnedImages mirroredImages images kept start possible choose search fastChoices identifiesTurned sizes allCells kind0First fastList tallyAhead tallies knuthChoices knuthList packings listed taken copyOn answer page sidesOf gridOf lentOf stripTray trayOf setDown along corner span spanned strip frameOf ownFrame identifies identifyOf isSide sidesFit cellsLie areBits someFilled filledWhere isTight copyCount boardCellCount isPorted isKnuth placementCount rowsOf linkCount table refusal answersOf answerSize capacity pageOf overStart refused accepted outcome
 pages-hold = tt
 
 pub files-hold : T (all isPrinted files)
-unfolding files isPrinted fieldsOf field linesOf isDigit isNumber numberIn gridIn isGridIn isConfig isBoard isWood hasPieceFields isPiece woodIn pieceIn isFile callIn decimal cellShown entryLine lastLine refusedLine listing packed callOn sameCell box volume byteAt gridWith filledCells sidesThenCells sameGrid gridAhead side coordinate fromEnd mapSides mapCell axisOf flipOf inverse mapGrid permutations transform parity turns mirrorings mirror axisAhead axes cellAhead scan scanNumber variants smallest sameForm formAhead sorted forms mirroredForm copiesOf partnerOf kindsOf origin lies reaches fits placementsAt placementsOf compile rank ahead samePlacement covering used limits placed coversOnce withinCopies isPacking compared smaller kindAfter cellAfter moved image symmetries turnedImages mirroredImages images kept start possible choose search fastChoices identifiesTurned sizes allCells kind0First fastList tallyAhead tallies knuthChoices knuthList packings listed taken copyOn answer page sidesOf gridOf lentOf trayOf identifies identifyOf isSide sidesFit cellsLie areBits someFilled filledWhere isTight copyCount boardCellCount isPorted isKnuth placementCount rowsOf linkCount table refusal answersOf answerSize capacity pageOf overStart refused accepted outcome
+unfolding files isPrinted fieldsOf field linesOf isDigit isNumber numberIn gridIn isGridIn isConfig isBoard isWood hasPieceFields isPiece woodIn pieceIn isFile callIn decimal cellShown entryLine lastLine refusedLine listing packed callOn sameCell box volume byteAt gridWith filledCells sidesThenCells sameGrid gridAhead side coordinate fromEnd mapSides mapCell axisOf flipOf inverse mapGrid permutations transform parity turns mirrorings mirror axisAhead axes cellAhead scan scanNumber variants smallest sameForm formAhead sorted forms mirroredForm copiesOf partnerOf kindsOf origin lies reaches fits placementsAt placementsOf compile rank ahead samePlacement covering used limits placed coversOnce withinCopies isPacking compared smaller kindAfter cellAfter moved image symmetries turnedImages mirroredImages images kept start possible choose search fastChoices identifiesTurned sizes allCells kind0First fastList tallyAhead tallies knuthChoices knuthList packings listed taken copyOn answer page sidesOf gridOf lentOf stripTray trayOf setDown along corner span spanned strip frameOf ownFrame identifies identifyOf isSide sidesFit cellsLie areBits someFilled filledWhere isTight copyCount boardCellCount isPorted isKnuth placementCount rowsOf linkCount table refusal answersOf answerSize capacity pageOf overStart refused accepted outcome
 files-hold = tt
 
 pub more-fillings-hold : T (all (λ l. holds Fast l && holds KnuthAlgorithm l) moreFillings)
-unfolding moreFillings holds callOn lists sameCell box volume byteAt gridWith filledCells sidesThenCells sameGrid gridAhead side coordinate fromEnd mapSides mapCell axisOf flipOf inverse mapGrid permutations transform parity turns mirrorings mirror axisAhead axes cellAhead scan scanNumber variants smallest sameForm formAhead sorted forms mirroredForm copiesOf partnerOf kindsOf origin lies reaches fits placementsAt placementsOf compile rank ahead samePlacement covering used limits placed coversOnce withinCopies isPacking compared smaller kindAfter cellAfter moved image symmetries turnedImages mirroredImages images kept start possible choose search fastChoices identifiesTurned sizes allCells kind0First fastList tallyAhead tallies knuthChoices knuthList packings listed taken copyOn answer page sidesOf gridOf lentOf trayOf identifies identifyOf isSide sidesFit cellsLie areBits someFilled filledWhere isTight copyCount boardCellCount isPorted isKnuth placementCount rowsOf linkCount table refusal answersOf answerSize capacity pageOf overStart refused accepted outcome
+unfolding moreFillings holds callOn lists sameCell box volume byteAt gridWith filledCells sidesThenCells sameGrid gridAhead side coordinate fromEnd mapSides mapCell axisOf flipOf inverse mapGrid permutations transform parity turns mirrorings mirror axisAhead axes cellAhead scan scanNumber variants smallest sameForm formAhead sorted forms mirroredForm copiesOf partnerOf kindsOf origin lies reaches fits placementsAt placementsOf compile rank ahead samePlacement covering used limits placed coversOnce withinCopies isPacking compared smaller kindAfter cellAfter moved image symmetries turnedImages mirroredImages images kept start possible choose search fastChoices identifiesTurned sizes allCells kind0First fastList tallyAhead tallies knuthChoices knuthList packings listed taken copyOn answer page sidesOf gridOf lentOf stripTray trayOf setDown along corner span spanned strip frameOf ownFrame identifies identifyOf isSide sidesFit cellsLie areBits someFilled filledWhere isTight copyCount boardCellCount isPorted isKnuth placementCount rowsOf linkCount table refusal answersOf answerSize capacity pageOf overStart refused accepted outcome
 more-fillings-hold = tt
 
 pub fast-fillings-hold : T (all (holds Fast) fastFillings)
-unfolding fastFillings holds callOn lists sameCell box volume byteAt gridWith filledCells sidesThenCells sameGrid gridAhead side coordinate fromEnd mapSides mapCell axisOf flipOf inverse mapGrid permutations transform parity turns mirrorings mirror axisAhead axes cellAhead scan scanNumber variants smallest sameForm formAhead sorted forms mirroredForm copiesOf partnerOf kindsOf origin lies reaches fits placementsAt placementsOf compile rank ahead samePlacement covering used limits placed coversOnce withinCopies isPacking compared smaller kindAfter cellAfter moved image symmetries turnedImages mirroredImages images kept start possible choose search fastChoices identifiesTurned sizes allCells kind0First fastList tallyAhead tallies knuthChoices knuthList packings listed taken copyOn answer page sidesOf gridOf lentOf trayOf identifies identifyOf isSide sidesFit cellsLie areBits someFilled filledWhere isTight copyCount boardCellCount isPorted isKnuth placementCount rowsOf linkCount table refusal answersOf answerSize capacity pageOf overStart refused accepted outcome
+unfolding fastFillings holds callOn lists sameCell box volume byteAt gridWith filledCells sidesThenCells sameGrid gridAhead side coordinate fromEnd mapSides mapCell axisOf flipOf inverse mapGrid permutations transform parity turns mirrorings mirror axisAhead axes cellAhead scan scanNumber variants smallest sameForm formAhead sorted forms mirroredForm copiesOf partnerOf kindsOf origin lies reaches fits placementsAt placementsOf compile rank ahead samePlacement covering used limits placed coversOnce withinCopies isPacking compared smaller kindAfter cellAfter moved image symmetries turnedImages mirroredImages images kept start possible choose search fastChoices identifiesTurned sizes allCells kind0First fastList tallyAhead tallies knuthChoices knuthList packings listed taken copyOn answer page sidesOf gridOf lentOf stripTray trayOf setDown along corner span spanned strip frameOf ownFrame identifies identifyOf isSide sidesFit cellsLie areBits someFilled filledWhere isTight copyCount boardCellCount isPorted isKnuth placementCount rowsOf linkCount table refusal answersOf answerSize capacity pageOf overStart refused accepted outcome
 fast-fillings-hold = tt

@@ -12,6 +12,8 @@ use lib.Seq.{length-front, length-take-le}
 use Rattle.definitions.specs.Lists.{all, keep, each, joined, headOr, member, sum, ascending, Apart}
 use Rattle.definitions.proofs.ListLaws.{and-left, and-right, all-of, keep-at, each-at, keep-ascending}
 use Rattle.definitions.specs.Grid.{Cell, box, volume}
+use Rattle.definitions.specs.Stripping.{frameOf}
+use Rattle.definitions.proofs.MapLaws.{map-map-of}
 use Rattle.definitions.proofs.GridLaws.{length-box}
 use Rattle.definitions.specs.Scan.{scanNumber}
 use Rattle.definitions.specs.Kinds.{Tray, Piece, Copy, Kind}
@@ -20,9 +22,9 @@ use Rattle.definitions.specs.Packing.{Packing}
 use Rattle.definitions.specs.Kept.{Identify, kept}
 use Rattle.definitions.specs.Kept.Identify.{None}
 use Rattle.definitions.specs.Orders.{listed, packings, fastList, fastAhead}
-use Rattle.definitions.specs.Answers.{Taken, taken, copyOn, answer}
+use Rattle.definitions.specs.Answers.{Taken, taken, copyOn, twoBytes, lentCells, answer}
 use Rattle.definitions.specs.Page.{page}
-use Rattle.definitions.specs.Refusals.{Call, sidesOf, gridOf, lentOf, trayOf, identifyOf, isSide, sidesFit, copyCount, isPorted, isKnuth, refusal, pieceOf}
+use Rattle.definitions.specs.Refusals.{Call, sidesOf, gridOf, lentOf, stripPiece, stripTray, trayOf, identifyOf, isSide, sidesFit, copyCount, isPorted, isKnuth, refusal, pieceOf}
 use Rattle.definitions.specs.Outcomes.{Outcome, answersOf, answerSize, capacity, pageOf, overStart, cleared, accepted, outcome}
 use Rattle.definitions.specs.Demands.{Stretch, Pages, placementsIn, coverAnswer, Covers, Demand2, demand2, OneList, demand3}
 use Rattle.definitions.specs.declared.SolverKind.{SolverKind}
@@ -80,12 +82,12 @@ each-length n f (x ∷ xs) h =
     omega arith
 
 -- two numbers for each cell of the box
-pub answer-length : (c : Compiled) (P : List Placement) → length (answer c P) ≡ answerSize (c .board .sides)
+pub answer-length : (c : Compiled) (P : List Placement) → length (answer c P) ≡ answerSize (c .frame .lent)
 unfolding answer answerSize
 answer-length c P =
-    let a = each-length 2 (λ u. let d = copyOn (taken c P) (scanNumber (c .cells) u) in d .piece ∷ d .copy ∷ []) (box (c .board .sides)) (λ u. refl) in
-    let b = length-box (c .board .sides) in
-    let d = mul-comm (length (box (c .board .sides))) 2 in
+    let a = each-length 2 (twoBytes (taken c P) (lentCells c)) (box (c .frame .lent)) (λ u. refl) in
+    let b = length-box (c .frame .lent) in
+    let d = mul-comm (length (box (c .frame .lent))) 2 in
     a ∙ d ∙ ap (λ (n : ℕ). 2 * n) b
 
 -- ---- pages
@@ -198,22 +200,22 @@ module _ (l : Call) (ok : refusal l ≡ 0) where
     stretch = subst (λ (o : Outcome). Stretch list l o) (sym its-outcome) stretch-of
 
 -- every page of a tray's one list is its stretch
-answers-sized : (t : Tray) (i : Identify) (e : SolverKind) (x : List ℕ) → List·Memᴰ x (answersOf t i e) → length x ≡ answerSize (t .board .sides)
+answers-sized : (t : Tray) (i : Identify) (e : SolverKind) (x : List ℕ) → List·Memᴰ x (answersOf t i e) → length x ≡ answerSize (t .frame .lent)
 unfolding answersOf compile
 answers-sized t i e x m =
     let r = Memᴰ·of-map (answer (compile t)) (listed (compile t) i e) m in
     ap length (sym (r .2)) ∙ answer-length (compile t) (r .0)
 
--- the box of the tray is the one that was lent
-box-lent : (l : Call) → trayOf l .board .sides ≡ sidesOf (l .board)
-unfolding trayOf lentOf gridOf
+-- the box of the frame is the one that was lent
+pub box-lent : (l : Call) → trayOf l .frame .lent ≡ sidesOf (l .board)
+unfolding trayOf stripTray lentOf frameOf gridOf
 box-lent l = refl
 
 pub pages-of : (t : Tray) (i : Identify) (e : SolverKind) → Pages outcome t i e (answersOf t i e)
 unfolding Pages
 pages-of t i e l h =
     stretch l (h .notRefused) (answersOf t i e)
-    (λ x m. answers-sized t i e x m ∙ ap (λ (u : Tray). answerSize (u .board .sides)) (sym (h .tray)) ∙ ap answerSize (box-lent l))
+    (λ x m. answers-sized t i e x m ∙ ap (λ (u : Tray). answerSize (u .frame .lent)) (sym (h .tray)) ∙ ap answerSize (box-lent l))
     (sym (λ k. answersOf (h .tray k) (h .identification k) (h .engine k)))
 
 -- ---- copies fit a byte
@@ -228,15 +230,17 @@ member-sum f (p ∷ qs) q m = go (List·Memᴰ·cases-cons m) (λ (k : List·Mem
 -- in an accepted tray piece numbers are below 16 and copy numbers below 128
 module _ (l : Call) (ok : refusal l ≡ 0) where
   few-pieces : length (trayOf l .pieces) ≤ 16
-  unfolding lentOf trayOf
+  unfolding lentOf stripTray trayOf
   few-pieces =
       let a = passed l ok .lent .fewPieces in
       let b = length-map {B = Piece} (l .pieces) (pieceOf (l .bytes)) in
+      let c = length-map {B = Piece} (lentOf l .pieces) stripPiece in
       omega arith
 
-  copies-lent : copyCount (trayOf l) ≡ copyCount (lentOf l)
-  unfolding trayOf
-  copies-lent = refl
+  -- stripping changes no count
+  pub copies-lent : copyCount (trayOf l) ≡ copyCount (lentOf l)
+  unfolding copyCount trayOf stripTray
+  copies-lent = ap sum (map-map-of {B = Piece} (λ q. q .count) stripPiece (lentOf l .pieces))
 
   pub copy-fits : (d : Kind) → List·Memᴰ d (compile (trayOf l) .kinds) → (x : Copy) → List·Memᴰ x (d .copies) → (x .piece < 16) × (x .copy < 128)
   unfolding compile copyCount
@@ -270,26 +274,26 @@ module _ (l : Call) (ok : refusal l ≡ 0) where
 
   are-bytes : (P : List Placement) → T (all (λ n. ltb n 256) (answer (compile (trayOf l)) P))
   unfolding answer
-  are-bytes P = all-of (λ n. ltb n 256) (each (box (C .board .sides)) two) (λ n m. go n (each-at two (box (C .board .sides)) m))
+  are-bytes P = all-of (λ n. ltb n 256) (each (box (C .frame .lent)) two) (λ n m. go n (each-at two (box (C .frame .lent)) m))
     where
       C : Compiled
       C = compile (trayOf l)
 
       two : Cell → List ℕ
-      two u = copyOn (taken C P) (scanNumber (C .cells) u) .piece ∷ copyOn (taken C P) (scanNumber (C .cells) u) .copy ∷ []
+      two u = twoBytes (taken C P) (lentCells C) u
 
-      go : (n : ℕ) → (u : Cell) × List·Memᴰ u (box (C .board .sides)) × List·Memᴰ n (two u) → T (ltb n 256)
+      go : (n : ℕ) → (u : Cell) × List·Memᴰ u (box (C .frame .lent)) × List·Memᴰ n (two u) → T (ltb n 256)
       go n x = at (List·Memᴰ·cases-cons (x .2))
         where
-          fits : (copyOn (taken C P) (scanNumber (C .cells) (x .0)) .piece < 256) × (copyOn (taken C P) (scanNumber (C .cells) (x .0)) .copy < 256)
-          fits = on-cell P (scanNumber (C .cells) (x .0))
+          fits : (copyOn (taken C P) (scanNumber (lentCells C) (x .0)) .piece < 256) × (copyOn (taken C P) (scanNumber (lentCells C) (x .0)) .copy < 256)
+          fits = on-cell P (scanNumber (lentCells C) (x .0))
 
-          last : (n ≡ copyOn (taken C P) (scanNumber (C .cells) (x .0)) .copy) ⊎ List·Memᴰ n [] → T (ltb n 256)
-          last (inl e) = subst (λ (k : ℕ). T (ltb k 256)) (sym e) (lt→ltb (copyOn (taken C P) (scanNumber (C .cells) (x .0)) .copy) 256 (fits .1))
+          last : (n ≡ copyOn (taken C P) (scanNumber (lentCells C) (x .0)) .copy) ⊎ List·Memᴰ n [] → T (ltb n 256)
+          last (inl e) = subst (λ (k : ℕ). T (ltb k 256)) (sym e) (lt→ltb (copyOn (taken C P) (scanNumber (lentCells C) (x .0)) .copy) 256 (fits .1))
           last (inr k) = absurd (List·Memᴰ·not-nil k)
 
-          at : (n ≡ copyOn (taken C P) (scanNumber (C .cells) (x .0)) .piece) ⊎ List·Memᴰ n (copyOn (taken C P) (scanNumber (C .cells) (x .0)) .copy ∷ []) → T (ltb n 256)
-          at (inl e) = subst (λ (k : ℕ). T (ltb k 256)) (sym e) (lt→ltb (copyOn (taken C P) (scanNumber (C .cells) (x .0)) .piece) 256 (fits .0))
+          at : (n ≡ copyOn (taken C P) (scanNumber (lentCells C) (x .0)) .piece) ⊎ List·Memᴰ n (copyOn (taken C P) (scanNumber (lentCells C) (x .0)) .copy ∷ []) → T (ltb n 256)
+          at (inl e) = subst (λ (k : ℕ). T (ltb k 256)) (sym e) (lt→ltb (copyOn (taken C P) (scanNumber (lentCells C) (x .0)) .piece) 256 (fits .0))
           at (inr k) = last (List·Memᴰ·cases-cons k)
 
   -- ---- the demands
@@ -359,7 +363,7 @@ module _ (l : Call) (ok : refusal l ≡ 0) where
       f : ListFacts C₀ (identifyOf (l .config)) (listed C₀ (identifyOf (l .config)) (l .config .solver))
       f = listed-facts (identifyOf (l .config)) (l .config .solver) (passed l ok .ported)
 
-      length-is : (P : List Placement) → length (answer C₀ P) ≡ answerSize (T₀ .board .sides)
+      length-is : (P : List Placement) → length (answer C₀ P) ≡ answerSize (T₀ .frame .lent)
       length-is P = unfold compile in (answer-length C₀ P)
 
 -- Demand 2

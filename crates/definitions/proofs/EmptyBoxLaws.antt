@@ -9,6 +9,8 @@ use lib.Dec.{T, ltb, eqb, eqb→eq, ltb→lt}
 use lib.ListN.{length, replicate}
 use Rattle.definitions.specs.Lists.{consIf, keep, all, any, each, below, isEmpty, member}
 use Rattle.definitions.specs.Grid.{Grid, Cell, box, byteAt, volume, filledCells}
+use Rattle.definitions.specs.Stripping.{Frame, strip, frameOf}
+use Rattle.definitions.proofs.StrippingLaws.{strip-empty, strip-count, strip-none}
 use Rattle.definitions.specs.Scan.{axes, scan}
 use Rattle.definitions.specs.Kinds.{sorted, forms, kindsOf}
 use Rattle.definitions.specs.Placements.{Placement, Compiled, compile}
@@ -17,7 +19,7 @@ use Rattle.definitions.specs.Kept.{Identify, compared, smaller, images, 
 use Rattle.definitions.specs.Orders.{State, start, choose, search, fastChoices, identifiesTurned, kind0First}
 use Rattle.definitions.specs.Orders.{fastList, knuthChoices, knuthList, packings, listed}
 use Rattle.definitions.specs.Answers.{taken, copyOn, answer}
-use Rattle.definitions.specs.Refusals.{Call, Row, gridOf, lentOf, trayOf, identifyOf, sidesFit, copyCount, withRecords}
+use Rattle.definitions.specs.Refusals.{Call, Row, gridOf, lentOf, stripTray, trayOf, identifyOf, sidesFit, copyCount, withRecords}
 use Rattle.definitions.specs.Refusals.{isPorted, isKnuth, placementCount, rowsOf, linkCount, table, applies, refusal}
 use Rattle.definitions.specs.Outcomes.{Outcome, answersOf, answerSize, refused, outcome}
 use Rattle.definitions.specs.Demands.{Stretch, Pages, demand1}
@@ -54,9 +56,9 @@ search-none choices h (suc n) s =
     ap (λ (qs : List Placement). cond (isEmpty (s .free)) (s .chosen ∷ []) (each qs (λ q. search choices n (choose s q)))) (h s)
 
 -- ---- a board that comes with no kind and no placement
-module _ (g : Grid) where
+module _ (g : Grid) (f : Frame) where
   abbrev c : Compiled
-  c = record { board = g; cells = scan (axes (g .sides)) g; kinds = []; placements = [] }
+  c = record { board = g; frame = f; cells = scan (axes (g .sides)) g; kinds = []; placements = [] }
 
   -- as many cells as are filled, so the search starts with none exactly if none is filled
   none-filled : (us vs : List Cell) → length us ≡ length vs → isEmpty (below (length us)) ≡ isEmpty vs
@@ -94,20 +96,20 @@ module _ (g : Grid) where
       go false = tt
 
   -- the empty packing's answer is 255 throughout
-  its-answer : answer c [] ≡ replicate (answerSize (g .sides)) 255
+  its-answer : answer c [] ≡ replicate (answerSize (f .lent)) 255
   unfolding answer taken copyOn
-  its-answer = twos (box (g .sides)) ∙ ap (λ (n : ℕ). replicate n 255) (answer-length c [])
+  its-answer = twos (box (f .lent)) ∙ ap (λ (n : ℕ). replicate n 255) (answer-length c [])
     where
       twos : (us : List Cell) → each {B = ℕ} us (λ u. 255 ∷ 255 ∷ []) ≡ replicate (length (each {B = ℕ} us (λ u. 255 ∷ 255 ∷ []))) 255
       twos [] = refl
       twos (u ∷ us) = ap (λ (ns : List ℕ). 255 ∷ 255 ∷ ns) (twos us)
 
   -- its list, under each identification and by each engine
-  its-list : (i : Identify) (e : SolverKind) → T (isPorted e) → map (answer c) (listed c i e) ≡ emptyBoxList g
-  unfolding listed emptyBoxList
+  its-list : (i : Identify) (e : SolverKind) → T (isPorted e) → map (answer c) (listed c i e) ≡ cond (isEmpty (filledCells g)) (replicate (answerSize (f .lent)) 255 ∷ []) []
+  unfolding listed
   its-list i e t = ap (λ (Ps : List (List Placement)). map (answer c) (keep (kept c i) Ps)) (found i e t) ∙ go (isEmpty (filledCells g))
     where
-      go : (b : Bool) → map (answer c) (keep (kept c i) (cond b ([] ∷ []) [])) ≡ cond b (replicate (answerSize (g .sides)) 255 ∷ []) []
+      go : (b : Bool) → map (answer c) (keep (kept c i) (cond b ([] ∷ []) [])) ≡ cond b (replicate (answerSize (f .lent)) 255 ∷ []) []
       go true = ap (λ (b : Bool). map (answer c) (consIf b [] [])) (is-true (kept c i []) (all-kept i [])) ∙ ap (λ (a : List ℕ). a ∷ []) its-answer
       go false = refl
 
@@ -136,15 +138,15 @@ module _ (g : Grid) where
             covers = subst (λ (n : ℕ). T (all (λ k. false) (below n))) (sym (as-many ∙ ap length e)) tt;
             within = tt;
           }
+      -- a board has no more filled cells than its box has cells
 
-  -- a board has no more filled cells than its box has cells
-  cells-few : length (c .cells) ≤ volume (g .sides)
-  unfolding filledCells
-  cells-few =
-      let a = scan-length (g .sides) g in
-      let b = keep-length (λ u. eqb (byteAt g u) 1) (box (g .sides)) in
-      let d = length-box (g .sides) in
-      omega arith
+-- a box has no more filled cells than cells
+filled-few : (g : Grid) → length (filledCells g) ≤ volume (g .sides)
+unfolding filledCells
+filled-few g =
+    let a = keep-length (λ u. eqb (byteAt g u) 1) (box (g .sides)) in
+    let b = length-box (g .sides) in
+    omega arith
 
 -- ---- a call that lends no piece
 -- the numbers, other than 0, that it can give
@@ -178,18 +180,37 @@ module _ (l : Call) where
   is-bare e = ap (λ (pieces : List Record). withRecords pieces (l .board) l) (sym e)
 
   -- its tray comes to a board with no kind and no placement, so its list and its packings are those above
-  bare-list : refusal bare ≡ 0 → answersOf (trayOf bare) (identifyOf (bare .config)) (bare .config .solver) ≡ emptyBoxList (trayOf bare .board)
-  unfolding answersOf compile kindsOf forms sorted lentOf trayOf
-  bare-list ok = its-list (trayOf bare .board) (identifyOf (l .config)) (l .config .solver) (passed bare ok .ported)
+  abbrev lent : Grid
+  lent = lentOf bare .board
 
-  bare-packings : (P : List Placement) → Packing (compile (trayOf bare)) P ↔ ((P ≡ []) × (filledCells (trayOf bare .board) ≡ []))
-  unfolding compile kindsOf forms sorted lentOf trayOf
-  bare-packings P = its-packings (trayOf bare .board) P
+  bare-list : refusal bare ≡ 0 → answersOf (trayOf bare) (identifyOf (bare .config)) (bare .config .solver) ≡ emptyBoxList (lentOf bare .board)
+  unfolding answersOf compile kindsOf forms sorted lentOf stripTray trayOf frameOf emptyBoxList
+  bare-list ok =
+      its-list (strip lent) (frameOf lent) (identifyOf (l .config)) (l .config .solver) (passed bare ok .ported)
+      ∙ ap (λ (b : Bool). cond b (replicate (answerSize (lent .sides)) 255 ∷ []) []) (strip-none lent)
+
+  bare-packings : (P : List Placement) → Packing (compile (trayOf bare)) P ↔ ((P ≡ []) × (filledCells (lentOf bare .board) ≡ []))
+  unfolding compile kindsOf forms sorted lentOf stripTray trayOf
+  bare-packings P =
+      let k = its-packings (strip lent) (frameOf lent) P in
+      (λ g. (k .0 g .0, unfilled (k .0 g .1)), λ h. k .1 (h .0, ap filledCells (strip-empty lent (h .1)) ∙ h .1))
+    where
+      none : (us : List Cell) → isEmpty us ≡ true → us ≡ []
+      none [] e = refl
+      none (u ∷ us) e = absurd (subst T (sym e) tt)
+
+      unfilled : filledCells (strip lent) ≡ [] → filledCells lent ≡ []
+      unfilled e = none (filledCells lent) (sym (strip-none lent) ∙ ap isEmpty e)
 
   -- 15: with no piece the links are the filled board cells, which are few where 3 does not apply
   few-links : T (sidesFit (l .board)) → linkCount (compile (trayOf bare)) ≤ 512
-  unfolding linkCount rowsOf compile kindsOf forms sorted lentOf trayOf gridOf
-  few-links t = let a = cells-few (trayOf bare .board) in let b = fit-volume (l .board) t in omega arith
+  unfolding linkCount rowsOf compile kindsOf forms sorted lentOf stripTray trayOf gridOf
+  few-links t =
+      let a = scan-length (strip lent .sides) (strip lent) in
+      let b = strip-count lent in
+      let d = filled-few lent in
+      let e = fit-volume (l .board) t in
+      omega arith
 
   -- the number that the call gives
   abbrev returned : ℕ
@@ -204,9 +225,9 @@ module _ (l : Call) where
       go true f k = let a = few-links (f tt) in let d = ltb→lt 4096 (linkCount (compile (trayOf bare))) t in omega arith
       go false f k = k tt
 
-  -- no row with another number is the one returned: with no piece 2, 6, 7, 8 and 14 fail by themselves
+  -- no row with another number is the one returned: with no piece 2, 6, 8 and 14 fail by themselves
   others : T (all (λ r. member (r .number) numbers || not (r .applies && eqb (r .number) returned)) (table bare))
-  unfolding table lentOf trayOf copyCount placementCount compile kindsOf forms sorted
+  unfolding table lentOf stripTray trayOf copyCount placementCount compile kindsOf forms sorted
   others =
       go (isKnuth (l .config .solver)) (ltb 4096 (linkCount (compile (trayOf bare)))) (eqb 15 returned) (λ e t. no-15 (sym (eqb→eq 15 returned e)) t)
     where
@@ -230,9 +251,9 @@ module _ (l : Call) where
 -- ---- the statements
 -- the list of an accepted call that lends no piece
 pub empty-box : (l : Call) → l .pieces ≡ [] → refusal l ≡ 0
-    → answersOf (trayOf l) (identifyOf (l .config)) (l .config .solver) ≡ emptyBoxList (trayOf l .board)
+    → answersOf (trayOf l) (identifyOf (l .config)) (l .config .solver) ≡ emptyBoxList (lentOf l .board)
 empty-box l e =
-    subst (λ (x : Call). refusal x ≡ 0 → answersOf (trayOf x) (identifyOf (x .config)) (x .config .solver) ≡ emptyBoxList (trayOf x .board))
+    subst (λ (x : Call). refusal x ≡ 0 → answersOf (trayOf x) (identifyOf (x .config)) (x .config .solver) ≡ emptyBoxList (lentOf x .board))
     (is-bare l e) (bare-list l)
 
 -- A1 of the definitions' own outcome
@@ -242,7 +263,7 @@ emptyBox-holds l e =
     record {
       numbers = subst (λ (x : Call). T (member (outcome x .number) (0 ∷ numbers))) (is-bare l e) (bare-numbers l);
       packings =
-          subst (λ (x : Call). (P : List Placement) → Packing (compile (trayOf x)) P ↔ ((P ≡ []) × (filledCells (trayOf x .board) ≡ [])))
+          subst (λ (x : Call). (P : List Placement) → Packing (compile (trayOf x)) P ↔ ((P ≡ []) × (filledCells (lentOf x .board) ≡ [])))
           (is-bare l e) (bare-packings l);
       pages = λ ok.
           subst (λ (xs : List (List ℕ)). Stretch xs l (outcome l)) (empty-box l e ok)

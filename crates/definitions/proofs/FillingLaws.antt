@@ -2,8 +2,9 @@
 use mathlib.Core.Bool.{_&&_}
 use lib.Dec.{T}
 use Rattle.definitions.specs.Lists.{all}
-use Rattle.definitions.specs.Grid.{sameCell, box, volume, byteAt, gridWith, filledCells, sidesThenCells, sameGrid, gridAhead}
+use Rattle.definitions.specs.Grid.{setDown, sameCell, box, volume, byteAt, gridWith, filledCells, sidesThenCells, sameGrid, gridAhead}
 use Rattle.definitions.specs.Maps.{side, coordinate, fromEnd, mapSides, mapCell, axisOf, flipOf, inverse, mapGrid, permutations, transform, parity, turns, mirrorings, mirror}
+use Rattle.definitions.specs.Stripping.{along, corner, span, spanned, strip, frameOf, ownFrame}
 use Rattle.definitions.specs.Scan.{axisAhead, axes, cellAhead, scan, scanNumber}
 use Rattle.definitions.specs.Kinds.{variants, smallest, sameForm, formAhead, sorted, forms, mirroredForm, copiesOf, partnerOf, kindsOf}
 use Rattle.definitions.specs.Placements.{origin, lies, reaches, fits, placementsAt, placementsOf, compile}
@@ -12,12 +13,12 @@ use Rattle.definitions.specs.Kept.{compared, smaller, kindAfter, cellAft
 use Rattle.definitions.specs.Orders.{start, possible, choose, search, fastChoices, identifiesTurned, sizes, allCells, kind0First, fastList, tallyAhead, tallies, knuthChoices, knuthList, packings, listed}
 use Rattle.definitions.specs.Answers.{taken, copyOn, answer}
 use Rattle.definitions.specs.Page.{page}
-use Rattle.definitions.specs.Refusals.{sidesOf, gridOf, lentOf, trayOf, identifies, identifyOf, isSide, sidesFit, cellsLie, areBits, someFilled, filledWhere, isTight, copyCount, boardCellCount, isPorted, isKnuth, placementCount, rowsOf, linkCount, table, refusal}
+use Rattle.definitions.specs.Refusals.{sidesOf, gridOf, lentOf, stripTray, trayOf, identifies, identifyOf, isSide, sidesFit, cellsLie, areBits, someFilled, filledWhere, isTight, copyCount, boardCellCount, isPorted, isKnuth, placementCount, rowsOf, linkCount, table, refusal}
 use Rattle.definitions.specs.Outcomes.{answersOf, answerSize, capacity, pageOf, overStart, refused, accepted, outcome}
 use Rattle.definitions.specs.Fillings.{fillings, lists, holds}
 use Rattle.definitions.specs.Files.{callOn}
 use Rattle.definitions.specs.declared.SolverKind.the-variants.{Fast, KnuthAlgorithm}
 
 pub fillings-hold : T (all (λ l. holds Fast l && holds KnuthAlgorithm l) fillings)
-unfolding callOn fillings lists holds sameCell box volume byteAt gridWith filledCells sidesThenCells sameGrid gridAhead side coordinate fromEnd mapSides mapCell axisOf flipOf inverse mapGrid permutations transform parity turns mirrorings mirror axisAhead axes cellAhead scan scanNumber variants smallest sameForm formAhead sorted forms mirroredForm copiesOf partnerOf kindsOf origin lies reaches fits placementsAt placementsOf compile rank ahead samePlacement covering used limits placed coversOnce withinCopies isPacking compared smaller kindAfter cellAfter moved image symmetries turnedImages mirroredImages images kept start possible choose search fastChoices identifiesTurned sizes allCells kind0First fastList tallyAhead tallies knuthChoices knuthList packings listed taken copyOn answer page sidesOf gridOf lentOf trayOf identifies identifyOf isSide sidesFit cellsLie areBits someFilled filledWhere isTight copyCount boardCellCount isPorted isKnuth placementCount rowsOf linkCount table refusal answersOf answerSize capacity pageOf overStart refused accepted outcome
+unfolding callOn fillings lists holds sameCell box volume byteAt gridWith filledCells sidesThenCells sameGrid gridAhead side coordinate fromEnd mapSides mapCell axisOf flipOf inverse mapGrid permutations transform parity turns mirrorings mirror axisAhead axes cellAhead scan scanNumber variants smallest sameForm formAhead sorted forms mirroredForm copiesOf partnerOf kindsOf origin lies reaches fits placementsAt placementsOf compile rank ahead samePlacement covering used limits placed coversOnce withinCopies isPacking compared smaller kindAfter cellAfter moved image symmetries turnedImages mirroredImages images kept start possible choose search fastChoices identifiesTurned sizes allCells kind0First fastList tallyAhead tallies knuthChoices knuthList packings listed taken copyOn answer page sidesOf gridOf lentOf stripTray trayOf setDown along corner span spanned strip frameOf ownFrame identifies identifyOf isSide sidesFit cellsLie areBits someFilled filledWhere isTight copyCount boardCellCount isPorted isKnuth placementCount rowsOf linkCount table refusal answersOf answerSize capacity pageOf overStart refused accepted outcome
 fillings-hold = tt

@@ -1,14 +1,11 @@
 -- The geometry of an accepted call's tray: images and sequences of moves. Assumes nothing.
-use Prim.Native.Nat.{ℕ, _+_}
+use Prim.Native.Nat.{ℕ}
 use mathlib.Core.Bool.{Bool, true, false, not}
-use mathlib.Core.List.{List, [], _∷_, map, List·Memᴰ, List·Memᴰ·head, List·Memᴰ·tail, Memᴰ·cast, Memᴰ·of-map}
+use mathlib.Core.List.{List, [], _∷_, map, List·Memᴰ, Memᴰ·cast}
 use mathlib.Core.Path.{_≡_, refl, sym, ap, ap₂, _∙_, subst}
-use native.Mathlib.Omega.{arith}
-use lib.Dec.{T, leb→le}
-use lib.ListN.{length, getD, drop, length-drop}
-use lib.Seq.{length-take-le}
+use lib.Dec.{T}
+use lib.ListN.{length, getD}
 use Rattle.definitions.specs.Lists.{ascending}
-use Rattle.definitions.proofs.ListLaws.{all-at}
 use Rattle.definitions.specs.Grid.{Cell, Grid, volume, filledCells, InBox}
 use Rattle.definitions.specs.Maps.{Map, mapCell, mapGrid}
 use Rattle.definitions.proofs.MapLaws.{filled-at, turn-fits}
@@ -21,17 +18,17 @@ use Rattle.definitions.specs.Kept.{Identify, kindAfter, image, images}
 use Rattle.definitions.specs.Kept.Identify.{None, Turned, Mirrored}
 use Rattle.definitions.specs.Moves.{Quarter, Move, Carries, inReach, bringsBack, isOdd, areTurns, gridAfter, cellAfterAll}
 use Rattle.definitions.specs.Moves.Move.{turn, mirroring}
-use Rattle.definitions.specs.Refusals.{Call, trayOf, areBits, refusal}
+use Rattle.definitions.specs.Refusals.{Call, lentOf, trayOf, areBits, refusal}
 use Rattle.definitions.proofs.SearchLaws.{WellMade}
 use Rattle.definitions.proofs.WellMadeLaws.{nth-mem, getD-nth, nth-number, mem-nth, number-below, up-board, ShapeFacts}
-use Rattle.definitions.proofs.ShapeLaws.{lent-board-whole, lent-whole, bits, tight, shape-facts, accepted-well-made, variant-at, smallest-at, kind-at}
+use Rattle.definitions.proofs.ShapeLaws.{lent-board-whole, lent-board-bits, board-is, stripped-piece, bits, tight, shape-facts, accepted-well-made, variant-at, smallest-at, kind-at}
 use Rattle.definitions.proofs.CellLaws.{Tight, tight-of, tight-mapped, by-cells, nth-value, scan-filled, filled-scan}
 use Rattle.definitions.proofs.MoveLaws.{movesMap, moves-in, moves-cell, moves-grid, mapped-whole, mapped-bits, turn-moves, mirroring-moves, turns-even, turns-alone}
 use Rattle.definitions.proofs.PartnerLaws.{kinds-partner}
 use Rattle.definitions.proofs.ImageLaws.{Numbered, image-still, image-same, carried-image, image-carried}
 use Rattle.definitions.proofs.ActLaws.{may, Allowed, ImageUnder, images-at, images-of, self-image, back-image, next-image, on-cells, act-inj}
 use Rattle.definitions.proofs.KeptLaws.{Acts}
-use Rattle.definitions.proofs.RefusalLaws.{passed}
+use Rattle.definitions.proofs.StrippingLaws.{strip-bits, strip-whole}
 
 module _ (l : Call) (ok : refusal l ≡ 0) where
   abbrev T₀ : Tray
@@ -41,16 +38,13 @@ module _ (l : Call) (ok : refusal l ≡ 0) where
   facts = shape-facts l ok
 
   board-whole : length (T₀ .board .cells) ≡ volume (T₀ .board .sides)
-  unfolding trayOf
-  board-whole = lent-board-whole l ok
+  board-whole = subst (λ (g : Grid). length (g .cells) ≡ volume (g .sides)) (sym (board-is l ok)) (strip-whole (lentOf l .board) (lent-board-whole l ok))
 
   pub piece-whole : (q : Piece) → List·Memᴰ q (T₀ .pieces) → length (q .grid .cells) ≡ volume (q .grid .sides)
-  unfolding trayOf
-  piece-whole q m = lent-whole l ok q m
+  piece-whole q m = stripped-piece l ok q m .2 .whole
 
   board-bits : T (areBits (T₀ .board))
-  unfolding trayOf
-  board-bits = passed l ok .lent .boardBits
+  board-bits = subst (λ (g : Grid). T (areBits g)) (sym (board-is l ok)) (strip-bits (lentOf l .board) (lent-board-bits l ok))
 
   pub good : (d : Kind) → List·Memᴰ d (kindsOf T₀) → (v : Grid) → List·Memᴰ v (variants (d .shape)) → Tight v × T (areBits v) × (length (v .cells) ≡ volume (v .sides))
   good d k v m =

@@ -1,16 +1,16 @@
--- Bytes that are 0 or 1, and how many cells a box has. Assumes nothing.
+-- Bytes that are 0 or 1, how many cells a box has, and cells set down where they are. Assumes nothing.
 use Prim.Native.Nat.{ℕ, zero, suc, _+_, _*_, _≤_}
 use mathlib.Core.Bool.{Bool, _&&_}
 use mathlib.Core.List.{List, [], _∷_, map}
-use mathlib.Core.Path.{_≡_, sym, _∙_}
+use mathlib.Core.Path.{_≡_, refl, sym, ap₂, _∙_}
 use native.Mathlib.Nat.{mul-assoc}
 use native.Mathlib.Omega.{arith}
 use lib.Dec.{T, leb, leb→le}
 use lib.ListN.{length, getD, length-map}
 use Rattle.definitions.specs.Lists.{all, each, below}
 use Rattle.definitions.proofs.ListLaws.{and-left, and-right, length-below}
-use Rattle.definitions.specs.Grid.{Sides, Cell, Grid, box, volume, byteAt}
-use Rattle.definitions.proofs.MapLaws.{length-blocks}
+use Rattle.definitions.specs.Grid.{Sides, Cell, Grid, setDown, box, volume, byteAt}
+use Rattle.definitions.proofs.MapLaws.{cell-path, length-blocks}
 use Rattle.definitions.specs.Refusals.{areBits}
 
 -- ---- bytes that are 0 or 1
@@ -31,3 +31,12 @@ length-box s =
   where
     none : Cell
     none = record { x = 0; y = 0; z = 0 }
+
+-- ---- cells set down at the corner of the box stay where they are
+pub set-down-none : (u : Cell) → setDown (record { x = 0; y = 0; z = 0 }) u ≡ u
+unfolding setDown
+set-down-none u = cell-path (omega arith) (omega arith) (omega arith)
+
+pub all-set-down-none : (us : List Cell) → map (setDown (record { x = 0; y = 0; z = 0 })) us ≡ us
+all-set-down-none [] = refl
+all-set-down-none (u ∷ us) = ap₂ (λ (v : Cell) (l : List Cell). v ∷ l) (set-down-none u) (all-set-down-none us)

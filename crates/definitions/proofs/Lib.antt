@@ -12,15 +12,19 @@ pub mod RefusalLaws
 pub mod CoverLaws
 pub mod KeptLaws
 pub mod GridLaws
+pub mod WindowLaws
+pub mod StrippingLaws
 pub mod ShapeLaws
 pub mod ImageLaws
 pub mod ActLaws
 pub mod MoveLaws
 pub mod CellLaws
+pub mod StrippedLaws
 pub mod NameLaws
 pub mod PartnerLaws
 pub mod GeometryLaws
 pub mod AnswerLaws
+pub mod FramingLaws
 pub mod OrderLaws
 pub mod KnuthOrderLaws
 pub mod DemandLaws
@@ -36,3 +40,4 @@ pub mod PlacementLaws
 pub mod WoodLaws
 pub mod CarryLaws
 pub mod PruningLaws
+pub mod TrayLaws

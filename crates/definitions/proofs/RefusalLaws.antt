@@ -14,7 +14,7 @@ use Rattle.definitions.specs.Grid.{volume}
 use Rattle.definitions.specs.Kinds.{Tray}
 use Rattle.definitions.specs.Placements.{compile}
 use Rattle.definitions.proofs.ListLaws.{and-left, and-right, and-both, or-left, or-right, or-cases, eqb-of, is-true, is-false, holds, all-at}
-use Rattle.definitions.specs.Refusals.{Call, Row, table, applies, firstThatApplies, refusal, sidesOf, lentOf, trayOf, isSide, sidesFit, cellsLie, areBits, someFilled, isTight}
+use Rattle.definitions.specs.Refusals.{Call, Row, table, applies, firstThatApplies, refusal, sidesOf, lentOf, trayOf, isSide, sidesFit, cellsLie, areBits, someFilled}
 use Rattle.definitions.specs.Refusals.{copyCount, boardCellCount, isPorted, isKnuth, placementCount, linkCount}
 use Rattle.definitions.specs.declared.Record.{Record}
 use Rattle.definitions.specs.Outcomes.{Outcome, accepted, refused, outcome}
@@ -102,7 +102,7 @@ first-smallest (r ∷ rs) p t n h =
     go false (inr i) f = f i
 
 -- ---- what is known where no row applies, each fact by its name: who cites one does not say where in the table it is tested
--- what is lent: records, a board and bytes, and the tray that they make
+-- what is lent: records, a board and bytes, and the tray that they lend
 pub record PassedLent (rs : List Record) (board : Record) (bytes : List ℕ) (t : Tray) : Type 0 where
   pub fewPieces : length rs ≤ 16
   pub sides : T (all sidesFit (board ∷ rs))
@@ -110,7 +110,6 @@ pub record PassedLent (rs : List Record) (board : Record) (bytes : List ℕ) (t 
   pub boardBits : T (areBits (t .board))
   pub bits : T (all (λ q. areBits (q .grid)) (t .pieces))
   pub filled : T (all (λ q. someFilled (q .grid)) (t .pieces))
-  pub tight : T (all (λ q. isTight (q .grid)) (t .pieces))
   pub fewCopies : copyCount t ≤ 128
   pub fewCells : boardCellCount t ≤ 128
 
@@ -141,16 +140,13 @@ module _ (rs : List Record) (board : Record) (bytes : List ℕ) (t : Tray) where
   abbrev allFilled : Bool
   allFilled = all (λ q. someFilled (q .grid)) (t .pieces)
 
-  abbrev allTight : Bool
-  allTight = all (λ q. isTight (q .grid)) (t .pieces)
-
   passes : (b : Bool) → not b ≡ false → T b
   passes b e = holds b (not-false b e)
 
   pub passed-lent : ltb 16 (length rs) ≡ false → not (all sidesFit (board ∷ rs)) ≡ false → not (all (cellsLie bytes) (board ∷ rs)) ≡ false
       → not (areBits (t .board) && all (λ q. areBits (q .grid)) (t .pieces)) ≡ false → not (all (λ q. someFilled (q .grid)) (t .pieces)) ≡ false
-      → not (all (λ q. isTight (q .grid)) (t .pieces)) ≡ false → ltb 128 (copyCount t) ≡ false → ltb 128 (boardCellCount t) ≡ false → PassedLent rs board bytes t
-  passed-lent e2 e3 e4 e5 e6 e7 e8 e9 =
+      → ltb 128 (copyCount t) ≡ false → ltb 128 (boardCellCount t) ≡ false → PassedLent rs board bytes t
+  passed-lent e2 e3 e4 e5 e6 e8 e9 =
       record {
         fewPieces = ltb-false 16 (length rs) e2;
         sides = passes allFit e3;
@@ -158,7 +154,6 @@ module _ (rs : List Record) (board : Record) (bytes : List ℕ) (t : Tray) where
         boardBits = and-left (areBits (t .board)) allBits (passes (areBits (t .board) && allBits) e5);
         bits = and-right (areBits (t .board)) allBits (passes (areBits (t .board) && allBits) e5);
         filled = passes allFilled e6;
-        tight = passes allTight e7;
         fewCopies = ltb-false 128 (copyCount t) e8;
         fewCells = ltb-false 128 (boardCellCount t) e9;
       }
@@ -189,7 +184,7 @@ module _ (l : Call) where
   passed ok =
       let none : (n : ℕ) → testOf (table l) n ≡ false = none-applies (table l) table-numbered ok in
       record {
-        lent = passed-lent (l .pieces) (l .board) (l .bytes) (lentOf l) (none 2) (none 3) (none 4) (none 5) (none 6) (none 7) (none 8) (none 9);
+        lent = passed-lent (l .pieces) (l .board) (l .bytes) (lentOf l) (none 2) (none 3) (none 4) (none 5) (none 6) (none 8) (none 9);
         turnedToo = none 10;
         ported = holds (isPorted (l .config .solver)) (not-false (isPorted (l .config .solver)) (none 11));
         workLong = ltb-false (length (l .work)) 8192 (none 12);

@@ -1,16 +1,16 @@
 -- The variants of a kind have as many filled cells as its shape, so the tray of an accepted call is well made. Assumes nothing.
-use Prim.Native.Nat.{ℕ, zero, suc, _+_, _*_, _≤_, _<_}
+use Prim.Native.Nat.{ℕ, zero, suc, _+_, _≤_, _<_}
 use mathlib.Core.Bool.{Bool, true, false, cond, not, _&&_, _||_}
 use mathlib.Core.List.{List, [], _∷_, map, List·Memᴰ, List·Memᴰ·head, List·Memᴰ·tail, List·Memᴰ·not-nil, List·Memᴰ·cases-cons, Memᴰ·cast, Memᴰ·of-map, head-eq-of-cons-eq, tail-eq-of-cons-eq}
 use mathlib.Core.Path.{_≡_, refl, sym, ap, _∙_, subst}
 use mathlib.Core.Logic.{_⊎_, inl, inr}
 use native.Mathlib.Nat.{le-antisymm}
 use native.Mathlib.Omega.{arith}
-use lib.Dec.{T, ltb, leb, eqb, leb→le, nltb→le}
+use lib.Dec.{T, ltb, eqb, leb→le, nltb→le}
 use lib.ListN.{length, drop, length-drop}
 use lib.Seq.{length-take-le}
-use Rattle.definitions.specs.Lists.{all, any, put, sort, headOr, less, sum, isEmpty, Apart}
-use Rattle.definitions.proofs.ListLaws.{and-left, and-right, all-at, decide, clash, eqb-of, put-tail, less-total, apart-ascending, apart-length, sort-ascending}
+use Rattle.definitions.specs.Lists.{any, put, sort, headOr, less, sum, isEmpty, Apart}
+use Rattle.definitions.proofs.ListLaws.{and-left, all-at, decide, clash, eqb-of, put-tail, less-total, apart-ascending, apart-length, sort-ascending}
 use Rattle.definitions.proofs.CountLaws.{total-same, howMany-total, howMany-length, sum-map}
 use Rattle.definitions.specs.Grid.{Sides, Cell, Grid, box, volume, byteAt, gridWith, filledCells, gridAhead, InBox}
 use Rattle.definitions.specs.Maps.{Map, side, coordinate, mapSides, mapCell, inverse, mapGrid, turns, transform, permutations, parity}
@@ -21,9 +21,12 @@ use Rattle.definitions.specs.Placements.{compile}
 use Rattle.definitions.proofs.SearchLaws.{WellMade}
 use Rattle.definitions.proofs.EngineLaws.{sort-at}
 use Rattle.definitions.proofs.WellMadeLaws.{ShapeFacts, well-made, cell-trans, cell-irrefl, numbered-at, nth-mem}
-use Rattle.definitions.specs.Refusals.{Call, sidesOf, gridOf, pieceOf, lentOf, trayOf, cellsLie, areBits, filledWhere, isTight, refusal}
+use Rattle.definitions.specs.Refusals.{Call, sidesOf, gridOf, pieceOf, lentOf, stripPiece, stripTray, trayOf, cellsLie, areBits, someFilled, filledWhere, isTight, refusal}
 use Rattle.definitions.specs.declared.Record.{Record}
+use Rattle.definitions.specs.Stripping.{corner, strip}
+use Rattle.definitions.specs.EmptyLayers.{Stripped}
 use Rattle.definitions.proofs.GridLaws.{byte-bit}
+use Rattle.definitions.proofs.StrippingLaws.{strip-right}
 use Rattle.definitions.proofs.RefusalLaws.{PassedLent, passed}
 
 -- ---- a sorted list has the entries of the list, where only equals are tied
@@ -201,14 +204,29 @@ module _ (l : Call) (ok : refusal l ≡ 0) where
   pub lent-bits : (q : Piece) → List·Memᴰ q (lentOf l .pieces) → T (areBits (q .grid))
   lent-bits q m = all-at (λ (x : Piece). areBits (x .grid)) (lentOf l .pieces) (tested .bits) m
 
-  -- ---- the grids of the tray that is listed
+  pub lent-board-bits : T (areBits (lentOf l .board))
+  lent-board-bits = tested .boardBits
+
+  pub lent-filled : (q : Piece) → List·Memᴰ q (lentOf l .pieces) → T (someFilled (q .grid))
+  lent-filled q m = all-at (λ (x : Piece). someFilled (x .grid)) (lentOf l .pieces) (tested .filled) m
+
+  -- ---- the grids of the tray that is listed: the lent ones, stripped
+  pub board-is : trayOf l .board ≡ strip (lentOf l .board)
+  unfolding trayOf stripTray
+  board-is = refl
+
+  pub stripped-piece : (q : Piece) → List·Memᴰ q (trayOf l .pieces) → (r : Piece) × List·Memᴰ r (lentOf l .pieces) × Stripped (r .grid) (q .grid) (corner (r .grid))
+  unfolding trayOf stripTray
+  stripped-piece q m =
+      let r = Memᴰ·of-map stripPiece (lentOf l .pieces) m in
+      let a = strip-right (r .0 .grid) (lent-bits (r .0) (r .1)) (lent-whole (r .0) (r .1)) (lent-filled (r .0) (r .1)) in
+      (r .0, r .1, subst (λ (p : Piece). Stripped (r .0 .grid) (p .grid) (corner (r .0 .grid))) (r .2) a)
+
   pub bits : (q : Piece) → List·Memᴰ q (trayOf l .pieces) → T (areBits (q .grid))
-  unfolding trayOf
-  bits q m = lent-bits q m
+  bits q m = stripped-piece q m .2 .bits
 
   pub tight : (q : Piece) → List·Memᴰ q (trayOf l .pieces) → T (isTight (q .grid))
-  unfolding trayOf
-  tight q m = all-at (λ (x : Piece). isTight (x .grid)) (lentOf l .pieces) (tested .tight) m
+  tight q m = stripped-piece q m .2 .tight
 
   some-filled : (g : Grid) → T (isTight g) → 0 < length (filledCells g)
   unfolding isTight filledWhere

@@ -9,8 +9,9 @@ use lib.ListN.{length, getD, length-map}
 use Rattle.definitions.specs.Lists.{all, any, keep, each, before, below, sort, sum, less, same, joined, numbered, numberedFrom, ascending}
 use Rattle.definitions.proofs.ListLaws.{is-true, is-false, ltb-irrefl, keep-same, all-map, keep-map, each-map, numbered-map}
 use Rattle.definitions.specs.Grid.{Cell, Grid, box, sameGrid, gridAhead}
+use Rattle.definitions.specs.Stripping.{strip, frameOf, ownFrame}
 use Rattle.definitions.specs.Maps.{mapGrid, mapCell, mirror, turns, mirrorings}
-use Rattle.definitions.specs.Scan.{axes, scan, scanNumber}
+use Rattle.definitions.specs.Scan.{axes, scan}
 use Rattle.definitions.specs.Kinds.{Piece, Tray, smallest, Form, pieceForm, sameForm, formAhead, Sorted, sortPiece, sorted, forms, Copy, copiesOfPiece, copiesOf, mirroredForm, partnerOf, Kind, kindNamed, kindsOf, formOf}
 use Rattle.definitions.specs.Placements.{Placement, Compiled, placementsOf, compile}
 use Rattle.definitions.specs.Packing.{ahead, limits, placed, coversOnce, withinCopies, used, isPacking}
@@ -18,9 +19,9 @@ use Rattle.definitions.specs.Kept.{compared, smaller, kindAfter, cellAft
 use Rattle.definitions.specs.Kept.Identify.{None, Turned, Mirrored}
 use Rattle.definitions.specs.Moves.{isOdd}
 use Rattle.definitions.specs.Orders.{start, choose, search, fastChoices, identifiesTurned, sizes, allCells, kind0First, fastList, knuthChoices, knuthList, packings, listed}
-use Rattle.definitions.specs.Answers.{takes, taken, copyOn, answer}
+use Rattle.definitions.specs.Answers.{takes, taken, twoBytes, lentCells, answer}
 use Rattle.definitions.specs.Page.{page, Page}
-use Rattle.definitions.specs.Refusals.{Call, sidesOf, gridOf, lentOf, trayOf, sidesFit, cellsLie, areBits, someFilled, isTight, copyCount, boardCellCount, placementCount, rowsOf, linkCount, identifyOf, isKnuth, isPorted, row, table, firstThatApplies, refusal, pieceOf}
+use Rattle.definitions.specs.Refusals.{Call, sidesOf, gridOf, lentOf, stripPiece, stripTray, trayOf, sidesFit, cellsLie, areBits, someFilled, copyCount, boardCellCount, placementCount, rowsOf, linkCount, identifyOf, isKnuth, isPorted, row, table, firstThatApplies, refusal, pieceOf}
 use Rattle.definitions.specs.Outcomes.{answersOf, capacity, pageOf, Outcome, refused, accepted, outcome, acceptedWith}
 use Rattle.definitions.specs.Files.{callIn, isFile, listing, packed, refusedLine}
 use Rattle.definitions.specs.PlacementsRight.{noKind, pieceAt, kindAt}
@@ -103,7 +104,7 @@ unwood : Kind → Kind
 unwood d = record { shape = d .shape; wood = 0; partner = d .partner; copies = d .copies }
 
 unwoodCompiled : Compiled → Compiled
-unwoodCompiled c = record { board = c .board; cells = c .cells; kinds = map unwood (c .kinds); placements = c .placements }
+unwoodCompiled c = record { board = c .board; frame = c .frame; cells = c .cells; kinds = map unwood (c .kinds); placements = c .placements }
 
 module _ (c : Compiled) where
   length-same : length (unwoodCompiled c .kinds) ≡ length (c .kinds)
@@ -187,7 +188,7 @@ module _ (c : Compiled) where
 
   answer-same : (P : List Placement) → answer (unwoodCompiled c) P ≡ answer c P
   unfolding answer unwoodCompiled
-  answer-same P = λ j. each (box (c .board .sides)) (λ u. let d = copyOn (taken-same P j) (scanNumber (c .cells) u) in d .piece ∷ d .copy ∷ [])
+  answer-same P = λ j. each (box (c .frame .lent)) (twoBytes (taken-same P j) (lentCells c))
 
   answers-same : (i : Identify) (e : SolverKind) → map (answer (unwoodCompiled c)) (listed (unwoodCompiled c) i e) ≡ map (answer c) (listed c i e)
   answers-same i e = λ j. map (λ P. answer-same P j) (listed-same i e j)
@@ -304,8 +305,8 @@ module _ (t : Tray) where
     compile-bare : compile (unwooded t) ≡ unwoodCompiled (compile t)
     unfolding compile unwoodCompiled unwooded unwood placementsOf
     compile-bare =
-        ap {B = Compiled} (λ (ks : List Kind). record { board = t .board; cells = cs; kinds = ks; placements = joined (numbered ks (placementsOf order cs)) }) kinds-bare
-        ∙ ap {B = Compiled} (λ (ps : List (List Placement)). record { board = t .board; cells = cs; kinds = map unwood (kindsOf t); placements = joined ps }) (numbered-map unwood (placementsOf order cs) 0 (kindsOf t))
+        ap {B = Compiled} (λ (ks : List Kind). record { board = t .board; frame = t .frame; cells = cs; kinds = ks; placements = joined (numbered ks (placementsOf order cs)) }) kinds-bare
+        ∙ ap {B = Compiled} (λ (ps : List (List Placement)). record { board = t .board; frame = t .frame; cells = cs; kinds = map unwood (kindsOf t); placements = joined ps }) (numbered-map unwood (placementsOf order cs) 0 (kindsOf t))
       where
         order : List ℕ
         order = axes (t .board .sides)
@@ -325,14 +326,20 @@ oneWood-holds t w one i e = sym (answers-bare t w one i e)
 module _ (l : Call) where
   lent-bare : lentOf (withoutWoods l) ≡ unwooded (lentOf l)
   unfolding lentOf withoutWoods withWood unwooded woodless gridOf sidesOf
-  lent-bare = λ i. record { board = gridOf (l .bytes) (l .board); pieces = pieces-bare i }
+  lent-bare = λ i. record { board = gridOf (l .bytes) (l .board); pieces = pieces-bare i; frame = ownFrame (gridOf (l .bytes) (l .board)) }
     where
       pieces-bare : map (pieceOf (l .bytes)) (map (withWood 0) (l .pieces)) ≡ map woodless (map (pieceOf (l .bytes)) (l .pieces))
       pieces-bare = map-map-of (pieceOf (l .bytes)) (withWood 0) (l .pieces) ∙ sym (map-map-of woodless (pieceOf (l .bytes)) (l .pieces))
 
+  -- (stripping reads no wood)
   tray-bare : trayOf (withoutWoods l) ≡ unwooded (trayOf l)
-  unfolding trayOf
-  tray-bare = lent-bare
+  unfolding trayOf stripTray unwooded woodless
+  tray-bare =
+      ap stripTray lent-bare
+      ∙ (λ i. record { board = strip (lentOf l .board); pieces = same i; frame = frameOf (lentOf l .board) })
+    where
+      same : map stripPiece (map woodless (lentOf l .pieces)) ≡ map woodless (map stripPiece (lentOf l .pieces))
+      same = map-map-of stripPiece woodless (lentOf l .pieces) ∙ sym (map-map-of woodless stripPiece (lentOf l .pieces))
 
   all-bare : (p : Grid → Bool) → all (λ q. p (q .grid)) (lentOf (withoutWoods l) .pieces) ≡ all (λ q. p (q .grid)) (lentOf l .pieces)
   unfolding unwooded woodless
@@ -356,8 +363,11 @@ module _ (l : Call) where
 
   module _ (w : ℕ) (one : (r : Record) → List·Memᴰ r (l .pieces) → r .wood ≡ w) where
     one-lent : (q : Piece) → List·Memᴰ q (trayOf l .pieces) → q .wood ≡ w
-    unfolding lentOf trayOf
-    one-lent q m = let r = Memᴰ·of-map (pieceOf (l .bytes)) (l .pieces) m in sym (ap (λ (x : Piece). x .wood) (r .2)) ∙ one (r .0) (r .1)
+    unfolding lentOf stripTray trayOf
+    one-lent q m =
+        let s = Memᴰ·of-map stripPiece (lentOf l .pieces) m in
+        let r = Memᴰ·of-map (pieceOf (l .bytes)) (l .pieces) (s .1) in
+        sym (ap (λ (x : Piece). x .wood) (s .2)) ∙ sym (ap (λ (x : Piece). x .wood) (r .2)) ∙ one (r .0) (r .1)
 
     compiled : compile (trayOf (withoutWoods l)) ≡ unwoodCompiled (compile (trayOf l))
     compiled = ap compile tray-bare ∙ compile-bare (trayOf l) w one-lent
@@ -381,7 +391,6 @@ module _ (l : Call) where
         row 4 (not (cellsLie (l .bytes) (l .board) && lie-bare i)) ∷
         row 5 (not (areBits (board-bare i) && all-bare areBits i)) ∷
         row 6 (not (all-bare someFilled i)) ∷
-        row 7 (not (all-bare isTight i)) ∷
         row 8 (ltb 128 (copies-counted i)) ∷
         row 9 (ltb 128 (sum (board-bare i .cells))) ∷
         row 10 (mirrored && not turned) ∷

@@ -120,20 +120,22 @@ refusals =
     gives 5 (lending m₀ (at 1 1 1 1 1 ∷ []) (1 ∷ 255 ∷ [])) ∷
     gives 0 (lending m₀ (m₀ ∷ []) (1 ∷ 2 ∷ [])) ∷
     gives 5 (lending m₀ (at 1 1 1 1 2 ∷ at 1 1 1 1 1 ∷ []) (1 ∷ 2 ∷ 0 ∷ [])) ∷
-    -- 6: a piece, with or without copies, but not the board; before 7
+    -- 6: a piece, with or without copies, but not the board; before 8; a piece of zeros is not stripped to nothing
     gives 6 (lending m₀ (m₀ ∷ at 0 1 1 1 1 ∷ []) (1 ∷ 0 ∷ [])) ∷
     gives 0 (lending (at 0 1 1 1 1) (m₀ ∷ []) (1 ∷ 0 ∷ [])) ∷
     gives 6 (lending m₀ (at 1 1 1 2 0 ∷ at 1 1 1 1 1 ∷ []) (1 ∷ 0 ∷ [])) ∷
-    -- 7: each of the six outer layers; not of the board; before 8
-    gives 7 (lending m₀ (at 1 2 1 1 0 ∷ []) (1 ∷ 0 ∷ [])) ∷
-    gives 7 (lending m₀ (at 1 1 2 1 0 ∷ []) (1 ∷ 0 ∷ [])) ∷
-    gives 7 (lending m₀ (at 1 1 1 2 0 ∷ []) (1 ∷ 0 ∷ [])) ∷
-    gives 7 (lending m₀ (m₀ ∷ at 0 2 1 1 1 ∷ []) (1 ∷ 0 ∷ 1 ∷ [])) ∷
-    gives 7 (lending m₀ (m₀ ∷ at 0 1 2 1 1 ∷ []) (1 ∷ 0 ∷ 1 ∷ [])) ∷
-    gives 7 (lending m₀ (m₀ ∷ at 0 1 1 2 1 ∷ []) (1 ∷ 0 ∷ 1 ∷ [])) ∷
+    gives 6 (lending m₀ (at 129 1 1 2 1 ∷ []) (1 ∷ 0 ∷ 0 ∷ [])) ∷
+    -- an empty outer layer, on any of the six sides of a piece or of the board, refuses nothing; 3 looks at the lent sides
+    gives 0 (lending m₀ (at 1 2 1 1 0 ∷ []) (1 ∷ 0 ∷ [])) ∷
+    gives 0 (lending m₀ (at 1 1 2 1 0 ∷ []) (1 ∷ 0 ∷ [])) ∷
+    gives 0 (lending m₀ (at 1 1 1 2 0 ∷ []) (1 ∷ 0 ∷ [])) ∷
+    gives 0 (lending m₀ (m₀ ∷ at 0 2 1 1 1 ∷ []) (1 ∷ 0 ∷ 1 ∷ [])) ∷
+    gives 0 (lending m₀ (m₀ ∷ at 0 1 2 1 1 ∷ []) (1 ∷ 0 ∷ 1 ∷ [])) ∷
+    gives 0 (lending m₀ (m₀ ∷ at 0 1 1 2 1 ∷ []) (1 ∷ 0 ∷ 1 ∷ [])) ∷
     gives 0 (lending m₀ (at 1 1 1 3 0 ∷ []) (1 ∷ 0 ∷ 1 ∷ [])) ∷
     gives 0 (lending (at 0 1 1 2 0) (m₀ ∷ []) (1 ∷ 0 ∷ [])) ∷
-    gives 7 (lending m₀ (at 129 1 1 2 0 ∷ []) (1 ∷ 0 ∷ [])) ∷
+    gives 8 (lending m₀ (at 129 1 1 2 0 ∷ []) (1 ∷ 0 ∷ [])) ∷
+    gives 3 (lending m₀ (at 1 1 1 9 0 ∷ []) (cells 9 100000000)) ∷
     -- 8: 128 copies are taken, 129 are not; a sum past 32 bits; before 10
     gives 0 (lending m₀ (at 128 1 1 1 0 ∷ []) (1 ∷ [])) ∷
     gives 8 (lending m₀ (at 129 1 1 1 0 ∷ []) (1 ∷ [])) ∷
@@ -233,6 +235,9 @@ counts =
     counted (board 1 2 3 (cells 6 111111)) (M 1 ∷ inWood 255 (M 1) ∷ []) 12 32 ∷
     counted (board 1 2 3 (cells 6 111111)) (inWood 255 (M 1) ∷ inWood 255 (M 1) ∷ []) 6 19 ∷
     counted (board 1 2 3 (cells 6 111111)) (D 1 ∷ inWood 5 (D 0) ∷ []) 14 29 ∷
+    -- pieces that differ in empty layers alone are one kind; and it is the stripped piece that is set down
+    counted (board 1 2 3 (cells 6 111111)) (D 1 ∷ piece 1 2 2 2 (cells 8 00100010) ∷ []) 7 28 ∷
+    counted (board 2 2 4 (cells 16 0000011100000111)) (piece 1 3 1 3 (cells 9 000010010) ∷ []) 7 28 ∷
     counted (board 2 2 2 (cells 8 11111111)) (piece 1 2 2 2 (cells 8 11100100) ∷ piece 0 2 2 2 (cells 8 11100010) ∷ D 1 ∷ []) 36 107 ∷
     counted (board 1 3 3 (cells 9 111101111)) (D 1 ∷ piece 1 1 2 2 (cells 4 1110) ∷ []) 12 50 ∷
     []
@@ -301,6 +306,9 @@ files =
     prints "config\tfast\tnone\nboard\t1\t1\t2\t11\npiece\t1\t1\t1\t1\t1\t007\npiece\t1\t1\t1\t1\t1\t7\n" "0\t0.0 1.0\npackings\t1\n" ∷
     prints "config\tfast\tnone\nboard\t1\t1\t2\t11\npiece\t1\t1\t1\t1\t1\t000\npiece\t1\t1\t1\t1\t1\n" "0\t0.0 1.0\npackings\t1\n" ∷
     prints "config\tfast\tnone\nboard\t1\t1\t2\t11\npiece\t1\t1\t1\t1\t1\t255\npiece\t1\t1\t1\t1\t1\t254\n" "0\t1.0 0.0\n1\t0.0 1.0\npackings\t2\n" ∷
+    -- empty outer layers: a piece and a board drawn in a larger box
+    prints "config\tfast\tturned\nboard\t1\t1\t4\t1110\npiece\t1\t1\t1\t1\t1\npiece\t1\t1\t1\t2\t11\n" "0\t0.0 1.0 1.0 -\npackings\t1\n" ∷
+    prints "config\tknuth\tnone\nboard\t1\t3\t3\t000010000\npiece\t1\t2\t1\t2\t0001\n" "0\t- - - - 0.0 - - - -\npackings\t1\n" ∷
     -- no piece: a filled cell, none, two of four, and a side of 9
     prints "config\tfast\tnone\nboard\t1\t1\t1\t1\n" "packings\t0\n" ∷
     prints "config\tfast\tturned\nboard\t2\t1\t2\t0000\n" "0\t- - - -\npackings\t1\n" ∷
@@ -366,6 +374,6 @@ moreFillings =
 -- ---- a tray where kind 0, the single cell, placed first decides Fast's order; Knuth's is the other way round
 unfoldable pub fastFillings : List Line
 fastFillings =
-    turned (board 1 1 6 (cells 6 111110)) (M 1 ∷ D 1 ∷ piece 1 1 1 3 (cells 3 101) ∷ [])
-    ((2 ∷ 0 ∷ 0 ∷ 0 ∷ 2 ∷ 0 ∷ 1 ∷ 0 ∷ 1 ∷ 0 ∷ 255 ∷ 255 ∷ []) ∷ (1 ∷ 0 ∷ 1 ∷ 0 ∷ 2 ∷ 0 ∷ 0 ∷ 0 ∷ 2 ∷ 0 ∷ 255 ∷ 255 ∷ []) ∷ []) ∷
+    turned (board 1 1 6 (cells 6 111011)) (M 1 ∷ D 1 ∷ piece 1 1 1 3 (cells 3 101) ∷ [])
+    ((2 ∷ 0 ∷ 0 ∷ 0 ∷ 2 ∷ 0 ∷ 255 ∷ 255 ∷ 1 ∷ 0 ∷ 1 ∷ 0 ∷ []) ∷ (1 ∷ 0 ∷ 1 ∷ 0 ∷ 2 ∷ 0 ∷ 255 ∷ 255 ∷ 2 ∷ 0 ∷ 0 ∷ 0 ∷ []) ∷ []) ∷
     []

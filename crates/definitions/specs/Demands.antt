@@ -1,19 +1,18 @@
 -- The demands as statements over the definitions of call, packing, move and page, for anything that runs calls: run l is what it makes of the call l.
 -- proofs/DemandLaws shows that the definitions' own outcome meets them all; so code meets them whose contract is one equation with that outcome.
 use Prim.Native.Nat.{ℕ, _+_, _-_, _*_, _<_, _≤_, min}
-use mathlib.Core.Bool.{Bool, true, false, cond}
-use mathlib.Core.List.{List, [], _∷_, _++_, map, List·Memᴰ, Perm}
+use mathlib.Core.Bool.{false, cond}
+use mathlib.Core.List.{List, [], _++_, map, List·Memᴰ, Perm}
 use mathlib.Core.Path.{_≡_}
 use mathlib.Core.Logic.{_↔_, _≢_}
 use lib.Dec.{T, ltb, eqb}
 use lib.ListN.{length, take, drop, getD, replicate}
 use Rattle.definitions.specs.Lists.{all, below, howMany, joined, member, ascending, Apart, Ordered}
-use Rattle.definitions.specs.Grid.{Grid}
 use Rattle.definitions.specs.Kinds.{Tray}
 use Rattle.definitions.specs.Placements.{Placement, Compiled, compile}
 use Rattle.definitions.specs.Packing.{Packing, withinCopies}
 use Rattle.definitions.specs.Kept.{Identify, kept}
-use Rattle.definitions.specs.Kept.Identify.{None, Turned, Mirrored}
+use Rattle.definitions.specs.Kept.Identify.{None}
 use Rattle.definitions.specs.Moves.{Move, Carries, inReach}
 use Rattle.definitions.specs.Orders.{listed, fastAhead}
 use Rattle.definitions.specs.KnuthOrder.{KnuthAhead}
@@ -146,7 +145,7 @@ pub record OneList (run : Call → Outcome) (t : Tray) (i : Identify) (e : Solve
   -- "Empty exactly when no packing exists"
   pub emptyIffNone : (L ≡ []) ↔ ((P : List Placement) → Packing (compile t) P → ⊥)
   -- an answer has two numbers for each cell of the box, and each fits a byte
-  pub answerLength : (P : List Placement) → length (answer (compile t) P) ≡ answerSize (t .board .sides)
+  pub answerLength : (P : List Placement) → length (answer (compile t) P) ≡ answerSize (t .frame .lent)
   pub areBytes : (P : List Placement) → T (all (λ n. ltb n 256) (answer (compile t) P))
   -- "every page not refused is its stretch of it, whatever skip and buffers"
   pub pages : Pages run t i e (map (answer (compile t)) L)

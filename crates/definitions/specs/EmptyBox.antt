@@ -11,12 +11,12 @@ use Rattle.definitions.specs.Lists.{isEmpty, member}
 use Rattle.definitions.specs.Grid.{Grid, filledCells}
 use Rattle.definitions.specs.Placements.{Placement, compile}
 use Rattle.definitions.specs.Packing.{Packing}
-use Rattle.definitions.specs.Refusals.{Call, trayOf, refusal}
+use Rattle.definitions.specs.Refusals.{Call, lentOf, trayOf, refusal}
 use Rattle.definitions.specs.Outcomes.{Outcome, answerSize}
 use Rattle.definitions.specs.Demands.{Stretch}
 use Rattle.definitions.specs.Files.{callIn, isFile, listing, packed}
 
--- the list of an empty box, whatever the engine and the identification: the empty packing, whose answer is 255 throughout, or nothing
+-- the list of an empty box on a board as lent, whatever the engine and the identification: the empty packing, whose answer is 255 throughout, or nothing
 unfoldable pub emptyBoxList : Grid → List (List ℕ)
 emptyBoxList g = cond (isEmpty (filledCells g)) (replicate (answerSize (g .sides)) 255 ∷ []) []
 
@@ -24,9 +24,9 @@ pub record EmptyBox (run : Call → Outcome) (l : Call) : Type 0 where
   -- "should be taken": what can still refuse it is the board (3, 4, 5, 9), the configuration (10, 11) or a slice that is too short (12, 13)
   pub numbers : T (member (run l .number) (0 ∷ 3 ∷ 4 ∷ 5 ∷ 9 ∷ 10 ∷ 11 ∷ 12 ∷ 13 ∷ []))
   -- "a board without filled cells has the one empty packing, every other board has none": of document 01's packings
-  pub packings : (P : List Placement) → Packing (compile (trayOf l)) P ↔ ((P ≡ []) × (filledCells (trayOf l .board) ≡ []))
+  pub packings : (P : List Placement) → Packing (compile (trayOf l)) P ↔ ((P ≡ []) × (filledCells (lentOf l .board) ≡ []))
   -- every page that is not refused is its stretch of that list
-  pub pages : refusal l ≡ 0 → Stretch (emptyBoxList (trayOf l .board)) l (run l)
+  pub pages : refusal l ≡ 0 → Stretch (emptyBoxList (lentOf l .board)) l (run l)
 
 unfoldable pub emptyBox : (Call → Outcome) → Type 0
 emptyBox run = (l : Call) → l .pieces ≡ [] → EmptyBox run l
@@ -39,4 +39,4 @@ never1 run = (l : Call) → run l .number ≢ 1
 unfoldable pub emptyBoxPrinted : Type 0
 emptyBoxPrinted =
     (bytes : List ℕ) → T (isFile bytes) → callIn bytes 0 0 .pieces ≡ [] → refusal (callIn bytes 0 0) ≡ 0
-    → packed bytes ≡ listing (emptyBoxList (trayOf (callIn bytes 0 0) .board))
+    → packed bytes ≡ listing (emptyBoxList (lentOf (callIn bytes 0 0) .board))

@@ -1,5 +1,5 @@
--- Document 01, "Fillings to hold it to": the lines marked to be proved, as one table, and those of document 02's requests. proofs/FillingLaws has the one theorem, which antt computes. Each line
--- is held for both engines. M is one cell, D two in a row.
+-- Document 01, "Fillings to hold it to": the lines marked to be proved, as one table, and those of document 02's requests. proofs/FillingLaws has the one
+-- theorem, which antt computes. Each line is held for both engines. M is one cell, D two in a row.
 use Prim.Native.Nat.{ℕ}
 use mathlib.Core.Bool.{Bool, true, false, not, _&&_}
 use mathlib.Core.List.{List, [], _∷_, _++_}
@@ -50,8 +50,8 @@ fillings =
     none (board 1 1 3 (1 ∷ 1 ∷ 1 ∷ [])) (M 1 ∷ D 1 ∷ []) ((0 ∷ 0 ∷ 1 ∷ 0 ∷ 1 ∷ 0 ∷ []) ∷ (1 ∷ 0 ∷ 1 ∷ 0 ∷ 0 ∷ 0 ∷ []) ∷ []) ∷
     turned (board 1 1 3 (1 ∷ 1 ∷ 1 ∷ [])) (M 1 ∷ D 1 ∷ []) ((0 ∷ 0 ∷ 1 ∷ 0 ∷ 1 ∷ 0 ∷ []) ∷ []) ∷
     none (board 1 1 3 (1 ∷ 1 ∷ 1 ∷ [])) (D 1 ∷ M 1 ∷ []) ((1 ∷ 0 ∷ 0 ∷ 0 ∷ 0 ∷ 0 ∷ []) ∷ (0 ∷ 0 ∷ 0 ∷ 0 ∷ 1 ∷ 0 ∷ []) ∷ []) ∷
-    -- "Cells 1110 in a 1 by 1 by 4 box, M and D, `turned`: two."
-    turned (board 1 1 4 (1 ∷ 1 ∷ 1 ∷ 0 ∷ [])) (M 1 ∷ D 1 ∷ []) ((0 ∷ 0 ∷ 1 ∷ 0 ∷ 1 ∷ 0 ∷ 255 ∷ 255 ∷ []) ∷ (1 ∷ 0 ∷ 1 ∷ 0 ∷ 0 ∷ 0 ∷ 255 ∷ 255 ∷ []) ∷ []) ∷
+    -- Document 02, A4: "cells 1110 with M and D under `turned` now have one packing, not two"
+    turned (board 1 1 4 (1 ∷ 1 ∷ 1 ∷ 0 ∷ [])) (M 1 ∷ D 1 ∷ []) ((0 ∷ 0 ∷ 1 ∷ 0 ∷ 1 ∷ 0 ∷ 255 ∷ 255 ∷ []) ∷ []) ∷
     -- "2 by 2 by 1, two D: `none` two, `turned` one; D lent twice, one copy each, `none`: two."
     none (board 2 2 1 (1 ∷ 1 ∷ 1 ∷ 1 ∷ [])) (D 2 ∷ []) ((0 ∷ 0 ∷ 0 ∷ 0 ∷ 0 ∷ 1 ∷ 0 ∷ 1 ∷ []) ∷ (0 ∷ 0 ∷ 0 ∷ 1 ∷ 0 ∷ 0 ∷ 0 ∷ 1 ∷ []) ∷ []) ∷
     turned (board 2 2 1 (1 ∷ 1 ∷ 1 ∷ 1 ∷ [])) (D 2 ∷ []) ((0 ∷ 0 ∷ 0 ∷ 0 ∷ 0 ∷ 1 ∷ 0 ∷ 1 ∷ []) ∷ []) ∷
@@ -73,6 +73,14 @@ fillings =
     none (board 1 1 1 (1 ∷ [])) [] [] ∷
     turned (board 1 1 1 (1 ∷ [])) [] [] ∷
     mirrored (board 1 1 4 (0 ∷ 1 ∷ 1 ∷ 0 ∷ [])) [] [] ∷
+    -- Document 02, A4, empty outer layers: in front of the board too, where "answers are still written in the box that was lent"; "scan order" is that of the
+    -- stripped board; an empty layer between filled ones stays; pieces that differ in empty layers alone are one kind; "a board with no filled cell keeps its box"
+    none (board 2 1 3 (0 ∷ 0 ∷ 0 ∷ 0 ∷ 1 ∷ 1 ∷ [])) (M 1 ∷ M 1 ∷ []) ((255 ∷ 255 ∷ 255 ∷ 255 ∷ 255 ∷ 255 ∷ 255 ∷ 255 ∷ 0 ∷ 0 ∷ 1 ∷ 0 ∷ []) ∷ []) ∷
+    none (board 1 3 2 (0 ∷ 0 ∷ 0 ∷ 1 ∷ 1 ∷ 0 ∷ [])) (M 2 ∷ []) ((255 ∷ 255 ∷ 255 ∷ 255 ∷ 255 ∷ 255 ∷ 0 ∷ 1 ∷ 0 ∷ 0 ∷ 255 ∷ 255 ∷ []) ∷ []) ∷
+    none (board 1 1 5 (0 ∷ 1 ∷ 0 ∷ 1 ∷ 0 ∷ [])) (piece 1 1 1 4 (1 ∷ 0 ∷ 1 ∷ 0 ∷ []) ∷ []) ((255 ∷ 255 ∷ 0 ∷ 0 ∷ 255 ∷ 255 ∷ 0 ∷ 0 ∷ 255 ∷ 255 ∷ []) ∷ []) ∷
+    none (board 1 1 2 (1 ∷ 1 ∷ [])) (piece 1 1 1 3 (1 ∷ 0 ∷ 1 ∷ []) ∷ []) [] ∷
+    none (board 1 1 2 (1 ∷ 1 ∷ [])) (piece 1 1 1 2 (1 ∷ 0 ∷ []) ∷ M 1 ∷ []) ((0 ∷ 0 ∷ 1 ∷ 0 ∷ []) ∷ []) ∷
+    turned (board 1 1 4 (0 ∷ 0 ∷ 0 ∷ 0 ∷ [])) (M 1 ∷ []) ((255 ∷ 255 ∷ 255 ∷ 255 ∷ 255 ∷ 255 ∷ 255 ∷ 255 ∷ []) ∷ []) ∷
     []
 
 abbrev pub sameTest : Bool → Bool → Bool

@@ -6,6 +6,7 @@ use lib.Dec.{ltb, eqb}
 use Rattle.definitions.specs.Lists.{each, below, headOr, sort, numbered, before, keep}
 use Rattle.definitions.specs.Grid.{Grid, sameGrid, gridAhead}
 use Rattle.definitions.specs.Maps.{turns, mirror, mapGrid}
+use Rattle.definitions.specs.Stripping.{Frame}
 
 pub record Piece : Type 0 where
   pub grid : Grid
@@ -15,6 +16,8 @@ pub record Piece : Type 0 where
 pub record Tray : Type 0 where
   pub board : Grid
   pub pieces : List Piece
+  -- the box that was lent, in which answers are written, and where the board lies in it
+  pub frame : Frame
 
 -- "A kind's distinct turned grids, ascending, are its variants."
 unfoldable pub variants : Grid → List Grid

@@ -1,6 +1,7 @@
 pub mod Lists
 pub mod Grid
 pub mod Maps
+pub mod Stripping
 pub mod Scan
 pub mod Kinds
 pub mod Placements
@@ -9,6 +10,7 @@ pub mod Kept
 pub mod Moves
 pub mod Orders
 pub mod Answers
+pub mod Framing
 pub mod Page
 pub mod Refusals
 pub mod Outcomes
@@ -18,6 +20,7 @@ pub mod MovesAndMaps
 pub mod PlacementsRight
 pub mod AnswersRight
 pub mod Woods
+pub mod EmptyLayers
 pub mod Emission
 pub mod Pruning
 pub mod Texts

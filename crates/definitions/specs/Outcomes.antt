@@ -15,7 +15,7 @@ use Rattle.definitions.specs.Page.{Page, page}
 use Rattle.definitions.specs.Refusals.{Call, sidesOf, trayOf, identifyOf, isKnuth, refusal}
 use Rattle.definitions.specs.declared.SolverKind.{SolverKind}
 use Rattle.definitions.specs.declared.Refusal.{Refusal}
-use Rattle.definitions.specs.declared.Refusal.the-variants.{TooManyPieces, SideOutOfRange, CellsOutsideBytes, CellNotZeroOrOne, PieceWithoutFilledCell, EmptyOuterLayer}
+use Rattle.definitions.specs.declared.Refusal.the-variants.{TooManyPieces, SideOutOfRange, CellsOutsideBytes, CellNotZeroOrOne, PieceWithoutFilledCell}
 use Rattle.definitions.specs.declared.Refusal.the-variants.{TooManyCopies, TooManyBoardCells, MirroredWithoutTurned, EngineNotPorted, WorkTooShort, LinksTooShort, TooManyPlacements, TooManyLinks}
 use Rattle.definitions.specs.declared.Listing.{Listing}
 use Rattle.definitions.specs.declared.Listing.the-variants as listing
@@ -87,7 +87,6 @@ numberOf SideOutOfRange = 3
 numberOf CellsOutsideBytes = 4
 numberOf CellNotZeroOrOne = 5
 numberOf PieceWithoutFilledCell = 6
-numberOf EmptyOuterLayer = 7
 numberOf TooManyCopies = 8
 numberOf TooManyBoardCells = 9
 numberOf MirroredWithoutTurned = 10

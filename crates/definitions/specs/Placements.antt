@@ -1,11 +1,11 @@
 -- Document 01, "Placements".
 use Prim.Native.Nat.{ℕ, _+_, _-_}
-use mathlib.Core.Bool.{Bool, true, false, _&&_}
-use mathlib.Core.List.{List, [], _∷_, map}
+use mathlib.Core.Bool.{Bool, _&&_}
+use mathlib.Core.List.{List, map}
 use lib.Dec.{leb}
-use lib.ListN.{length}
 use Rattle.definitions.specs.Lists.{keep, all, any, headOr, numbered, joined}
 use Rattle.definitions.specs.Grid.{Grid, Cell, sameCell}
+use Rattle.definitions.specs.Stripping.{Frame}
 use Rattle.definitions.specs.Scan.{axes, scan, scanNumber}
 use Rattle.definitions.specs.Kinds.{Tray, Kind, kindsOf, variants}
 
@@ -44,6 +44,7 @@ placementsOf order board k d =
 -- What a tray comes to (`CompiledProblem` of fast.rs): the filled board cells in scan order, the kinds, and all placements by kind, then (p, j).
 pub record Compiled : Type 0 where
   pub board : Grid
+  pub frame : Frame
   pub cells : List Cell
   pub kinds : List Kind
   pub placements : List Placement
@@ -53,4 +54,4 @@ compile t =
     let order = axes (t .board .sides) in
     let cs = scan order (t .board) in
     let ks = kindsOf t in
-    record { board = t .board; cells = cs; kinds = ks; placements = joined (numbered ks (placementsOf order cs)) }
+    record { board = t .board; frame = t .frame; cells = cs; kinds = ks; placements = joined (numbered ks (placementsOf order cs)) }

@@ -1,5 +1,5 @@
--- Document 01, "Limits" and the table of what is returned: the tests 2 to 15, and the first that applies. (1, no piece is lent, is
--- no test any more: document 02, A1.)
+-- Document 01, "Limits" and the table of what is returned: the tests 2 to 15, and the first that applies. (1, no piece is lent, and 7, a piece has an empty
+-- outer layer, are no tests any more: document 02, A1 and A4.) 3 to 9 look at the grids as lent, 14 and 15 at the stripped ones.
 use Prim.Native.Nat.{ℕ, suc, _+_}
 use mathlib.Core.Bool.{Bool, true, false, cond, not, _&&_}
 use mathlib.Core.List.{List, [], _∷_, map}
@@ -7,6 +7,7 @@ use lib.Dec.{ltb, leb, eqb}
 use lib.ListN.{length, getD, take, drop}
 use Rattle.definitions.specs.Lists.{any, all, keep, sum}
 use Rattle.definitions.specs.Grid.{Sides, Cell, Grid, volume, filledCells}
+use Rattle.definitions.specs.Stripping.{strip, frameOf, ownFrame}
 use Rattle.definitions.specs.Kinds.{Piece, Tray}
 use Rattle.definitions.specs.Placements.{Placement, Compiled, compile}
 use Rattle.definitions.specs.Packing.{limits}
@@ -56,11 +57,20 @@ abbrev pub pieceOf : List ℕ → Record → Piece
 pieceOf bytes r = record { grid = gridOf bytes r; count = r .count; wood = r .wood }
 
 unfoldable pub lentOf : Call → Tray
-lentOf l = record { board = gridOf (l .bytes) (l .board); pieces = map (pieceOf (l .bytes)) (l .pieces) }
+lentOf l =
+    let b = gridOf (l .bytes) (l .board) in
+    record { board = b; pieces = map (pieceOf (l .bytes)) (l .pieces); frame = ownFrame b }
 
--- the tray that is listed
+-- The tray that is listed. Document 02, A4: "Strip empty outer layers from pieces and board once 3 to 6 are passed on the grids as lent, and before all later
+-- work"
+abbrev pub stripPiece : Piece → Piece
+stripPiece q = record { grid = strip (q .grid); count = q .count; wood = q .wood }
+
+unfoldable pub stripTray : Tray → Tray
+stripTray t = record { board = strip (t .board); pieces = map stripPiece (t .pieces); frame = frameOf (t .board) }
+
 unfoldable pub trayOf : Call → Tray
-trayOf l = lentOf l
+trayOf l = stripTray (lentOf l)
 
 unfoldable pub identifies : Bool → Bool → Identify
 identifies false false = None
@@ -90,7 +100,7 @@ areBits g = all (λ n. leb n 1) (g .cells)
 unfoldable pub someFilled : Grid → Bool
 someFilled g = any (eqb 1) (g .cells)
 
--- 7: "a piece has an empty outer layer". No outer layer is empty if each of the six has a filled cell.
+-- no outer layer is empty: each of the six has a filled cell
 unfoldable pub filledWhere : Grid → (Cell → Bool) → Bool
 filledWhere g p = any p (filledCells g)
 
@@ -151,7 +161,6 @@ table l =
     row 4 (not (all (cellsLie (l .bytes)) (l .board ∷ l .pieces))) ∷
     row 5 (not (areBits (t .board) && all (λ q. areBits (q .grid)) (t .pieces))) ∷
     row 6 (not (all (λ q. someFilled (q .grid)) (t .pieces))) ∷
-    row 7 (not (all (λ q. isTight (q .grid)) (t .pieces))) ∷
     row 8 (ltb 128 (copyCount t)) ∷
     row 9 (ltb 128 (boardCellCount t)) ∷
     row 10 (mirrored && not turned) ∷

@@ -36,7 +36,7 @@ unfoldable pub woodless : Piece → Piece
 woodless q = record { grid = q .grid; count = q .count; wood = 0 }
 
 unfoldable pub unwooded : Tray → Tray
-unwooded t = record { board = t .board; pieces = map woodless (t .pieces) }
+unwooded t = record { board = t .board; pieces = map woodless (t .pieces); frame = t .frame }
 
 unfoldable pub oneWood : Type 0
 oneWood = (t : Tray) (w : ℕ) → ((q : Piece) → List·Memᴰ q (t .pieces) → q .wood ≡ w) → (i : Identify) (e : SolverKind) → answersOf t i e ≡ answersOf (unwooded t) i e

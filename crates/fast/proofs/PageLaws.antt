@@ -2,7 +2,7 @@
 -- the other. Assumes nothing.
 use Prim.Native.Nat.{ℕ, _+_, _*_, _≤_, _<_}
 use mathlib.Core.List.{List, map}
-use mathlib.Core.Path.{_≡_, refl, sym, ap, _∙_, subst}
+use mathlib.Core.Path.{_≡_, sym, ap, _∙_, subst}
 use native.Mathlib.Nat.{mul-le-mul}
 use native.Mathlib.Omega.{arith}
 use borrow.Author.Count.{below-more}
@@ -11,18 +11,23 @@ use lib.ListN.{length, getD, take, drop, set, drop-of-length-le}
 use lib.Seq.{length-take-le, getD-take, getD-set-same, getD-set-other}
 use Rattle.definitions.specs.Lists.{all, below, howMany, sum}
 use Rattle.definitions.specs.Grid.{volume}
+use Rattle.definitions.specs.Stripping.{strip}
 use Rattle.definitions.specs.Kinds.{Piece}
-use Rattle.definitions.specs.Refusals.{gridOf, sidesOf, areBits, copyCount, pieceOf}
+use Rattle.definitions.specs.Refusals.{gridOf, sidesOf, areBits, copyCount, pieceOf, stripPiece, stripTray}
 use Rattle.definitions.specs.declared.Record.{Record}
-use Rattle.definitions.proofs.ListLaws.{is-true}
+use Rattle.definitions.proofs.ListLaws.{is-true, all-at}
+use Rattle.definitions.proofs.MapLaws.{map-map-of}
+use Rattle.definitions.proofs.GroupLaws.{map-same}
+use Rattle.definitions.proofs.StrippingLaws.{strip-sum}
 use Rattle.shape.proofs.PlaceLaws.{volume-small}
 use Rattle.placements.specs.declared.Table.{Table}
-use Rattle.placements.specs.Tables.{noRecord, recordsOf, lentIn}
+use Rattle.placements.specs.Tables.{noRecord, recordsOf, trayIn}
 use Rattle.placements.specs.Merging.{Sound}
 use Rattle.placements.specs.Counting.{Accepted9}
 use Rattle.placements.proofs.RefusalLaws.{sides-small, cells-count, all-grids, records-few, records-count, records-from, record-passes}
 use Rattle.placements.proofs.MergingLaws.{record-fits}
 use Rattle.placements.proofs.CountingLaws.{lent-passes, sound}
+use Rattle.placements.proofs.StrippingLaws.{piece-whole}
 use Rattle.fast.specs.Pruned.{cellsOfAll}
 use Rattle.rows.proofs.PairLaws.{map-below}
 use Rattle.rows.proofs.KindListLaws.{few-copies, one-few}
@@ -43,10 +48,6 @@ left-end kinds left n h f =
 abbrev pub cellsFrom : Table → List ℕ → ℕ → ℕ
 cellsFrom t bytes i = sum (map (λ (q : Piece). q .count * sum (q .grid .cells)) (map (pieceOf bytes) (drop i (recordsOf t))))
 
-pub cells-start : (t : Table) (board : Record) (bytes : List ℕ) → cellsFrom t bytes 0 ≡ cellsOfAll (lentIn (recordsOf t) board bytes)
-unfolding cellsOfAll
-cells-start t board bytes = refl
-
 pub cells-end : (t : Table) → length (t .rows) ≡ 16 → (bytes : List ℕ) (i : ℕ) → t .n ≤ i → cellsFrom t bytes i ≡ 0
 cells-end t long bytes i h =
     let e : length (recordsOf t) ≤ i = let n = records-count t long in omega arith in
@@ -58,6 +59,16 @@ module _ (t : Table) (board : Record) (bytes : List ℕ) (long : length (t .rows
 
   all-bits : T (all (λ q. areBits (gridOf bytes q)) (recordsOf t))
   all-bits = subst T (all-grids areBits bytes (recordsOf t)) (lent-passes t board bytes ok .passed .bits)
+
+  -- all of them are those of the stripped pieces
+  pub cells-start : cellsFrom t bytes 0 ≡ cellsOfAll (trayIn (recordsOf t) board bytes)
+  unfolding cellsOfAll stripTray
+  cells-start =
+      let ps = map (pieceOf bytes) (recordsOf t) in
+      let l = lent-passes t board bytes ok in
+      sym (ap sum (map-map-of (λ (q : Piece). q .count * sum (q .grid .cells)) stripPiece ps
+      ∙ map-same (λ q. q .count * sum (strip (q .grid) .cells)) (λ q. q .count * sum (q .grid .cells)) ps
+      (λ q m. ap (λ (n : ℕ). q .count * n) (strip-sum (q .grid) (all-at (λ (x : Piece). areBits (x .grid)) ps (l .passed .bits) m) (piece-whole t board bytes l long q m)))))
 
   module _ (i : ℕ) (h : i < t .n) where
     abbrev piece : Record

@@ -9,11 +9,11 @@ use native.Mathlib.Omega.{arith}
 use native.Mathlib.Numerals.{add-one}
 use lib.Dec.{T, ltb, leb, eqb, leb→le, le→leb, eqb→eq, eqb-refl, nleb→lt}
 use lib.ListN.{length, getD, take, drop, drop-of-length-le}
-use lib.Seq.{take-nil, take-take, drop-drop}
+use lib.Seq.{take-take, drop-drop}
 use lib.Pow.{pow-add}
 use Rattle.definitions.specs.Lists.{all, before, same, isEmpty}
 use Rattle.definitions.specs.Files.{onFirst, parts, fieldsOf, field, isDigit, isNumber, numberFrom, numberIn}
-use Rattle.definitions.proofs.ListLaws.{and-left, and-right, eqb-of, is-true, is-false, decide, clash, not-T}
+use Rattle.definitions.proofs.ListLaws.{drop-take, and-left, and-right, eqb-of, is-true, is-false, decide, clash, not-T}
 
 -- ---- what is left of a stretch
 -- the bytes of a text from place i to below another
@@ -161,12 +161,6 @@ next-part b k (x ∷ xs) h = go (eqb x b) (eqb b x) (eqb-flip x b) h (λ (l : 1 
         (omega (arith, n .0), f ∙ n .1, getD-onFirst-more x k (parts b xs) (parts-some b xs) ∙ n .2)
     go true false e h r = absurd (subst T e tt)
     go false true e h r = absurd (subst T (sym e) tt)
-
-drop-take : (k m : ℕ) (xs : List ℕ) → drop k (take m xs) ≡ take (m - k) (drop k xs)
-drop-take zero m xs = let e : m ≡ m - 0 = omega arith in ap (λ (n : ℕ). take n xs) e
-drop-take (suc k) zero xs = let e : 0 ≡ 0 - suc k = omega arith in ap (λ (n : ℕ). take n (drop (suc k) xs)) e
-drop-take (suc k) (suc m) [] = sym (take-nil (suc m - suc k))
-drop-take (suc k) (suc m) (x ∷ xs) = let e : m - k ≡ suc m - suc k = omega arith in drop-take k m xs ∙ ap (λ (n : ℕ). take n (drop k xs)) e
 
 -- field 0 of what is left ends at the next b; the others stand behind it
 pub field-first : (b : ℕ) (text : List ℕ) (i to r : ℕ) → i ≤ to → to ≤ length text → r ≡ i + before (eqb b) (between i to text) → between i r text ≡ getD (parts b (between i to text)) 0 []

@@ -13,7 +13,8 @@ use Rattle.definitions.specs.Orders.{start, listed}
 use Rattle.definitions.specs.Answers.{answer}
 use Rattle.definitions.specs.Emission.{Emitted, begin, emits}
 use Rattle.definitions.specs.Outcomes.{answersOf, answerSize, capacity}
-use Rattle.definitions.specs.Refusals.{lentOf, trayOf, gridOf, sidesOf, identifies, identifyOf}
+use Rattle.definitions.specs.Stripping.{frameOf}
+use Rattle.definitions.specs.Refusals.{lentOf, stripTray, trayOf, gridOf, sidesOf, identifies, identifyOf}
 use Rattle.definitions.specs.declared.Record.{Record}
 use Rattle.definitions.proofs.DemandLaws.{answer-length}
 use Rattle.definitions.proofs.EmissionLaws.{emits-page}
@@ -25,7 +26,7 @@ use Rattle.definitions.specs.declared.SolverKind.{SolverKind}
 -- ---- the page of a call
 module _ (engine : SolverKind) (t : Table) (board : Record) (bytes : List ℕ) (turned mirrored : Bool) (skip : ℕ) (answers work : List ℕ) where
   sized : (i : Identify) (x : List ℕ) → List·Memᴰ x (answersOf (trayIn (recordsOf t) board bytes) i engine) → length x ≡ 2 * volume (sidesOf board)
-  unfolding answersOf compile answerSize gridOf
+  unfolding answersOf compile answerSize stripTray frameOf gridOf
   sized i x m =
       let c = compile (trayIn (recordsOf t) board bytes) in
       let r = Memᴰ·of-map (answer c) (listed c i engine) m in

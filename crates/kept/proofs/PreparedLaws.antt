@@ -14,7 +14,7 @@ use Rattle.definitions.specs.Kinds.{Tray}
 use Rattle.definitions.specs.Placements.{Compiled, compile}
 use Rattle.definitions.specs.Kept.{symmetries}
 use Rattle.definitions.specs.Orders.{start}
-use Rattle.definitions.specs.Refusals.{Call, lentOf, trayOf, sidesOf, isSide, sidesFit, placementCount, refusal, pieceOf}
+use Rattle.definitions.specs.Refusals.{Call, lentOf, stripPiece, stripTray, trayOf, sidesOf, isSide, sidesFit, placementCount, refusal, pieceOf}
 use Rattle.definitions.specs.declared.Record.{Record}
 use Rattle.definitions.proofs.ListLaws.{and-left, and-right, keep-length, length-from, length-below}
 use Rattle.definitions.proofs.RefusalLaws.{passed, fit-volume}
@@ -80,11 +80,12 @@ module _ (t : Table) (board : Record) (bytes : List ℕ) (ok : Accepted9 t board
   system-lawful = lawful call passes (copies-many (trayOf call))
 
   pieces-few : length (owned (trayIn (recordsOf t) board bytes)) ≤ 16
-  unfolding owned
+  unfolding owned stripTray
   pieces-few =
       let a = passed call passes .lent .fewPieces in
       let b = length-map (recordsOf t) (pieceOf bytes) in
-      let c : length (owned tray) ≡ length (map (pieceOf bytes) (recordsOf t)) = length-map (map (pieceOf bytes) (recordsOf t)) _ in
+      let c = length-map (map (pieceOf bytes) (recordsOf t)) stripPiece in
+      let e : length (owned tray) ≡ length (tray .pieces) = length-map (tray .pieces) _ in
       omega arith
 
   -- ---- the slices that the system stands in

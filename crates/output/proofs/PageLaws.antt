@@ -16,10 +16,10 @@ use Rattle.definitions.specs.Outcomes.{Outcome, accepted, answersOf, answerSize
 use Rattle.definitions.specs.Orders.{listed}
 use Rattle.definitions.specs.Answers.{answer}
 use Rattle.definitions.specs.Placements.{compile}
-use Rattle.definitions.specs.Refusals.{Call, gridOf, identifyOf, isKnuth, refusal, sidesOf, table, lentOf, trayOf}
+use Rattle.definitions.specs.Refusals.{Call, identifyOf, isKnuth, refusal, sidesOf, table, lentOf, trayOf}
 use Rattle.definitions.specs.declared.Refusal.{Refusal}
 use Rattle.definitions.specs.declared.Listing.the-variants as listing
-use Rattle.definitions.proofs.DemandLaws.{demand3-holds, drop-in, take-in}
+use Rattle.definitions.proofs.DemandLaws.{demand3-holds, drop-in, take-in, box-lent}
 use Rattle.definitions.proofs.RefusalLaws.{outcome-accepted}
 use Rattle.placements.proofs.CountingLaws.{refused-some}
 use Rattle.kept.specs.Calls.{outcomeBehind}
@@ -63,10 +63,10 @@ page-some list skip room h k = let d = length-drop skip list in let t = length-t
 
 -- the answers of an accepted call have one size
 answers-sized : (l : Call) → refusal l ≡ 0 → (x : List ℕ) → List·Memᴰ x (answersOf (trayOf l) (identifyOf (l .config)) (l .config .solver)) → length x ≡ answerSize (sidesOf (l .board))
-unfolding answersOf demand3 lentOf trayOf gridOf
+unfolding answersOf demand3
 answers-sized l ok x m =
     let r = Memᴰ·of-map (answer (compile (trayOf l))) (listed (compile (trayOf l)) (identifyOf (l .config)) (l .config .solver)) m in
-    sym (ap length (r .2)) ∙ demand3-holds l ok .answerLength (r .0)
+    sym (ap length (r .2)) ∙ demand3-holds l ok .answerLength (r .0) ∙ ap answerSize (box-lent l)
 
 -- ---- a page of an accepted call
 -- n entries of a list stand in a buffer from entry `skip` on, as many as there is room for

@@ -18,12 +18,13 @@ use Rattle.definitions.specs.Scan.{axes, scan, scanNumber}
 use Rattle.definitions.specs.Kinds.{Tray, Form, Kind, kindNamed, kindsOf, variants, smallest, sorted, forms, copiesOf}
 use Rattle.definitions.specs.Placements.{origin, lies, fits, Placement, placementsAt, placementsOf, compile}
 use Rattle.definitions.specs.Packing.{limits}
+use Rattle.definitions.specs.Framing.{unframed}
 use Rattle.definitions.specs.Refusals.{Row, gridOf, sidesOf, sidesFit, cellsLie, boardCellCount, placementCount, linkCount, rowsOf, firstThatApplies}
 use Rattle.definitions.specs.Outcomes.{numberOf}
 use Rattle.definitions.specs.declared.Record.{Record}
 use Rattle.definitions.specs.declared.Config.{Config}
 use Rattle.definitions.specs.declared.Refusal.{Refusal}
-use Rattle.definitions.specs.declared.Refusal.the-variants.{TooManyPieces, SideOutOfRange, CellsOutsideBytes, CellNotZeroOrOne, PieceWithoutFilledCell, EmptyOuterLayer, TooManyCopies, TooManyBoardCells, MirroredWithoutTurned, EngineNotPorted, WorkTooShort, LinksTooShort, TooManyPlacements, TooManyLinks}
+use Rattle.definitions.specs.declared.Refusal.the-variants.{TooManyPieces, SideOutOfRange, CellsOutsideBytes, CellNotZeroOrOne, PieceWithoutFilledCell, TooManyCopies, TooManyBoardCells, MirroredWithoutTurned, EngineNotPorted, WorkTooShort, LinksTooShort, TooManyPlacements, TooManyLinks}
 use Rattle.definitions.proofs.ListLaws.{and-left, and-right, all-at, all-of, keep-at, holds, decide, clash, not-T, eqb-of, is-true, is-false}
 use Rattle.definitions.proofs.CountLaws.{total, total-one, howMany-length, sum-map}
 use Rattle.definitions.proofs.MapLaws.{turn-fits, filled-at, filled-length, map-map-of}
@@ -45,7 +46,8 @@ use Rattle.placements.specs.declared.Verdict.the-variants.{Refused}
 use Rattle.placements.specs.Tables.{noRecord, listed, recordsOf, lentIn}
 use Rattle.placements.specs.Stages.{verdictNumber, lentRows, gridRows, callRows}
 use Rattle.placements.specs.Merging.{Sound, gridAt, shapeAt, formAt, formsOf, AreKinds, copiesAt}
-use Rattle.placements.specs.Counting.{fitsIn, placementsIn, OnBoard, Accepted9}
+use Rattle.placements.specs.Counting.{fitsIn, placementsIn, OnBoard, Accepted9, CountsOf}
+use Rattle.placements.specs.declared.counting.Counts.{Counts}
 use Rattle.placements.proofs.RefusalLaws.{cells-end, record-passes}
 
 eqb-turned : (m n : ℕ) → eqb m n ≡ eqb n m
@@ -240,7 +242,6 @@ refused-some SideOutOfRange e = omega arith
 refused-some CellsOutsideBytes e = omega arith
 refused-some CellNotZeroOrOne e = omega arith
 refused-some PieceWithoutFilledCell e = omega arith
-refused-some EmptyOuterLayer e = omega arith
 refused-some TooManyCopies e = omega arith
 refused-some TooManyBoardCells e = omega arith
 refused-some MirroredWithoutTurned e = omega arith
@@ -299,7 +300,7 @@ unfolding Accepted9 lentRows gridRows
 lent-passes t board bytes ok =
     let rs = recordsOf t in
     let none : (n : ℕ) → testOf (lentRows rs board bytes) n ≡ false = none-applies (lentRows rs board bytes) tt ok in
-    let h = passed-lent rs board bytes (lentIn rs board bytes) (none 2) (none 3) (none 4) (none 5) (none 6) (none 7) (none 8) (none 9) in
+    let h = passed-lent rs board bytes (lentIn rs board bytes) (none 2) (none 3) (none 4) (none 5) (none 6) (none 8) (none 9) in
     record { few = few-records t (h .fewPieces); passed = h }
 
 -- ---- a tray's counts by a piece of each kind
@@ -327,7 +328,7 @@ module _ (t : Table) (board : Record) (bytes : List ℕ) (l : Lent t board bytes
   board-fits = (and-left (sidesFit board) (all sidesFit (recordsOf t)) (l .passed .sides), and-left (cellsLie bytes board) (all (cellsLie bytes) (recordsOf t)) (l .passed .lie))
 
   -- the grid of a lent record is whole
-  grid-size : (r : Record) → T (cellsLie bytes r) → length (gridOf bytes r .cells) ≡ volume (gridOf bytes r .sides)
+  pub grid-size : (r : Record) → T (cellsLie bytes r) → length (gridOf bytes r .cells) ≡ volume (gridOf bytes r .sides)
   unfolding gridOf
   grid-size r h = let k = cells-end bytes r h in length-take-le (volume (sidesOf r)) (drop (r .start) bytes) (simp length-drop (omega arith))
 
@@ -520,3 +521,10 @@ module _ (t : Table) (board : Record) (bytes : List ℕ) (l : Lent t board bytes
       ap (λ (m : ℕ). m + kinds + sum (map (linksAtPiece order g t bytes) (take kinds first))) (sym (cells-many order (gridOf bytes board) places n on))
       ∙ ap₂ (λ (o : List ℕ) (b : Grid). length (scan o (gridOf bytes board)) + kinds + sum (map (linksAtPiece o b t bytes) (take kinds first))) (sym (on .isOrder)) is
       ∙ sym (links-by-pieces t board bytes l long first kinds are h)
+
+-- ---- the frame decides no placement
+pub counts-unframed : (t : Tray) {s : Tray} {r : Counts} → s ≡ unframed t → CountsOf (compile s) r → CountsOf (compile t) r
+unfolding unframed compile kindsOf sorted placementCount linkCount rowsOf limits
+counts-unframed t {s} {r} e h =
+    let k = subst (λ (u : Tray). CountsOf (compile u) r) e h in
+    record { placements = k .placements; links = k .links }

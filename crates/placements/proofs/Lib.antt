@@ -3,4 +3,5 @@ pub mod RefusalLaws
 pub mod MergingLaws
 pub mod FittingLaws
 pub mod CountingLaws
+pub mod StrippingLaws
 pub mod AcceptedLaws

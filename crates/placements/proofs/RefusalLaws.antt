@@ -14,7 +14,7 @@ use lib.ListN.{length, getD, take, drop, length-drop, length-map, length-replica
 use lib.Seq.{length-take-le, drop-cons, getD-take}
 use Rattle.definitions.specs.Lists.{all, any, howMany, sum}
 use Rattle.definitions.specs.Grid.{Sides, Grid, volume}
-use Rattle.definitions.specs.Refusals.{sidesOf, gridOf, isSide, sidesFit, cellsLie, areBits, someFilled, isTight, copyCount, boardCellCount, row, pieceOf}
+use Rattle.definitions.specs.Refusals.{sidesOf, gridOf, isSide, sidesFit, cellsLie, areBits, someFilled, copyCount, boardCellCount, row, pieceOf}
 use Rattle.definitions.specs.declared.Record.{Record}
 use Rattle.definitions.proofs.ListLaws.{and-left, and-right, is-true, is-false, holds, any-at, howMany-any, howMany-pos}
 use Rattle.definitions.proofs.MapLaws.{map-map-of}
@@ -109,9 +109,6 @@ module _ (bytes : List ℕ) (r : Record) (cells : List ℕ) (e : cells ≡ gridO
   unfolding someFilled
   some-filled n h z = ap (any (eqb 1)) (sym e) ∙ is-true (any (eqb 1) cells) (howMany-any (eqb 1) cells (let l : 0 < n = omega arith in omega arith))
 
-  pub tight-told : (s : Coord) → asSides s ≡ sidesOf r → (b : Bool) → b ≡ isTight (asGrid s cells) → isTight (gridOf bytes r) ≡ b
-  tight-told s f b h = ap isTight (sym (grid-is bytes r s cells f e)) ∙ sym h
-
   -- bytes that are 0 or 1 add up to how many are 1
   pub cells-count : (n : ℕ) → n ≡ howMany (eqb 1) cells → areBits (gridOf bytes r) ≡ true → sum (gridOf bytes r .cells) ≡ n
   unfolding areBits
@@ -193,10 +190,9 @@ pub grid-rows : (rs : List Record) (board : Record) (bytes : List ℕ)
     → gridRows rs board bytes
     ≡ row 5 (not (areBits (gridOf bytes board) && all (λ q. areBits (gridOf bytes q)) rs)) ∷
     row 6 (not (all (λ q. someFilled (gridOf bytes q)) rs)) ∷
-    row 7 (not (all (λ q. isTight (gridOf bytes q)) rs)) ∷
     row 8 (ltb 128 (sum (map (λ q. q .count) rs))) ∷
     row 9 (ltb 128 (sum (gridOf bytes board .cells))) ∷
     []
 unfolding gridRows copyCount boardCellCount
 grid-rows rs board bytes =
-    rw (all-grids areBits bytes rs, all-grids someFilled bytes rs, all-grids isTight bytes rs, map-map-of (λ q. q .count) (pieceOf bytes) rs)
+    rw (all-grids areBits bytes rs, all-grids someFilled bytes rs, map-map-of (λ q. q .count) (pieceOf bytes) rs)

@@ -8,11 +8,12 @@ use Rattle.definitions.specs.Lists.{all, howMany, sum}
 use Rattle.definitions.specs.Grid.{Grid, volume}
 use Rattle.definitions.specs.Scan.{axes, scan}
 use Rattle.definitions.specs.Kinds.{variants}
-use Rattle.definitions.specs.Placements.{fits}
-use Rattle.definitions.specs.Refusals.{firstThatApplies}
+use Rattle.definitions.specs.Placements.{Compiled, fits}
+use Rattle.definitions.specs.Refusals.{placementCount, linkCount, firstThatApplies}
 use Rattle.definitions.specs.declared.Record.{Record}
 use Rattle.shape.specs.Places.{cellAt}
 use Rattle.placements.specs.declared.Table.{Table}
+use Rattle.placements.specs.declared.counting.Counts.{Counts}
 use Rattle.placements.specs.Tables.{recordsOf}
 use Rattle.placements.specs.Stages.{lentRows}
 
@@ -30,6 +31,11 @@ fitsIn order board grids = let cs = scan order board in let vs = map (scan order
 
 unfoldable pub placementsIn : List ℕ → Grid → Grid → ℕ
 placementsIn order board g = fitsIn order board (variants g)
+
+-- placements and links, as 14 and 15 count them
+pub record CountsOf (c : Compiled) (r : Counts) : Type 0 where
+  pub placements : r .placements ≡ placementCount c
+  pub links : r .links ≡ linkCount c
 
 -- rows 2 to 9 let a tray pass
 unfoldable pub Accepted9 : Table → Record → List ℕ → Type 0

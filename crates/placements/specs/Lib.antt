@@ -3,3 +3,4 @@ pub mod Stages
 pub mod Merging
 pub mod Fitting
 pub mod Counting
+pub mod Stripping

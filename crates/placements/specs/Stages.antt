@@ -6,7 +6,7 @@ use lib.Dec.{ltb}
 use lib.ListN.{length}
 use Rattle.definitions.specs.Lists.{all}
 use Rattle.definitions.specs.Placements.{Compiled}
-use Rattle.definitions.specs.Refusals.{Row, row, sidesFit, cellsLie, areBits, someFilled, isTight, copyCount, boardCellCount, isPorted, isKnuth, placementCount, linkCount}
+use Rattle.definitions.specs.Refusals.{Row, row, sidesFit, cellsLie, areBits, someFilled, copyCount, boardCellCount, isPorted, isKnuth, placementCount, linkCount}
 use Rattle.definitions.specs.Outcomes.{numberOf}
 use Rattle.definitions.specs.declared.Record.{Record}
 use Rattle.definitions.specs.declared.Config.{Config}
@@ -24,7 +24,6 @@ gridRows rs board bytes =
     let t = lentIn rs board bytes in
     row 5 (not (areBits (t .board) && all (λ q. areBits (q .grid)) (t .pieces))) ∷
     row 6 (not (all (λ q. someFilled (q .grid)) (t .pieces))) ∷
-    row 7 (not (all (λ q. isTight (q .grid)) (t .pieces))) ∷
     row 8 (ltb 128 (copyCount t)) ∷
     row 9 (ltb 128 (boardCellCount t)) ∷
     []

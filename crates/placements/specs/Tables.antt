@@ -5,7 +5,8 @@ use mathlib.Core.List.{List, map}
 use lib.Dec.{leb}
 use lib.ListN.{take, replicate}
 use Rattle.definitions.specs.Kinds.{Tray}
-use Rattle.definitions.specs.Refusals.{gridOf, pieceOf}
+use Rattle.definitions.specs.Stripping.{ownFrame}
+use Rattle.definitions.specs.Refusals.{gridOf, pieceOf, stripTray}
 use Rattle.definitions.specs.declared.Record.{Record}
 use Rattle.placements.specs.declared.Table.{Table}
 
@@ -21,9 +22,9 @@ listed false t = replicate (t .n) noRecord
 unfoldable pub recordsOf : Table → List Record
 recordsOf t = listed (leb (t .n) 16) t
 
--- the tray that records and a board lend, and the tray that is listed
+-- the tray that records and a board lend; and the tray that is listed, without empty outer layers
 abbrev pub lentIn : List Record → Record → List ℕ → Tray
-lentIn rs board bytes = record { board = gridOf bytes board; pieces = map (pieceOf bytes) rs }
+lentIn rs board bytes = record { board = gridOf bytes board; pieces = map (pieceOf bytes) rs; frame = ownFrame (gridOf bytes board) }
 
 abbrev pub trayIn : List Record → Record → List ℕ → Tray
-trayIn rs board bytes = lentIn rs board bytes
+trayIn rs board bytes = stripTray (lentIn rs board bytes)

@@ -1,10 +1,16 @@
 // The board's filled cells: the scan number of each place of its box.
 ghost use mathlib.Core.Path.{_≡_};
-ghost use mathlib.Core.List.{map};
+ghost use mathlib.Core.List.{_++_, map};
 ghost use Prim.Native.Nat.{_≤_};
 ghost use lib.Dec.{T, eqb, ltb};
-ghost use lib.ListN.{length, take, replicate};
+ghost use lib.ListN.{length, take, drop, replicate};
 ghost use Rattle.definitions.specs.Lists.{all, before, below};
+ghost use Rattle.definitions.specs.Grid.{volume};
+ghost use Rattle.definitions.specs.Stripping.{FitsIn};
+ghost use Rattle.shape.specs.Coords.{asSides, asCell, Fit};
+ghost use Rattle.placements.specs.Stripping.{lentPlace};
+use shape::Coord;
+use shape::cells;
 
 fn fill(numbers: &mut [u8], n: u8)
     ensures { λ _. ⌜ now (numbers .exit) ≡ replicate (length (now (numbers .entry))) n ⌝ }
@@ -27,5 +33,19 @@ pub fn number_places(places: &[u16], n: usize, numbers: &mut [u8])
         k -= 1;
         let i = places[k] as usize;
         numbers[i] = k as u8;
+    }
+}
+
+// The first n places of a box become those of the same cells in the lent box, in which its corner lies at a cell.
+pub fn put_back(places: &mut [u16], n: usize, s: Coord, at: Coord, lent: Coord)
+    requires { ⌜ (n ≤ length (now places)) × T (all (λ i. ltb i (volume (asSides s))) (take n (now places))) × Fit (asSides lent) × FitsIn (record { lent = asSides lent; at = asCell at }) (asSides s) ⌝ }
+    ensures { λ _. ⌜ now (places .exit) ≡ map (lentPlace (asSides s) (record { lent = asSides lent; at = asCell at })) (take n (now (places .entry))) ++ drop n (now (places .entry)) ⌝ }
+{
+    let mut i = 0;
+    while i < n {
+        let u = cells::cell_at(s, places[i] as usize);
+        let v = Coord(at.0 + u.0, at.1 + u.1, at.2 + u.2);
+        places[i] = cells::place(lent, v) as u16;
+        i += 1;
     }
 }

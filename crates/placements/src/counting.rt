@@ -4,20 +4,21 @@ ghost use mathlib.Core.List.{_++_};
 ghost use Prim.Native.Nat.{_≤_, _*_};
 ghost use lib.ListN.{length, take};
 ghost use Rattle.definitions.specs.Placements.{compile};
-ghost use Rattle.definitions.specs.Refusals.{gridOf, placementCount, linkCount, firstThatApplies};
+ghost use Rattle.definitions.specs.Refusals.{gridOf, firstThatApplies};
 ghost use Rattle.shape.specs.Grids.{asGrid, Whole};
 ghost use Rattle.shape.specs.Variants.{turnedBy};
 ghost use Rattle.shape.specs.Scans.{asOrder};
 ghost use Rattle.placements.specs.Tables.{recordsOf, lentIn, trayIn};
 ghost use Rattle.placements.specs.Stages.{verdictNumber, lentRows, callRows, countRows};
 ghost use Rattle.placements.specs.Merging.{AreKinds};
-ghost use Rattle.placements.specs.Counting.{fitsIn, placementsIn, OnBoard, Accepted9};
+ghost use Rattle.placements.specs.Counting.{fitsIn, placementsIn, OnBoard, Accepted9, CountsOf};
 use super::Table;
 use super::Verdict;
 use super::fitting;
 use super::merging;
 use super::records;
 use super::refusals;
+use super::stripping;
 use definitions::Config;
 use definitions::Record;
 use definitions::Refusal;
@@ -90,7 +91,7 @@ pub fn count_tray(
     order: AxisOrder,
 ) -> Counts
     requires { ⌜ Accepted9 t board (now bytes) × AreKinds t (now bytes) (now first) kinds × (kinds ≤ length (now first)) × OnBoard (asOrder order) (gridOf (now bytes) board) (now places) n ⌝ }
-    ensures { λ r. ⌜ (r .placements ≡ placementCount (compile (lentIn (recordsOf t) board (now (bytes .entry))))) × (r .links ≡ linkCount (compile (lentIn (recordsOf t) board (now (bytes .entry))))) ⌝ }
+    ensures { λ r. ⌜ CountsOf (compile (lentIn (recordsOf t) board (now (bytes .entry)))) r ⌝ }
 {
     let b = records::sides_of(board);
     let grid = records::cells_of(bytes, board);
@@ -111,10 +112,10 @@ pub fn count_tray(
     Counts { placements, links }
 }
 
-// Rows 14 and 15, of a tray that rows 2 to 9 let pass.
-pub fn refusal_of_counts(t: Table, board: Record, bytes: &[u8], config: Config) -> Verdict
+// The counts of grids as they are lent.
+fn count_lent(t: Table, board: Record, bytes: &[u8]) -> Counts
     requires { ⌜ Accepted9 t board (now bytes) ⌝ }
-    ensures { λ r. ⌜ verdictNumber r ≡ firstThatApplies (countRows (compile (trayIn (recordsOf t) board (now (bytes .entry)))) config) ⌝ }
+    ensures { λ r. ⌜ CountsOf (compile (lentIn (recordsOf t) board (now (bytes .entry)))) r ⌝ }
 {
     let s = records::sides_of(board);
     let order = scan::plan_axis_order(s);
@@ -122,7 +123,27 @@ pub fn refusal_of_counts(t: Table, board: Record, bytes: &[u8], config: Config) 
     let n = scan::plan_coords(records::cells_of(bytes, board), s, order, &mut places);
     let mut first = [0u8; 16];
     let kinds = merging::merge(t, bytes, &mut first);
-    let counts = count_tray(t, bytes, board, &first, kinds, &places, n, order);
+    count_tray(t, bytes, board, &first, kinds, &places, n, order)
+}
+
+// The counts of a tray that rows 2 to 9 let pass: those of its stripped grids.
+pub fn counts_of(t: Table, board: Record, bytes: &[u8]) -> Counts
+    requires { ⌜ Accepted9 t board (now bytes) ⌝ }
+    ensures { λ r. ⌜ CountsOf (compile (trayIn (recordsOf t) board (now (bytes .entry)))) r ⌝ }
+{
+    let mut cells = [0u8; stripping::ROOM];
+    let s = stripping::strip_tray(t, board, bytes, &mut cells);
+    let table = s.table;
+    let stripped = s.board;
+    count_lent(table, stripped, &cells)
+}
+
+// Rows 14 and 15, of a tray that rows 2 to 9 let pass.
+pub fn refusal_of_counts(t: Table, board: Record, bytes: &[u8], config: Config) -> Verdict
+    requires { ⌜ Accepted9 t board (now bytes) ⌝ }
+    ensures { λ r. ⌜ verdictNumber r ≡ firstThatApplies (countRows (compile (trayIn (recordsOf t) board (now (bytes .entry)))) config) ⌝ }
+{
+    let counts = counts_of(t, board, bytes);
     if 1024 < counts.placements {
         return Verdict::Refused(Refusal::TooManyPlacements);
     }

@@ -8,6 +8,7 @@ pub mod fitting;
 pub mod merging;
 pub mod records;
 pub mod refusals;
+pub mod stripping;
 
 // The records of the pieces by value, and how many there are.
 #[repr(C)]

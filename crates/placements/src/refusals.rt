@@ -1,11 +1,10 @@
 // The table of refusals, rows 2 to 13. Each test over all grids is a function with one loop.
 ghost use mathlib.Core.Path.{_≡_};
-ghost use mathlib.Core.Bool.{_&&_};
 ghost use mathlib.Core.List.{_∷_, map};
 ghost use Prim.Native.Nat.{_≤_, _<_};
 ghost use lib.Dec.{T};
 ghost use Rattle.definitions.specs.Lists.{all, sum};
-ghost use Rattle.definitions.specs.Refusals.{gridOf, sidesFit, cellsLie, areBits, someFilled, isTight, firstThatApplies};
+ghost use Rattle.definitions.specs.Refusals.{gridOf, sidesFit, cellsLie, areBits, someFilled, firstThatApplies};
 ghost use Rattle.placements.specs.Tables.{recordsOf};
 ghost use Rattle.placements.specs.Stages.{verdictNumber, gridRows, lentRows, callRows};
 use super::Table;
@@ -85,23 +84,6 @@ fn all_filled(t: Table, bytes: &[u8]) -> bool
     true
 }
 
-// 7
-fn all_tight(t: Table, bytes: &[u8]) -> bool
-    requires { ⌜ (t .n ≤ 16) × T (all sidesFit (recordsOf t)) × T (all (cellsLie (now bytes)) (recordsOf t)) ⌝ }
-    ensures { λ r. ⌜ r ≡ all (λ q. isTight (gridOf (now (bytes .entry)) q)) (recordsOf t) ⌝ }
-{
-    let n = t.n;
-    let mut i = 0;
-    while i < n {
-        let p = t.rows[i];
-        if !grids::is_tight(records::cells_of(bytes, p), records::sides_of(p)) {
-            return false;
-        }
-        i += 1;
-    }
-    true
-}
-
 // 8: a sum of 16 numbers of 32 bits.
 fn copies_lent(t: Table) -> u64
     requires { ⌜ t .n ≤ 16 ⌝ }
@@ -153,9 +135,6 @@ fn refusal_of_grids(t: Table, board: Record, bytes: &[u8]) -> Verdict
     }
     if !all_filled(t, bytes) {
         return Verdict::Refused(Refusal::PieceWithoutFilledCell);
-    }
-    if !all_tight(t, bytes) {
-        return Verdict::Refused(Refusal::EmptyOuterLayer);
     }
     if 128 < copies_lent(t) {
         return Verdict::Refused(Refusal::TooManyCopies);

@@ -13,7 +13,7 @@ use Rattle.definitions.specs.Scan.{scanNumber}
 use Rattle.definitions.specs.Kinds.{Tray, Piece, Form, pieceForm, sameForm, formAhead, Sorted, sortPiece, Copy, Kind, sorted, forms, copiesOfPiece, copiesOf, kindNamed, kindsOf}
 use Rattle.definitions.specs.Placements.{Placement, compile}
 use Rattle.definitions.specs.Packing.{Packing, limits}
-use Rattle.definitions.specs.Answers.{Taken, takes, taken, copyOn, answer}
+use Rattle.definitions.specs.Answers.{Taken, takes, taken, copyOn, answer, twoBytes, lentCells}
 use Rattle.definitions.specs.Refusals.{Call, trayOf, refusal}
 use Rattle.definitions.proofs.ListLaws.{sort-ascending, eqb-of, numbered-map}
 use Rattle.definitions.proofs.MapLaws.{map-map-of}
@@ -92,8 +92,8 @@ module _ (t : Tray) where
   pub same-answer : (P : List Placement) → answerBy (systemOf t) P ≡ answer (compile t) P
   unfolding answerBy systemOf answersOver answer
   same-answer P =
-      each-of-map (scanNumber (compile t .cells)) (λ n. let d = copyOn (takenBy (owned t) (length (limits (compile t))) P) n in d .piece ∷ d .copy ∷ []) (box (compile t .board .sides))
-      ∙ ap (λ (ts : List Taken). each (box (compile t .board .sides)) (λ u. let d = copyOn ts (scanNumber (compile t .cells) u) in d .piece ∷ d .copy ∷ [])) (taken-same P)
+      each-of-map (scanNumber (lentCells (compile t))) (λ n. let d = copyOn (takenBy (owned t) (length (limits (compile t))) P) n in d .piece ∷ d .copy ∷ []) (box (compile t .frame .lent))
+      ∙ ap (λ (ts : List Taken). each (box (compile t .frame .lent)) (twoBytes ts (lentCells (compile t)))) (taken-same P)
 
   pub copies-many : (k : ℕ) → k < length (compile t .kinds) → length (copiesBy (owned t) k) ≡ getD (limits (compile t)) k 0
   unfolding compile limits kindsOf

@@ -2,29 +2,33 @@
 use Prim.Native.Nat.{ℕ, suc, _+_, _≤_, _<_}
 use mathlib.Core.Bool.{Bool, true, false, cond}
 use mathlib.Core.List.{List, [], _∷_, map, List·Memᴰ, Memᴰ·cast, Memᴰ·map}
-use mathlib.Core.Path.{_≡_, refl, sym, ap, _∙_, subst}
+use mathlib.Core.Path.{_≡_, refl, sym, ap, _∙_}
 use native.Mathlib.Omega.{arith}
 use lib.Dec.{T, ltb}
 use lib.ListN.{length, getD, length-map, length-append}
 use Rattle.definitions.specs.Lists.{consIf, all, keep, each, below, numberedFrom, member, ascending, sum}
-use Rattle.definitions.specs.Grid.{Grid, Cell, box, filledCells}
+use Rattle.definitions.specs.Grid.{Cell, setDown, box}
 use Rattle.definitions.specs.Maps.{identity}
 use Rattle.definitions.specs.Scan.{scanNumber}
+use Rattle.definitions.specs.Stripping.{strip}
+use Rattle.definitions.specs.Answers.{lentCells}
 use Rattle.definitions.specs.Kinds.{Piece, Form, sameForm, formAhead, Sorted, sortPiece, Copy, Kind, sorted, forms, copiesOf, kindsOf}
 use Rattle.definitions.specs.Placements.{Placement, Compiled, compile}
 use Rattle.definitions.specs.Packing.{limits}
 use Rattle.definitions.specs.Kept.{kindAfter}
-use Rattle.definitions.specs.Refusals.{Call, lentOf, trayOf, copyCount, boardCellCount, placementCount, refusal}
+use Rattle.definitions.specs.Refusals.{Call, lentOf, stripTray, trayOf, copyCount, boardCellCount, placementCount, refusal}
 use Rattle.definitions.proofs.ListLaws.{keep-at, keep-of, keep-ascending, below-of, from-ascending, member-at, member-of, ltb-trans, ltb-irrefl, ascending-unique, and-right, not-again, length-below, apart-ascending, apart-length, is-false}
 use Rattle.definitions.proofs.CountLaws.{total, total-add, total-zero, total-same, sum-map}
-use Rattle.definitions.proofs.GroupLaws.{identity-grid}
 use Rattle.definitions.proofs.MapLaws.{map-map-of, box-of}
 use Rattle.definitions.proofs.EngineLaws.{sort-at}
 use Rattle.definitions.proofs.RefusalLaws.{PassedLent, passed}
-use Rattle.definitions.proofs.ShapeLaws.{sum-filled, scan-length}
+use Rattle.definitions.proofs.ShapeLaws.{scan-length, lent-board-whole}
+use Rattle.definitions.proofs.StrippingLaws.{strip-count, sum-bits}
+use Rattle.definitions.proofs.AnswerLaws.{set-number, in-lent}
+use Rattle.definitions.proofs.DemandLaws.{copies-lent}
 use Rattle.definitions.proofs.PartnerLaws.{sameForm→eq, form-trans, form-irrefl, fs, fs-up}
 use Rattle.definitions.proofs.SetDownLaws.{placement-once}
-use Rattle.definitions.proofs.GeometryLaws.{piece-whole, W, whole, numbered-cells, in-box}
+use Rattle.definitions.proofs.GeometryLaws.{piece-whole, W, numbered-cells, in-box}
 use Rattle.rows.specs.Rows.{spread}
 use Rattle.rows.specs.Systems.{owned, systemOf, kindBy}
 use Rattle.rows.specs.Answering.{copiesBy}
@@ -98,13 +102,13 @@ module _ (l : Call) (ok : refusal l ≡ 0) where
   tested = passed l ok .lent
 
   pub few-cells : length (compile (trayOf l) .cells) ≤ 128
-  unfolding compile boardCellCount trayOf
+  unfolding compile boardCellCount stripTray trayOf
   few-cells =
-      let g = trayOf l .board in
+      let g = lentOf l .board in
       let a = tested .fewCells in
-      let b : sum (g .cells) ≡ length (filledCells g) =
-      subst (λ (h : Grid). sum (h .cells) ≡ length (filledCells h)) (identity-grid g (whole l ok)) (sum-filled identity g (tested .boardBits)) in
-      let c = scan-length (g .sides) g in
+      let b = sum-bits g (tested .boardBits) (lent-board-whole l ok) in
+      let c = strip-count g in
+      let d = scan-length (strip g .sides) (strip g) in
       omega arith
 
   pub few-rows : length (compile (trayOf l) .placements) ≤ 1024
@@ -112,7 +116,7 @@ module _ (l : Call) (ok : refusal l ≡ 0) where
   few-rows = passed l ok .fewPlacements
 
   pub few-kinds : length (compile (trayOf l) .kinds) ≤ 16
-  unfolding compile kindsOf lentOf trayOf fs forms sorted
+  unfolding compile kindsOf lentOf stripTray trayOf fs forms sorted
   few-kinds =
       let a = tested .fewPieces in
       let qs = sorted (trayOf l) in
@@ -120,14 +124,15 @@ module _ (l : Call) (ok : refusal l ≡ 0) where
       (λ g m. sort-at formAhead (map (λ (q : Sorted). q .form) qs) m) in
       let c = length-map qs (λ (q : Sorted). q .form) in
       let d = length-numbered {B = Sorted} sortPiece 0 (trayOf l .pieces) in
-      let e : length (trayOf l .pieces) ≡ length (l .pieces) = length-map (l .pieces) _ in
+      let e : length (trayOf l .pieces) ≡ length (l .pieces) = length-map (lentOf l .pieces) _ ∙ length-map (l .pieces) _ in
       let f : length (C .kinds) ≡ length (forms qs) = length-map (forms qs) _ in
       omega arith
 
   pub few-copies : sum (limits (compile (trayOf l))) ≤ 128
-  unfolding compile limits kindsOf copyCount trayOf fs sorted
+  unfolding compile limits kindsOf copyCount fs sorted
   few-copies =
       let a = tested .fewCopies in
+      let e = copies-lent l ok in
       let qs = sorted (trayOf l) in
       let b = copies-all (forms qs) (fs-up (trayOf l) (piece-whole l ok)) qs in
       let c = counts-same 0 (trayOf l .pieces) in
@@ -145,11 +150,13 @@ module _ (l : Call) (ok : refusal l ≡ 0) where
           let e = spread-cells (q .cells) (W l ok .cellsAscend q m) (λ n k. let a = W l ok .onBoard q m n k in let b = few-cells in omega arith) in
           (λ i. record { kind = q .kind; p = q .p; j = q .j; cells = e i })
 
-  -- ---- each cell has a place in the board's box
-  scanned-cell : (n : ℕ) → n < length (compile (trayOf l) .cells) → List·Memᴰ n (map (scanNumber (compile (trayOf l) .cells)) (box (compile (trayOf l) .board .sides)))
+  -- ---- each cell has a place in the box that was lent
+  scanned-cell : (n : ℕ) → n < length (compile (trayOf l) .cells) → List·Memᴰ n (map (scanNumber (lentCells (compile (trayOf l)))) (box (compile (trayOf l) .frame .lent)))
   scanned-cell n h =
       let u : Cell = getD (C .cells) n (record { x = 0; y = 0; z = 0 }) in
-      Memᴰ·cast (sym (numbered-cells l ok .number-cell n h)) (Memᴰ·map (scanNumber (C .cells)) (box-of (C .board .sides) u (in-box l ok u (numbered-cells l ok .cell-in n h))))
+      let v = setDown (C .frame .at) u in
+      Memᴰ·cast (sym (set-number (C .frame .at) (C .cells) u ∙ numbered-cells l ok .number-cell n h))
+      (Memᴰ·map (scanNumber (lentCells C)) (box-of (C .frame .lent) v (in-lent l ok u (in-box l ok u (numbered-cells l ok .cell-in n h)))))
 
   -- ---- the system
   pub lawful : ((k : ℕ) → k < length (compile (trayOf l) .kinds) → length (copiesBy (owned (trayOf l)) k) ≡ getD (limits (compile (trayOf l))) k 0) → Lawful (systemOf (trayOf l))

@@ -51,7 +51,7 @@ pub record Lawful (s : System) : Type 0 where
   pub fewKinds : length (s .copies) ≤ 16
   pub aPartnerEach : length (s .partners) ≡ length (s .copies)
   pub fewCopies : sum (s .copies) ≤ 128
-  -- each cell has a place in the board's box
+  -- each cell has a place in the box in which answers are written
   pub scanned : (c : ℕ) → c < s .size → List·Memᴰ c (s .scans)
   -- rows
   pub inOrder : T (ascending ahead (s .rows))

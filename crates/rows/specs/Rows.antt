@@ -1,11 +1,12 @@
 -- Rows: the placements of a tray as words of the work slice, 8 words for each row: its cells as a mask of two words, its kind, p, j, and the next row with
 -- the same p (Chains). Two words are free.
 use Prim.Native.Nat.{ℕ, _+_, _*_}
-use mathlib.Core.List.{List, [], _∷_, _++_, map}
+use mathlib.Core.List.{List, _++_, map}
 use mathlib.Core.Path.{_≡_}
+use lib.Dec.{T, ltb}
 use lib.ListN.{length, getD, drop}
-use Rattle.definitions.specs.Lists.{keep, below, member}
-use Rattle.definitions.specs.Placements.{Placement}
+use Rattle.definitions.specs.Lists.{all, keep, below, member}
+use Rattle.definitions.specs.Placements.{Placement, Compiled}
 use Rattle.masks.specs.Masks.{has}
 use Rattle.masks.specs.declared.Mask.{Mask}
 
@@ -32,6 +33,11 @@ rowsIn work n = map (rowAt work) (below n)
 -- a placement as a row gives it back: its cells ascending, each once. (A tray's placements have them so: SystemLaws.)
 unfoldable pub spread : Placement → Placement
 spread q = record { kind = q .kind; p = q .p; j = q .j; cells = keep (λ n. member n (q .cells)) (below 128) }
+
+-- rows can hold a tray's placements: a row gives each back, and its p is one of 128 cells
+pub record RowsFit (c : Compiled) : Type 0 where
+  pub spreads : map spread (c .placements) ≡ c .placements
+  pub first : T (all (λ q. ltb (q .p) 128) (c .placements))
 
 -- where n rows stood there are now m: the same, and behind them those of a list; the words behind are as they were
 pub record Appended (old : List ℕ) (n : ℕ) (new : List ℕ) (m : ℕ) (qs : List Placement) : Type 0 where

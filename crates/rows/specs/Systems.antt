@@ -9,6 +9,7 @@ use Rattle.definitions.specs.Lists.{below, from, before, sort, same}
 use Rattle.definitions.specs.Grid.{box}
 use Rattle.definitions.specs.Maps.{Map, mapCell, turns, mirrorings}
 use Rattle.definitions.specs.Scan.{scanNumber}
+use Rattle.definitions.specs.Answers.{lentCells}
 use Rattle.definitions.specs.Kinds.{Tray, pieceForm, sameForm, sorted, forms}
 use Rattle.definitions.specs.Placements.{Placement, Compiled, compile}
 use Rattle.definitions.specs.Packing.{limits}
@@ -31,7 +32,7 @@ pub record System : Type 0 where
   -- for each allowed turn, and each allowed mirroring, where it takes each cell, by scan numbers
   pub turned : List (List ℕ)
   pub mirrored : List (List ℕ)
-  -- the scan number of each cell of the board's box (the number of filled cells where it is unfilled)
+  -- the scan number of each cell of the box that was lent, in which answers are written (the number of filled cells where it is unfilled)
   pub scans : List ℕ
   pub pieces : List Owned
 
@@ -53,7 +54,7 @@ systemOf t =
       partners = map (λ d. d .partner) (c .kinds);
       turned = map (cellImages c) (symmetries (c .board) turns);
       mirrored = map (cellImages c) (symmetries (c .board) mirrorings);
-      scans = map (scanNumber (c .cells)) (box (c .board .sides));
+      scans = map (scanNumber (lentCells c)) (box (c .frame .lent));
       pieces = owned t;
     }
 

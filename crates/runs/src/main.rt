@@ -34,6 +34,7 @@ fn main() {
     list(b"woods.tray");
     list(b"woods_handed.tray");
     list(b"wood_256.tray");
+    list(b"empty_layers.tray");
     list(b"side_8.tray");
     list(b"side_9.tray");
     list(b"too_many_links.tray");

@@ -1,5 +1,5 @@
--- Grids: how numbers, sides and grids compare, the cells of a box by their places, and filled layers. Assumes nothing.
-use Prim.Native.Nat.{ℕ, zero, suc, _+_, _-_, _≤_, _<_}
+-- Grids: how numbers, sides and grids compare, and the cells of a box by their places. Assumes nothing.
+use Prim.Native.Nat.{ℕ, zero, suc, _+_, _≤_, _<_}
 use mathlib.Core.Bool.{Bool, true, false, cond, not, _&&_, _||_}
 use mathlib.Core.List.{List, [], _∷_, map, List·Memᴰ}
 use mathlib.Core.Path.{_≡_, refl, sym, ap, ap₂, _∙_, subst}
@@ -7,26 +7,25 @@ use mathlib.Core.Logic.{_⊎_, inl, inr}
 use native.Mathlib.Numerals.{add-one}
 use native.Mathlib.Omega.{arith}
 use borrow.Author.Tests.{lt-ltb, le-ltb, eq-eqb, ne-eqb, eqb-true, eqb-false}
-use lib.Dec.{T, ltb, eqb, eqb→eq, eqb·suc-suc}
+use lib.Dec.{T, ltb, eqb}
 use lib.ListN.{length, getD, drop, drop-of-length-le}
 use lib.Seq.{drop-cons}
-use Rattle.definitions.specs.Lists.{consIf, all, any, keep, howMany, less, same, from, below}
-use Rattle.definitions.specs.Grid.{Sides, Cell, Grid, box, volume, placeOf, byteAt, filledCells, sidesThenCells, sameGrid, gridAhead}
-use Rattle.definitions.specs.Maps.{maps, turns, transform, parity, permutations, mapOf, identity, mapSides, mapGrid, side, coordinate}
-use Rattle.definitions.specs.Refusals.{filledWhere, isTight}
-use Rattle.definitions.proofs.ListLaws.{length-below, any-at, holds, decide}
+use Rattle.definitions.specs.Lists.{all, howMany, less, same, from, below}
+use Rattle.definitions.specs.Grid.{Sides, Cell, Grid, box, volume, placeOf, byteAt, sidesThenCells, sameGrid, gridAhead}
+use Rattle.definitions.specs.Maps.{maps, turns, transform, parity, permutations, mapOf, identity, mapSides, mapGrid}
+use Rattle.definitions.proofs.ListLaws.{length-below, holds, decide}
 use Rattle.definitions.proofs.NameLaws.{StrictOrder, ahead-other}
 use Rattle.definitions.proofs.PartnerLaws.{grids-ordered}
-use Rattle.definitions.proofs.MapLaws.{map-map-of, box-at, filled-at, mapped-sides}
+use Rattle.definitions.proofs.MapLaws.{map-map-of, box-at, mapped-sides}
 use Rattle.definitions.proofs.MoveLaws.{mapped-whole}
-use Rattle.definitions.proofs.GroupLaws.{map-same, bytes-whole, coordinate-below, identity-grid, sameGrid→eq}
+use Rattle.definitions.proofs.GroupLaws.{map-same, bytes-whole, identity-grid, sameGrid→eq}
 use Rattle.shape.specs.Coords.{asSides, Fit}
 use Rattle.shape.specs.Places.{cellAt}
-use Rattle.shape.specs.Grids.{Decided, Whole, orderBy, numberOrder, sideList, sidesOrder, gridOrder, endsFilled}
+use Rattle.shape.specs.Grids.{Decided, Whole, orderBy, numberOrder, sideList, sidesOrder, gridOrder}
 use Rattle.shape.specs.declared.Coord.{Coord}
 use Rattle.shape.specs.declared.Ordering.{Ordering}
 use Rattle.shape.specs.declared.Ordering.the-variants.{Less, Equal, Greater}
-use Rattle.shape.proofs.PlaceLaws.{cell-at-place, place-lt, place-of-cell, map-volume}
+use Rattle.shape.proofs.PlaceLaws.{cell-at-place, place-lt, map-volume}
 
 -- ---- as many bytes as cells
 pub whole-test : (s : Coord) (cells : List ℕ) (v : ℕ) → Fit (asSides s) → v ≡ volume (asSides s) → Decided (eqb (length cells) v) (Whole s cells)
@@ -275,70 +274,3 @@ box-places s =
     back u m =
         let b = box-at s u m in
         sym (cell-at-place s u b) ∙ ap (cellAt s) (sym (getD-from 0 (volume s) (placeOf s u) (place-lt s u b) ∙ omega arith))
-
--- ---- filled layers: the filled cells from place i on, n of them
-keep-any : {A : Type 0} (q p : A → Bool) (x : A) (xs : List A) → any p (keep q (x ∷ xs)) ≡ (q x && p x) || any p (keep q xs)
-keep-any q p x xs = go (q x)
-  where
-    go : (b : Bool) → any p (consIf b x (keep q xs)) ≡ (b && p x) || any p (keep q xs)
-    go true = refl
-    go false = refl
-
-module _ (s : Sides) (cells : List ℕ) (p : Cell → Bool) where
-  abbrev pub filledFrom : ℕ → ℕ → Bool
-  filledFrom i n = any p (keep (λ u. eqb (byteAt (record { sides = s; cells = cells }) u) 1) (map (cellAt s) (from i n)))
-
-  pub filled-from : length cells ≡ volume s → filledWhere (record { sides = s; cells = cells }) p ≡ filledFrom 0 (length cells)
-  unfolding filledWhere filledCells
-  filled-from e = ap (λ (l : List Cell). any p (keep (λ u. eqb (byteAt (record { sides = s; cells = cells }) u) 1) l)) (box-places s ∙ ap (λ (n : ℕ). map (cellAt s) (below n)) (sym e))
-
-  -- one more place
-  filled-more : (i : ℕ) → i < length cells
-      → filledFrom i (length cells - i) ≡ (eqb (getD cells i 0) 1 && p (cellAt s i)) || filledFrom (i + 1) (length cells - (i + 1))
-  unfolding byteAt
-  filled-more i h =
-      ap (filledFrom i) (let e : length cells - i ≡ suc (length cells - (i + 1)) = omega arith in e)
-      ∙ keep-any (λ u. eqb (byteAt (record { sides = s; cells = cells }) u) 1) p (cellAt s i) (map (cellAt s) (from (suc i) (length cells - (i + 1))))
-      ∙ ap₂ (λ (k j : ℕ). (eqb (getD cells k 0) 1 && p (cellAt s i)) || filledFrom j (length cells - (i + 1))) (place-of-cell s i) (sym (add-one i))
-
-  pub filled-found : (i : ℕ) → i < length cells → getD cells i 0 ≡ 1 → p (cellAt s i) ≡ true → filledFrom i (length cells - i) ≡ true
-  filled-found i h e f =
-      filled-more i h ∙ ap₂ (λ (x y : Bool). (x && y) || filledFrom (i + 1) (length cells - (i + 1))) (eq-eqb (getD cells i 0) 1 e) f
-
-  pub filled-passed : (i : ℕ) → i < length cells → (getD cells i 0 ≡ 1 → p (cellAt s i) ≡ false)
-      → filledFrom i (length cells - i) ≡ filledFrom (i + 1) (length cells - (i + 1))
-  filled-passed i h f = filled-more i h ∙ go (eqb (getD cells i 0) 1) refl
-    where
-      go : (b : Bool) → eqb (getD cells i 0) 1 ≡ b → (b && p (cellAt s i)) || filledFrom (i + 1) (length cells - (i + 1)) ≡ filledFrom (i + 1) (length cells - (i + 1))
-      go true e = ap (λ (y : Bool). y || filledFrom (i + 1) (length cells - (i + 1))) (f (eqb-true (getD cells i 0) 1 e))
-      go false e = refl
-
--- a layer with a filled cell: the box has that side
-pub layer-side : (g : Grid) (axis k : ℕ) → filledWhere g (λ u. eqb (coordinate u axis) k) ≡ true → k < side (g .sides) axis
-unfolding filledWhere
-layer-side g axis k e =
-    let r = any-at (λ (u : Cell). eqb (coordinate u axis) k) (filledCells g) (holds (any (λ u. eqb (coordinate u axis) k) (filledCells g)) e) in
-    let b = coordinate-below (g .sides) (r .0) (filled-at g (r .0) (r .1) .0) axis in
-    let q = eqb→eq (coordinate (r .0) axis) k (r .2) in
-    omega arith
-
--- the last layer, by its coordinate
-pub last-layer : (g : Grid) (axis n : ℕ) → 0 < n → filledWhere g (λ u. eqb (coordinate u axis) (n - 1)) ≡ filledWhere g (λ u. eqb (coordinate u axis + 1) n)
-last-layer g axis n h = ap (filledWhere g) (λ i u. tests (coordinate u axis) i)
-  where
-    tests : (k : ℕ) → eqb k (n - 1) ≡ eqb (k + 1) n
-    tests k = let e : n ≡ suc (n - 1) = omega arith in sym (ap₂ eqb (add-one k) e ∙ eqb·suc-suc k (n - 1))
-
-pub tight-ends : (g : Grid) → isTight g ≡ endsFilled g 0 && (endsFilled g 1 && endsFilled g 2)
-unfolding isTight endsFilled coordinate side
-tight-ends g =
-    and-assoc (F (λ u. eqb (u .x) 0)) (F (λ u. eqb (u .x + 1) (g .sides .a))) _
-    ∙ ap (λ (b : Bool). (F (λ u. eqb (u .x) 0) && F (λ u. eqb (u .x + 1) (g .sides .a))) && b)
-    (and-assoc (F (λ u. eqb (u .y) 0)) (F (λ u. eqb (u .y + 1) (g .sides .b))) _)
-  where
-    F : (Cell → Bool) → Bool
-    F = filledWhere g
-
-    and-assoc : (x y z : Bool) → x && (y && z) ≡ (x && y) && z
-    and-assoc true y z = refl
-    and-assoc false y z = refl

@@ -3,3 +3,4 @@ pub mod MapTableLaws
 pub mod GridLaws
 pub mod ScanLaws
 pub mod VariantLaws
+pub mod StrippingLaws

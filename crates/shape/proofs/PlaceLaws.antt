@@ -1,21 +1,20 @@
 -- Places and cells: mixed radix, x slowest, z fastest; and what the 48 maps do to places, sides and volumes. Assumes nothing.
-use Prim.Native.Nat.{ℕ, zero, suc, _+_, _*_, _/_, _%_, _≤_, _<_}
+use Prim.Native.Nat.{ℕ, _+_, _*_, _/_, _%_, _≤_, _<_}
 use mathlib.Core.Bool.{Bool, true, false, cond}
-use mathlib.Core.List.{List, [], _∷_, List·Memᴰ}
+use mathlib.Core.List.{List, [], _∷_}
 use mathlib.Core.Path.{_≡_, refl, sym, ap, _∙_, subst}
-use mathlib.Core.Logic.{_⊎_, inl, inr, ⊎-elim}
+use mathlib.Core.Logic.{_⊎_, ⊎-elim}
 use native.Mathlib.Omega.{arith}
 use native.Mathlib.Nat.{mul-le-mul, mul-add-div-right, mul-add-mod-self-right, div-eq-of-lt, mod-eq-of-lt, mod-lt, div-lt-iff-lt-mul, div-div-eq-div-mul, div-add-mod', mul-comm, mul-assoc, mul-zero, mul-pos, eq-zero-or-pos, not-suc-le-zero}
 use lib.Dec.{eqb}
-use lib.ListN.{length, getD}
+use lib.ListN.{getD}
 use Rattle.definitions.specs.Grid.{Sides, Cell, Grid, volume, placeOf, InBox, byteAt, gridWith}
-use Rattle.definitions.specs.Maps.{Map, mapOf, mapSides, mapCell, inverse, product, mapGrid, isMirroring, side}
+use Rattle.definitions.specs.Maps.{Map, mapOf, mapSides, mapCell, inverse, mapGrid, side}
 use Rattle.definitions.specs.Moves.{Quarter, Move, quarterSides, quartersSides, moveSides, sidesAfterAll}
 use Rattle.definitions.specs.Moves.Quarter.{aboutX, aboutY, aboutZ}
 use Rattle.definitions.specs.Moves.Move.{turn, mirroring}
-use Rattle.definitions.specs.MovesAndMaps.{ActsAs}
 pub use Rattle.definitions.proofs.MapLaws.{digits-lt, place-lt}
-use Rattle.definitions.proofs.MapLaws.{Fits, cell-path, byte-with}
+use Rattle.definitions.proofs.MapLaws.{cell-path, byte-with}
 use Rattle.definitions.proofs.MapNumberLaws.{map-done, map-fits, sides-back}
 use Rattle.shape.specs.Coords.{Fit}
 use Rattle.shape.specs.Places.{cellAt, imagePlace, sourcePlace}
@@ -131,7 +130,7 @@ mapped-place n g j h =
     t = mapSides (mapOf n) (g .sides)
 
 -- ---- limits
-side-fit : (s : Sides) → Fit s → (i : ℕ) → side s i ≤ 8
+pub side-fit : (s : Sides) → Fit s → (i : ℕ) → side s i ≤ 8
 unfolding side
 side-fit s h i = go (eqb i 0) (eqb i 1)
   where

@@ -1,14 +1,12 @@
 -- Grids that are lent as cells and sides, and how grids compare.
-use Prim.Native.Nat.{ℕ, _+_}
-use mathlib.Core.Bool.{Bool, true, false, cond, _&&_}
+use Prim.Native.Nat.{ℕ}
+use mathlib.Core.Bool.{Bool, true, false}
 use mathlib.Core.List.{List, [], _∷_}
 use mathlib.Core.Path.{_≡_}
 use lib.Dec.{ltb, eqb}
 use lib.ListN.{length}
 use Rattle.definitions.specs.Lists.{less, same}
 use Rattle.definitions.specs.Grid.{Sides, Grid, volume, sameGrid, gridAhead}
-use Rattle.definitions.specs.Maps.{side, coordinate}
-use Rattle.definitions.specs.Refusals.{filledWhere}
 use Rattle.shape.specs.Coords.{asSides, Fit}
 use Rattle.shape.specs.declared.Coord.{Coord}
 use Rattle.shape.specs.declared.Ordering.{Ordering}
@@ -45,7 +43,3 @@ sidesOrder s t = orderBy (less (sideList s) (sideList t)) (same (sideList s) (si
 -- "Grids are ordered by sides (x, y, z), then cells, 0 before 1."
 unfoldable pub gridOrder : Grid → Grid → Ordering
 gridOrder g h = orderBy (gridAhead g h) (sameGrid g h)
-
--- the outer layers of an axis each have a filled cell
-unfoldable pub endsFilled : Grid → ℕ → Bool
-endsFilled g axis = filledWhere g (λ u. eqb (coordinate u axis) 0) && filledWhere g (λ u. eqb (coordinate u axis + 1) (side (g .sides) axis))

@@ -3,3 +3,4 @@ pub mod Places
 pub mod Grids
 pub mod Scans
 pub mod Variants
+pub mod Stripping

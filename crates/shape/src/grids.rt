@@ -5,14 +5,12 @@ ghost use lib.ListN.{length, getD};
 ghost use lib.Dec.{eqb, leb};
 ghost use Rattle.definitions.specs.Lists.{all, howMany};
 ghost use Rattle.definitions.specs.Grid.{volume, byteAt, sameGrid, InBox};
-ghost use Rattle.definitions.specs.Maps.{mapOf, mapSides, mapGrid, coordinate};
-ghost use Rattle.definitions.specs.Refusals.{filledWhere, isTight};
-ghost use Rattle.shape.specs.Coords.{asSides, asCell, Fit};
-ghost use Rattle.shape.specs.Grids.{asGrid, Decided, Whole, numberOrder, sidesOrder, gridOrder, endsFilled};
+ghost use Rattle.definitions.specs.Maps.{mapOf, mapSides, mapGrid};
+ghost use Rattle.shape.specs.Coords.{asSides, asCell};
+ghost use Rattle.shape.specs.Grids.{asGrid, Decided, Whole, numberOrder, sidesOrder, gridOrder};
 use super::Coord;
 use super::Ordering;
 use super::cells;
-use super::maps;
 use super::maps::Map;
 
 // Whether no side is above 8 and there is a byte for each cell: what the functions below ask of a grid.
@@ -157,49 +155,4 @@ pub fn are_bits(cells: &[u8]) -> bool
         i += 1;
     }
     true
-}
-
-// Whether a cell of the layer at coordinate k of an axis is filled.
-fn layer_filled(cells: &[u8], s: Coord, axis: u8, k: usize) -> bool
-    requires { ⌜ Whole s (now cells) ⌝ }
-    ensures { λ r. ⌜ r ≡ filledWhere (asGrid s (now (cells .entry))) (λ u. eqb (coordinate u axis) k) ⌝ }
-{
-    let mut i = 0;
-    while i < cells.len() {
-        if cells[i] == 1 {
-            let u = cells::cell_at(s, i);
-            if maps::pick(axis, u) == k {
-                return true;
-            }
-        }
-        i += 1;
-    }
-    false
-}
-
-// Whether both outer layers of an axis have a filled cell.
-fn ends_filled(cells: &[u8], s: Coord, axis: u8) -> bool
-    requires { ⌜ Whole s (now cells) ⌝ }
-    ensures { λ r. ⌜ r ≡ endsFilled (asGrid s (now (cells .entry))) axis ⌝ }
-{
-    if layer_filled(cells, s, axis, 0) {
-        let n = maps::pick(axis, s);
-        layer_filled(cells, s, axis, n - 1)
-    } else {
-        false
-    }
-}
-
-// Whether no outer layer is empty.
-pub fn is_tight(cells: &[u8], s: Coord) -> bool
-    requires { ⌜ Whole s (now cells) ⌝ }
-    ensures { λ r. ⌜ r ≡ isTight (asGrid s (now (cells .entry))) ⌝ }
-{
-    if !ends_filled(cells, s, 0) {
-        return false;
-    }
-    if !ends_filled(cells, s, 1) {
-        return false;
-    }
-    ends_filled(cells, s, 2)
 }

@@ -1,10 +1,11 @@
-// Shapes: the 48 maps, the cells of a box, grids and their turned grids, scan order, variants and kinds (utils.rs and shape.rs of
-// the original). A grid is lent as its cells, a slice with one byte a cell, and its three sides.
+// Shapes: the 48 maps, the cells of a box, grids and their turned grids, grids without their empty outer layers, scan order, variants and
+// kinds (utils.rs and shape.rs of the original). A grid is lent as its cells, a slice with one byte a cell, and its three sides.
 
 pub mod cells;
 pub mod grids;
 pub mod maps;
 pub mod scan;
+pub mod stripping;
 mod tables;
 pub mod variants;
 

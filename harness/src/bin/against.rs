@@ -2,13 +2,16 @@
 //! it: each listing put together from pages of a random size, byte for byte, by skips and
 //! from behind each page's last entry; pages at random skips, and behind what is no entry;
 //! what a call must not touch. Trays without a piece, and those of several woods, are held to
-//! the stream's listing like all others: it is the model's there. The board's record has a
-//! wood of its own, which is not to be read. Status 1 on a difference.
+//! the stream's listing like all others: it is the model's there. So are those with empty
+//! outer layers, by the box that was lent: what fits is counted by its size, and an entry
+//! with a byte changed round the stripped board is no entry. The board's record has a wood of
+//! its own, which is not to be read. Status 1 on a difference.
 
 use std::io::{self, Read};
 use std::process::ExitCode;
 
 use harness::{box_cells, Lent, Start, STAIN};
+use oracle::layers;
 use oracle::listing::refused;
 use oracle::random::Random;
 use oracle::tray::{self, Engine};
@@ -19,7 +22,8 @@ const NUMBERS: usize = 32_776;
 fn main() -> io::Result<ExitCode> {
     let mut stream = vec![];
     io::stdin().read_to_end(&mut stream)?;
-    let (mut rest, mut held, mut bare, mut mixed, mut pages, mut differences) = (&stream[..], [0; 2], 0, 0, 0, 0);
+    let (mut rest, mut held, mut pages, mut differences) = (&stream[..], [0; 2], 0, 0);
+    let (mut bare, mut mixed, mut boxed) = (0, 0, 0);
     while !rest.is_empty() {
         let end = rest.iter().position(|&byte| byte == b'\n').unwrap();
         let header = String::from_utf8_lossy(&rest[..end]).to_string();
@@ -35,6 +39,7 @@ fn main() -> io::Result<ExitCode> {
         held[usize::from(tray.config.engine == Engine::Knuth)] += 1;
         bare += usize::from(tray.pieces.is_empty());
         mixed += usize::from(tray.is_mixed());
+        boxed += usize::from(layers::has_layers(&tray));
         let mut random = Random::new(held[0], held[1]);
         let mut lent = Lent::new(&tray);
         lent.board.wood = random.between(1, 255) as u8;
@@ -48,8 +53,8 @@ fn main() -> io::Result<ExitCode> {
     }
     let [fast, knuth] = held;
     println!(
-        "{fast} trays of fast and {knuth} of knuth, {bare} of these without a piece and {mixed} of several woods, {pages} pages, \
-         {differences} differences"
+        "{fast} trays of fast and {knuth} of knuth, {bare} of these without a piece, {mixed} of several woods and {boxed} with empty \
+         outer layers, {pages} pages, {differences} differences"
     );
     Ok(if differences == 0 {
         ExitCode::SUCCESS
@@ -63,7 +68,7 @@ fn hold(lent: &Lent, expected: &str, random: &mut Random) -> Result<usize, Strin
     let mut pages = 0;
     for by_skip in [true, false] {
         let room = 1 + random.below(40);
-        let (mut listing, mut entries, mut last) = (String::new(), 0, vec![]);
+        let (mut listing, mut entries, mut first, mut last) = (String::new(), 0, vec![], vec![]);
         loop {
             let start = if by_skip || entries == 0 {
                 Start::Skip(entries)
@@ -77,6 +82,9 @@ fn hold(lent: &Lent, expected: &str, random: &mut Random) -> Result<usize, Strin
             }
             for bytes in answers[..answer.written * size].chunks(size) {
                 listing += &format!("{entries}\t{}\n", box_cells(bytes));
+                if entries == 0 {
+                    first = bytes.to_vec();
+                }
                 entries += 1;
                 last = bytes.to_vec();
             }
@@ -90,10 +98,18 @@ fn hold(lent: &Lent, expected: &str, random: &mut Random) -> Result<usize, Strin
         listing += &format!("packings\t{entries}\n");
         same(&listing, expected, pages)?;
 
-        // Behind the last entry, and behind what is none: nothing.
+        // Behind the last entry, and behind what is none: nothing. Nor is anything behind the first
+        // entry with a byte changed where the board is unfilled, if only in its empty outer layers.
         let mut other = last.clone();
         other.iter_mut().take(1).for_each(|byte| *byte = 200);
-        for none in [&last[..], &other[..], &last[..last.len() / 2], &[STAIN; 2000][..]] {
+        let unfilled: Vec<usize> = (0..first.len()).filter(|&byte| first[byte] == 255).collect();
+        let mut spoilt = first.clone();
+        if !unfilled.is_empty() {
+            spoilt[*random.pick(&unfilled)] = 0;
+        } else {
+            spoilt.push(0);
+        }
+        for none in [&last[..], &other[..], &spoilt[..], &last[..last.len() / 2], &[STAIN; 2000][..]] {
             let (_, answer) = ask(lent, Start::Behind(none), 2, 0)?;
             if (answer.written, answer.further) != (0, false) {
                 return Err(format!("behind what is no entry, or the last: {answer:?}"));

@@ -44,7 +44,6 @@ pub const REFUSED: &[(&str, u8, fn(&mut Random) -> Option<Parts>)] = &[
         Some((board, pieces))
     }),
     ("refused_6", 6, |random| with_faults(random, [6, 6])),
-    ("refused_7", 7, |random| with_faults(random, [7, 7])),
     ("refused_8_copies_129", 8, |random| with_copies(random, 129)),
     ("refused_8_past_32_bits", 8, |random| {
         let (board, mut pieces) = plain(random)?;
@@ -68,7 +67,7 @@ pub const REFUSED: &[(&str, u8, fn(&mut Random) -> Option<Parts>)] = &[
 ];
 
 /// The refusals that a fault of a board or of a piece leads to.
-pub const FAULTS: &[u8] = &[2, 3, 6, 7, 8, 9, 14];
+pub const FAULTS: &[u8] = &[2, 3, 6, 8, 9, 14];
 
 /// A plain tray with both faults built in, the later number first: the faults
 /// of the board set it anew, and a board at fault by 9 or 3 is to stay so.
@@ -98,13 +97,6 @@ fn add_fault(random: &mut Random, fault: u8, board: &mut Grid, pieces: &mut Vec<
             empty.cells.fill(0);
             add_spoilt(random, pieces, empty);
         }
-        7 => loop {
-            let piece = random_piece(random);
-            let loose = grids::in_larger_box(random, &piece, 4);
-            if loose.sides != piece.sides {
-                return add_spoilt(random, pieces, loose);
-            }
-        },
         8 => pieces[0].count = *random.pick(&[129, 200, 65_536, 999_999_999]),
         9 => *board = full(*random.pick(&[[8, 8, 8], [8, 8, 3], [6, 6, 6], [5, 5, 6], [4, 5, 7]])),
         14 => {

@@ -81,7 +81,7 @@ returns c =
     let a = z .args in
     let l = c .before .loop in
     let e = cells-end (a .t1) (rows-long (a .t1) (z .good .0)) (now (a .bytes)) (l .i) (omega arith) in
-    let s = cells-start (a .t1) (a .board) (now (a .bytes)) in
+    let s = cells-start (a .t1) (a .board) (now (a .bytes)) (rows-long (a .t1) (z .good .0)) (z .pre) in
     omega (arith, l .inv .2)
 
 pub cells-of-all-spec : {M : Type 1} → statement M

@@ -165,10 +165,11 @@ returns c =
     let l = lent z in
     let long = rows-long (a .t1) (z .good .0) in
     let is = grid-is bytes (a .board) (s .result) (now (grid .result)) (s .ensures) (grid .ensures .0) in
-    let all = counted-all _ _ _ _ _ (z .pre .2) _ _ _ (c .before .loop .inv) (c .loop-test .left) in (
-      all .0 ∙ placements-counted (a .t1) (a .board) bytes l long (now (a .first)) (a .kinds) (z .pre .1) (z .pre .2) (asOrder (a .order)) (now (a .places)) (a .n) (z .pre .3) _ is,
-      all .1 ∙ links-counted (a .t1) (a .board) bytes l long (now (a .first)) (a .kinds) (z .pre .1) (z .pre .2) (asOrder (a .order)) (now (a .places)) (a .n) (z .pre .3) _ is,
-    )
+    let all = counted-all _ _ _ _ _ (z .pre .2) _ _ _ (c .before .loop .inv) (c .loop-test .left) in
+    record {
+      placements = all .0 ∙ placements-counted (a .t1) (a .board) bytes l long (now (a .first)) (a .kinds) (z .pre .1) (z .pre .2) (asOrder (a .order)) (now (a .places)) (a .n) (z .pre .3) _ is;
+      links = all .1 ∙ links-counted (a .t1) (a .board) bytes l long (now (a .first)) (a .kinds) (z .pre .1) (z .pre .2) (asOrder (a .order)) (now (a .places)) (a .n) (z .pre .3) _ is;
+    }
 
 pub count-tray-spec : {M : Type 1} → statement M
 count-tray-spec =

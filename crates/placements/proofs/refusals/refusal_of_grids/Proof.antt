@@ -70,45 +70,36 @@ returns-3 c = sym (past-5 (c .before .before) ∙ rw (grid-rows, sym (c .before 
 past-6 : (c : tie.Else3) → (let k = c .before .before .before .before .before .before .before .before in rest k 0 ≡ rest k 2)
 past-6 c = past-5 (c .before .before) ∙ rw (grid-rows, sym (c .before .all-filled .ensures) ∙ not-false _ (c .if3 .left))
 
-all-tight-requires : tie.Need-all-tight-requires
-all-tight-requires c κs = pieces-sound (c .before .before .before .before .before .before .before .before)
-
-returns-4 : tie.Need-returns-4
-returns-4 c = sym (past-6 (c .before .before) ∙ rw (grid-rows, sym (c .before .all-tight .ensures) ∙ not-true _ (c .if4 .taken)))
-
-past-7 : (c : tie.Else4) → (let k = c .before .before .before .before .before .before .before .before .before .before in rest k 0 ≡ rest k 3)
-past-7 c = past-6 (c .before .before) ∙ rw (grid-rows, sym (c .before .all-tight .ensures) ∙ not-false _ (c .if4 .left))
-
 copies-lent-requires : tie.Need-copies-lent-requires
 copies-lent-requires c κs = search needs
 
-returns-5 : tie.Need-returns-5
-returns-5 c = sym (past-7 (c .before .before) ∙ rw (grid-rows, sym (c .before .copies-lent .ensures), lt-ltb _ _ (c .if5 .taken)))
+returns-4 : tie.Need-returns-4
+returns-4 c = sym (past-6 (c .before .before) ∙ rw (grid-rows, sym (c .before .copies-lent .ensures), lt-ltb _ _ (c .if4 .taken)))
 
-past-8 : (c : tie.Else5) → (let k = c .before .before .before .before .before .before .before .before .before .before .before .before in rest k 0 ≡ rest k 4)
-past-8 c = past-7 (c .before .before) ∙ rw (grid-rows, sym (c .before .copies-lent .ensures), le-ltb _ _ (c .if5 .left))
+past-8 : (c : tie.Else4) → (let k = c .before .before .before .before .before .before .before .before .before .before in rest k 0 ≡ rest k 3)
+past-8 c = past-6 (c .before .before) ∙ rw (grid-rows, sym (c .before .copies-lent .ensures), le-ltb _ _ (c .if4 .left))
 
 cells-of-requires-2 : tie.Need-cells-of-requires-2
-cells-of-requires-2 c κs = board-sound (c .before .before .before .before .before .before .before .before .before .before .before .before)
+cells-of-requires-2 c κs = board-sound (c .before .before .before .before .before .before .before .before .before .before)
 
 count-filled-requires : tie.Need-count-filled-requires
 count-filled-requires c κs = search needs
 
 -- row 9 counts the cells that row 5 left 0 or 1
 board-count : (c : tie.After-count-filled)
-    → (let k = c .before .before .before .before .before .before .before .before .before .before .before .before .before .before in
+    → (let k = c .before .before .before .before .before .before .before .before .before .before .before .before in
     sum (gridOf (now (k .args .bytes)) (k .args .board) .cells) ≡ c .count-filled .result)
 board-count c =
-    let f = c .before .before .before .before .before .before .before .before .before .before in
+    let f = c .before .before .before .before .before .before .before .before in
     let k = f .before .before .before .before in
     cells-count (now (k .args .bytes)) (k .args .board) _ (c .before .cells-of2 .ensures .0) _ (c .count-filled .ensures .0)
     (board-bits (f .before) ∙ not-false _ (f .if1 .left))
 
-returns-6 : tie.Need-returns-6
-returns-6 c = sym (past-8 (c .before .before .before) ∙ rw (grid-rows, board-count (c .before), lt-ltb _ _ (c .if6 .taken)))
+returns-5 : tie.Need-returns-5
+returns-5 c = sym (past-8 (c .before .before .before) ∙ rw (grid-rows, board-count (c .before), lt-ltb _ _ (c .if5 .taken)))
 
-returns-7 : tie.Need-returns-7
-returns-7 c = sym (past-8 (c .before .before .before) ∙ rw (grid-rows, board-count (c .before), le-ltb _ _ (c .if6 .left)))
+returns-6 : tie.Need-returns-6
+returns-6 c = sym (past-8 (c .before .before .before) ∙ rw (grid-rows, board-count (c .before), le-ltb _ _ (c .if5 .left)))
 
 pub refusal-of-grids-spec : {M : Type 1} → statement M
 refusal-of-grids-spec =
@@ -121,11 +112,9 @@ refusal-of-grids-spec =
     returns-2
     all-filled-requires
     returns-3
-    all-tight-requires
-    returns-4
     copies-lent-requires
-    returns-5
+    returns-4
     cells-of-requires-2
     count-filled-requires
-    returns-6
-    returns-7)
+    returns-5
+    returns-6)

@@ -1,254 +1,103 @@
--- `rows::system::build_system` meets its contract: each callee writes its part of the system, and the parts are those of the tray's. Assumes nothing.
-use Prim.Native.Nat.{ℕ, _+_, _*_, _≤_}
-use mathlib.Core.List.{List, map}
-use mathlib.Core.Path.{_≡_, sym, ap, _∙_, subst}
-use native.Mathlib.Omega.{arith}
+-- `rows::system::build_system` meets its contract: the stripped tray's system, with the scan numbers of the lent box put in. Assumes nothing.
+use Prim.Native.Nat.{ℕ, _≤_}
+use mathlib.Core.Path.{sym, ap, _∙_, subst}
 use borrow.Author.Needs.{needs}
 use denote.Ref.{now}
+use lib.Dec.{T, ltb}
 use lib.ListN.{length, take}
-use Rattle.definitions.specs.Grid.{Grid, volume}
-use Rattle.definitions.specs.Scan.{axes, scan}
-use Rattle.definitions.specs.Refusals.{gridOf, sidesOf}
-use Rattle.shape.specs.Coords.{asSides}
-use Rattle.shape.specs.Grids.{Whole, asGrid}
-use Rattle.shape.specs.Places.{cellAt}
-use Rattle.shape.specs.Scans.{asOrder}
+use Rattle.definitions.specs.Lists.{all}
+use Rattle.definitions.specs.Stripping.{FitsIn}
+use Rattle.definitions.specs.Grid.{volume}
+use Rattle.shape.specs.Coords.{asSides, asCell, Fit}
 use Rattle.shape.proofs.PlaceLaws.{volume-small}
-use Rattle.placements.specs.Counting.{OnBoard}
-use Rattle.placements.proofs.RefusalLaws.{sides-small, grid-is, grid-whole}
-use Rattle.placements.proofs.CountingLaws.{Lent, lent-passes, sound, board-fits, board-few, board-size, on-board}
-use Rattle.rows.specs.Boards.{Numbered}
-use Rattle.rows.proofs.BuildSystemLaws.{places-below, numbered-board, images-few, rows-are, rows-few, rows-first, rows-behind, system-is}
+use Rattle.placements.proofs.RefusalLaws.{sides-small}
+use Rattle.placements.proofs.CountingLaws.{Lent, lent-passes, board-fits}
+use Rattle.rows.proofs.BuildSystemLaws.{rows-fit, rows-unframed, few-unframed, part-fits, part-below, new-below, new-scans, system-framed}
 use Rattle.rows.proofs.system.build_system.Statement.{statement}
 use Rattle.rows.proofs.system.build_system.Tie as tie
 
 -- ---- from a place of the code back to an earlier one
-abbrev to-start : tie.After-plan-coords → tie.Start
-to-start c = c .before .before .before .before .before .before .before .before .before .before .before .before
+abbrev to-start : tie.After-strip-tray → tie.Start
+to-start c = c .before .before .before .before .before .before .before .before .before
 
-abbrev to-coords : tie.After-number-places → tie.After-plan-coords
-to-coords c = c .before .before .before .before
+abbrev to-strip : tie.After-build-lent → tie.After-strip-tray
+to-strip c = c .before .before .before .before .before .before .before .before .before .before .before .before .before
 
-abbrev to-numbers : tie.After-merge → tie.After-number-places
-to-numbers c = c .before .before .before .before
+abbrev to-built : tie.After-sides-of2 → tie.After-build-lent
+to-built c = c .before .before .before .before .before .before .before .before .before .before .before .before .before .before .before .before
 
-abbrev from-kinds : tie.After-list-kinds → tie.After-merge
-from-kinds c = c .before .before .before .before
-
-abbrev from-pieces : tie.After-list-pieces → tie.After-list-kinds
-from-pieces c = c .before .before .before .before .before
-
-abbrev from-turned : tie.After-board-images → tie.After-list-pieces
-from-turned c = c .before .before .before .before .before .before
-
-abbrev from-mirrored : tie.After-board-images2 → tie.After-board-images
-from-mirrored c = c .before .before .before .before .before .before
-
-abbrev from-rows : tie.After-build-rows → tie.After-board-images2
-from-rows c = c .before .before .before .before .before .before .before
-
-abbrev from-chains : tie.After-chain-rows → tie.After-build-rows
-from-chains c = c .before .before .before .before .before
-
--- ---- what is lent, and the board
+-- ---- what is lent
 lent : (z : tie.Start) → Lent (z .args .t) (z .args .board) (now (z .args .bytes))
 lent z = lent-passes (z .args .t) (z .args .board) (now (z .args .bytes)) (z .pre .0 .0)
 
-board-whole : (c : tie.After-cells-of) → Whole (c .before .sides-of .result) (now (c .cells-of .result))
-board-whole c =
-    let z = c .before .before .before .before .before .before .before .before .before in
-    let s = c .before .sides-of in
-    grid-whole (now (z .args .bytes)) (z .args .board) (s .result) (now (c .cells-of .result)) (s .ensures) (board-fits _ _ _ (lent z) .0) (c .cells-of .ensures .1)
+-- ---- the lent box, and the board in it
+fit : (c : tie.After-sides-of) → Fit (asSides (c .sides-of .result))
+fit c =
+    let z = to-start (to-strip (c .before .before .before .before .before .before .before .before .before .before .before .before .before .before)) in
+    subst Fit (sym (c .sides-of .ensures)) (sides-small (z .args .board) (board-fits _ _ _ (lent z) .0))
 
-abbrev boardGrid : (c : tie.After-cells-of) → Grid
-boardGrid c = asGrid (c .before .sides-of .result) (now (c .cells-of .result))
+fits : (c : tie.After-sides-of2) → FitsIn (record { lent = asSides (c .before .before .sides-of .result); at = asCell (to-strip (to-built c) .strip-tray .result .at) }) (asSides (c .sides-of2 .result))
+fits c = part-fits _ _ _ _ _ (to-strip (to-built c) .strip-tray .ensures) _ _ (c .before .before .sides-of .ensures) (c .sides-of2 .ensures)
 
-board-is : (c : tie.After-cells-of) → (let z = c .before .before .before .before .before .before .before .before .before in boardGrid c ≡ gridOf (now (z .args .bytes)) (z .args .board))
-board-is c =
-    let z = c .before .before .before .before .before .before .before .before .before in
-    let s = c .before .sides-of in
-    grid-is (now (z .args .bytes)) (z .args .board) (s .result) (now (c .cells-of .result)) (s .ensures) (c .cells-of .ensures .0)
+below : (c : tie.After-sides-of2) → T (all (λ i. ltb i (volume (asSides (c .sides-of2 .result)))) (take (to-built c .build-lent .result .cells) (to-built c .build-lent .last .1 .1 .1 .0)))
+below c = part-below _ _ _ _ _ (to-strip (to-built c) .strip-tray .ensures) _ _ (c .before .before .sides-of .ensures) (c .sides-of2 .ensures) _ _ (to-built c .build-lent .ensures .3)
 
-places-are : (c : tie.After-cells-of) (n : ℕ) → n ≡ volume (boardGrid c .sides) → n ≡ volume (sidesOf (c .before .before .before .before .before .before .before .before .before .args .board))
-unfolding gridOf
-places-are c n e = e ∙ ap (λ (g : Grid). volume (g .sides)) (board-is c)
+room : (c : tie.After-sides-of2) → volume (asSides (c .before .before .sides-of .result)) ≤ length (to-built c .build-lent .last .1 .1 .1 .1 .1 .1 .1 .0)
+room c =
+    let built = to-built c in
+    let z = to-start (to-strip built) in
+    subst (λ (n : ℕ). volume (asSides (c .before .before .sides-of .result)) ≤ n) (sym (built .build-lent .kept .1 .1 .1 .1 .1 .1 .1 .0 ∙ z .pre .1 .2)) (volume-small _ (fit (c .before .before)) .1)
 
-abbrev order : tie.After-plan-coords → List ℕ
-order c = asOrder (c .before .before .plan-axis-order .result)
+slice-aggregate-strip-tray : tie.Need-slice-aggregate-strip-tray
+slice-aggregate-strip-tray c = search needs
 
-cells-on : (c : tie.After-plan-coords)
-    → (let z = to-start c in OnBoard (order c) (gridOf (now (z .args .bytes)) (z .args .board)) (c .plan-coords .last .1 .1 .1 .0) (c .plan-coords .result))
-cells-on c =
-    let z = to-start c in
-    let l = lent z in
-    let q = c .plan-coords in
-    let o = c .before .before .plan-axis-order in
-    let is = board-is (c .before .before .before) in
-    on-board (asOrder (o .result)) (gridOf (now (z .args .bytes)) (z .args .board)) (q .last .1 .1 .1 .0) (q .result) (ap (λ (g : Grid). axes (g .sides)) (sym is) ∙ sym (o .ensures))
-    (omega (arith, q .ensures .within, q .kept .1 .1 .1 .0))
-    (subst (λ (g : Grid). map (cellAt (g .sides)) (take (q .result) (q .last .1 .1 .1 .0)) ≡ scan (asOrder (o .result)) g) is (q .ensures .cells)) (board-size _ _ _ l) (board-few _ _ _ l)
+strip-tray-requires : tie.Need-strip-tray-requires
+strip-tray-requires c κs = search needs
 
-scans-room : (z : tie.Start) → volume (gridOf (now (z .args .bytes)) (z .args .board) .sides) ≤ length (now (z .args .scans))
-unfolding gridOf
-scans-room z =
-    let v = volume-small (sidesOf (z .args .board)) (sides-small (z .args .board) (board-fits _ _ _ (lent z) .0)) .1 in
-    subst (λ (n : ℕ). volume (sidesOf (z .args .board)) ≤ n) (sym (z .pre .1 .2)) v
+slice-aggregate-build-lent : tie.Need-slice-aggregate-build-lent
+slice-aggregate-build-lent c = search needs
+
+slice-aggregate-build-lent-2 : tie.Need-slice-aggregate-build-lent-2
+slice-aggregate-build-lent-2 c = search needs
+
+build-lent-requires : tie.Need-build-lent-requires
+build-lent-requires c κs =
+    let stripped = c .before .before .before .before .before .before .before .before .before .before .before .before in
+    let z = to-start stripped in
+    let a = z .args in
+    let s = stripped .strip-tray .ensures in
+    let long : 8192 ≤ length (now (a .work)) = z .pre .0 .2 in (
+      (s .accepted, rows-unframed _ (s .tray) (rows-fit (a .t) (a .board) (now (a .bytes)) (now (a .work)) (z .pre .0 .0) (z .pre .0 .1) long), few-unframed _ 1024 (s .tray) (z .pre .0 .1), long),
+      (z .pre .1 .0, z .pre .1 .1, z .pre .1 .2, z .pre .1 .3, z .pre .1 .4, search needs),
+    )
 
 sides-of-requires : tie.Need-sides-of-requires
 sides-of-requires c κs = search needs
 
-cells-of-requires : tie.Need-cells-of-requires
-cells-of-requires c κs = board-fits _ _ _ (lent (c .before .before .before .before .before .before .before .before))
+slice-aggregate-put-back : tie.Need-slice-aggregate-put-back
+slice-aggregate-put-back c = search needs
 
-plan-axis-order-requires : tie.Need-plan-axis-order-requires
-plan-axis-order-requires c κs = search needs
+sides-of-requires-2 : tie.Need-sides-of-requires-2
+sides-of-requires-2 c κs = search needs
 
-slice-aggregate-plan-coords : tie.Need-slice-aggregate-plan-coords
-slice-aggregate-plan-coords c = search needs
-
-plan-coords-requires : tie.Need-plan-coords-requires
-plan-coords-requires c κs =
-    let w = board-whole (c .before .before) in
-    (w, record { box = asSides (c .before .before .before .sides-of .result); isIts = sym (c .before .plan-axis-order .ensures) }, volume-small _ (w .fit) .1)
+put-back-requires : tie.Need-put-back-requires
+put-back-requires c κs =
+    let built = to-built c in
+    let on = built .build-lent .ensures .3 in
+    (on .within, below c, fit (c .before .before), fits c)
 
 slice-aggregate-number-places : tie.Need-slice-aggregate-number-places
 slice-aggregate-number-places c = search needs
 
 number-places-requires : tie.Need-number-places-requires
 number-places-requires c κs =
-    let q = c .before .before .before in
-    let z = to-start q in
-    let on = cells-on q in
-    (on .few, on .within, places-below (order q) (gridOf (now (z .args .bytes)) (z .args .board)) (q .plan-coords .last .1 .1 .1 .0) (q .plan-coords .result) (length (now (z .args .scans))) on (scans-room z))
-
-numbers : (c : tie.After-number-places)
-    → (let q = to-coords c in let z = to-start q in Numbered (order q) (gridOf (now (z .args .bytes)) (z .args .board)) (c .number-places .last .1 .1 .0))
-numbers c =
-    let q = to-coords c in
-    let z = to-start q in
-    numbered-board (order q) (gridOf (now (z .args .bytes)) (z .args .board)) (q .plan-coords .last .1 .1 .1 .0) (c .number-places .last .1 .1 .0) (q .plan-coords .result)
-    (length (now (z .args .scans))) (cells-on q) (scans-room z) (c .number-places .ensures)
-
-slice-aggregate-merge : tie.Need-slice-aggregate-merge
-slice-aggregate-merge c = search needs
-
-merge-requires : tie.Need-merge-requires
-merge-requires c κs = (sound _ _ _ (lent (c .before .before .before .before .before .before .before .before .before .before .before .before .before .before .before .before .before .before .before)), omega arith)
-
-kinds-few : (c : tie.After-merge) → (c .merge .result ≤ 16) × (c .merge .result ≤ length (c .merge .last .1 .1 .0))
-kinds-few c =
-    let m = c .merge in
-    let l = lent (to-start (to-coords (to-numbers c))) .few in
-    (omega (arith, l, m .ensures .0 .few), omega (arith, l, m .ensures .0 .few, m .kept .1 .1 .0))
-
-twice-few : (n m : ℕ) → n ≤ 16 → m ≡ 32 → 2 * n ≤ m
-twice-few n m h e = omega arith
-
-at-least : (m n : ℕ) → m ≡ n → n ≤ m
-at-least m n e = omega arith
-
-slice-aggregate-list-kinds : tie.Need-slice-aggregate-list-kinds
-slice-aggregate-list-kinds c = search needs
-
-list-kinds-requires : tie.Need-list-kinds-requires
-list-kinds-requires c κs =
-    let m = c .before .before .before in
-    let z = to-start (to-coords (to-numbers m)) in
-    let f = kinds-few m in
-    (z .pre .0 .0, m .merge .ensures .0, f .1, twice-few (m .merge .result) (length (now (z .args .kinds))) (f .0) (z .pre .1 .3))
-
-slice-aggregate-list-pieces : tie.Need-slice-aggregate-list-pieces
-slice-aggregate-list-pieces c = search needs
-
-list-pieces-requires : tie.Need-list-pieces-requires
-list-pieces-requires c κs =
-    let m = from-kinds (c .before .before .before .before) in
-    let z = to-start (to-coords (to-numbers m)) in
-    (z .pre .0 .0, m .merge .ensures .0, kinds-few m .1, at-least (length (now (z .args .pieces))) 32 (z .pre .1 .4))
-
-images-room : (n size : ℕ) → n ≤ 24 → size ≡ 6144 → 128 * (n + 24) ≤ size
-images-room n size h e = omega arith
-
-slice-aggregate-board-images : tie.Need-slice-aggregate-board-images
-slice-aggregate-board-images c = search needs
-
-board-images-requires : tie.Need-board-images-requires
-board-images-requires c κs =
-    let n = to-numbers (from-kinds (from-pieces (c .before .before .before .before .before))) in
-    let q = to-coords n in
-    let w = q .before .before .before in
-    let z = to-start q in (
-      (
-        board-whole w,
-        subst (λ (g : Grid). Numbered (order q) g (n .number-places .last .1 .1 .0)) (sym (board-is w)) (numbers n),
-        subst (λ (g : Grid). OnBoard (order q) g (q .plan-coords .last .1 .1 .1 .0) (q .plan-coords .result)) (sym (board-is w)) (cells-on q),
-      ),
-      (omega arith, omega arith, images-room 0 (length (now (z .args .images))) (omega arith) (z .pre .1 .1)),
-    )
-
-turns-few : (c : tie.After-board-images) → c .board-images .result ≤ 24
-turns-few c =
-    let q = to-coords (to-numbers (from-kinds (from-pieces (from-turned c)))) in
-    images-few (now (to-start q .args .images)) (c .board-images .last .1 .1 .1 .1 .1 .1 .1 .1 .0) (order q) (boardGrid (q .before .before .before)) 0 (c .board-images .result) (q .plan-coords .result) 0 24
-    (c .board-images .ensures)
-
-slice-aggregate-board-images-2 : tie.Need-slice-aggregate-board-images-2
-slice-aggregate-board-images-2 c = sym (to-coords (to-numbers (from-kinds (from-pieces (from-turned (c .before .before .before))))) .plan-coords .kept .1 .1 .1 .0)
-
-board-images-requires-2 : tie.Need-board-images-requires-2
-board-images-requires-2 c κs =
-    let f = c .before .before .before .before .before in
-    let n = to-numbers (from-kinds (from-pieces (from-turned f))) in
-    let q = to-coords n in
-    let w = q .before .before .before in
-    let z = to-start q in (
-      (
-        board-whole w,
-        subst (λ (g : Grid). Numbered (order q) g (n .number-places .last .1 .1 .0)) (sym (board-is w)) (numbers n),
-        subst (λ (g : Grid). OnBoard (order q) g (q .plan-coords .last .1 .1 .1 .0) (q .plan-coords .result)) (sym (board-is w)) (cells-on q),
-      ),
-      (omega arith, omega arith, images-room (f .board-images .result) (length (f .board-images .last .1 .1 .1 .1 .1 .1 .1 .1 .0)) (turns-few f) (f .board-images .kept .1 .1 .1 .1 .1 .1 .1 .1 .0 ∙ z .pre .1 .1)),
-    )
-
-slice-aggregate-build-rows : tie.Need-slice-aggregate-build-rows
-slice-aggregate-build-rows c = search needs
-
-slice-aggregate-build-rows-2 : tie.Need-slice-aggregate-build-rows-2
-slice-aggregate-build-rows-2 c = sym (to-coords (to-numbers (from-kinds (from-pieces (from-turned (from-mirrored (c .before .before .before .before)))))) .plan-coords .kept .1 .1 .1 .0)
-
-rows-room : (n size : ℕ) → n ≤ 1024 → 8192 ≤ size → 8 * n ≤ size
-rows-room n size h e = omega arith
-
-build-rows-requires : tie.Need-build-rows-requires
-build-rows-requires c κs =
-    let m = from-kinds (from-pieces (from-turned (from-mirrored (c .before .before .before .before .before .before)))) in
-    let n = to-numbers m in
-    let q = to-coords n in
-    let z = to-start q in
-    ((z .pre .0 .0, m .merge .ensures .0, kinds-few m .1, cells-on q, numbers n), rows-room _ (length (now (z .args .work))) (z .pre .0 .1) (z .pre .0 .2))
-
-chain-rows-requires : tie.Need-chain-rows-requires
-chain-rows-requires c κs =
-    let r = c .before .before .before .before in
-    let z = to-start (to-coords (to-numbers (from-kinds (from-pieces (from-turned (from-mirrored (from-rows r))))))) in
-    let w = r .build-rows in
-    let new = w .last .1 .1 .1 .1 .1 .1 .1 .1 .1 .0 in
-    let few = rows-few (z .args .t) (z .args .board) (now (z .args .bytes)) (z .pre .0 .0) (z .pre .0 .1) (now (z .args .work)) (z .pre .0 .2) new (w .result) (w .ensures) in (
-      rows-room (w .result) (length new) few (subst (λ (n : ℕ). 8192 ≤ n) (sym (w .kept .1 .1 .1 .1 .1 .1 .1 .1 .1 .0)) (z .pre .0 .2)),
-      few,
-      z .pre .1 .0,
-      rows-first (z .args .t) (z .args .board) (now (z .args .bytes)) (z .pre .0 .0) (z .pre .0 .1) (now (z .args .work)) (z .pre .0 .2) new (w .result) (w .ensures),
-    )
-
-sub-t61 : tie.Need-sub-t61
-sub-t61 c = search needs
+    let put = c .before .before .before in
+    let sides = put .before in
+    let on = to-built sides .build-lent .ensures .3 in
+    (on .few, subst (λ (m : ℕ). to-built sides .build-lent .result .cells ≤ m) (sym (put .put-back .kept .0)) (on .within), new-below _ _ _ _ _ (to-strip (to-built sides) .strip-tray .ensures) _ _ (sides .before .before .sides-of .ensures) (sides .sides-of2 .ensures) _ _ on _ (put .put-back .ensures) _ (room sides))
 
 volume-of-requires : tie.Need-volume-of-requires
-volume-of-requires c κs =
-    board-whole (to-coords (to-numbers (from-kinds (from-pieces (from-turned (from-mirrored (from-rows (from-chains (c .before .before .before .before)))))))) .before .before .before) .fit
-
-abbrev listed : tie.After-volume-of → tie.After-list-kinds
-listed c = from-pieces (from-turned (from-mirrored (from-rows (from-chains (c .before .before .before .before .before)))))
+volume-of-requires c κs = fit (c .before .before .before .before .before .before .before .before .before)
 
 same-length : tie.Need-same-length
 same-length c = search needs
@@ -260,68 +109,48 @@ same-length-3 : tie.Need-same-length-3
 same-length-3 c = search needs
 
 same-length-4 : tie.Need-same-length-4
-same-length-4 c = to-numbers (from-kinds (listed c)) .number-places .kept .1 .1 .0
+same-length-4 c = search needs
 
 same-length-5 : tie.Need-same-length-5
-same-length-5 c = listed c .list-kinds .kept .1 .1 .1 .1 .1 .0
+same-length-5 c = search needs
 
 same-length-6 : tie.Need-same-length-6
-same-length-6 c = from-turned (from-mirrored (from-rows (from-chains (c .before .before .before .before .before)))) .list-pieces .kept .1 .1 .1 .1 .1 .0
+same-length-6 c = search needs
 
 returns : tie.Need-returns
 returns c =
-    let chains = c .before .before .before .before .before in
-    let rows = from-chains chains in
-    let mirrored = from-rows rows in
-    let turned = from-mirrored mirrored in
-    let pieces = from-turned turned in
-    let kinds = from-pieces pieces in
-    let m = from-kinds kinds in
-    let n = to-numbers m in
-    let q = to-coords n in
-    let z = to-start q in
-    let w = q .before .before .before in
-    let new = rows .build-rows .last .1 .1 .1 .1 .1 .1 .1 .1 .1 .0 in
-    let last = chains .chain-rows .last .0 in (
-      system-is (z .args .t) (z .args .board) (now (z .args .bytes)) (order q) (boardGrid w) (board-is w) (q .plan-coords .last .1 .1 .1 .0) (n .number-places .last .1 .1 .0) (q .plan-coords .result)
-          (cells-on q) (numbers n) last (kinds .list-kinds .last .1 .1 .1 .1 .1 .0) (pieces .list-pieces .last .1 .1 .1 .1 .1 .0) (now (z .args .images))
-          (turned .board-images .last .1 .1 .1 .1 .1 .1 .1 .1 .0) (mirrored .board-images2 .last .1 .1 .1 .1 .1 .1 .1 .1 .0) (rows .build-rows .result) (m .merge .result)
-          (turned .board-images .result) (mirrored .board-images2 .result) (c .volume-of .result) (z .args .t .n)
-          (chains .chain-rows .ensures .1
-          ∙ rows-are (z .args .t) (z .args .board) (now (z .args .bytes)) (z .pre .0 .0) (z .pre .0 .1) (now (z .args .work)) (z .pre .0 .2) new (rows .build-rows .result) (rows .build-rows .ensures))
-          (kinds .list-kinds .ensures) (pieces .list-pieces .ensures) (c .volume-of .ensures .0) (turned .board-images .ensures) (mirrored .board-images2 .ensures),
-      chains .chain-rows .ensures .0,
-      rows-behind (z .args .t) (z .args .board) (now (z .args .bytes)) (z .pre .0 .0) (z .pre .0 .1) (now (z .args .work)) (z .pre .0 .2) new (rows .build-rows .result) (rows .build-rows .ensures) last
-          (chains .chain-rows .ensures .2),
-      places-are w (c .volume-of .result) (c .volume-of .ensures .0),
+    let numbered = c .before .before .before in
+    let put = numbered .before .before .before .before in
+    let sides = put .before in
+    let built = to-built sides in
+    let stripped = to-strip built in
+    let z = to-start stripped in
+    let a = z .args in
+    let s = stripped .strip-tray .ensures in
+    let b = built .build-lent in
+    let scans = new-scans (a .t) (a .board) (now (a .bytes)) _ _ s _ _ (sides .before .before .sides-of .ensures) (sides .sides-of2 .ensures) _ _ (b .ensures .3) _ (put .put-back .ensures) _ (room sides) _ (numbered .number-places .ensures) in
+    let v = c .volume-of .ensures .0 in (
+      system-framed _ (s .tray) (b .result) _ _ _ _ _ _ (c .volume-of .result) (b .ensures .0) (ap (λ (n : ℕ). take n (numbered .number-places .last .1 .1 .0)) v ∙ scans),
+      b .ensures .1,
+      b .ensures .2,
+      v ∙ ap volume (sides .before .before .sides-of .ensures),
     )
 
 pub build-system-spec : {M : Type 1} → statement M
 build-system-spec =
     tie.close
     (tie.spec
+    slice-aggregate-strip-tray
+    strip-tray-requires
+    slice-aggregate-build-lent
+    slice-aggregate-build-lent-2
+    build-lent-requires
     sides-of-requires
-    cells-of-requires
-    plan-axis-order-requires
-    slice-aggregate-plan-coords
-    plan-coords-requires
+    slice-aggregate-put-back
+    sides-of-requires-2
+    put-back-requires
     slice-aggregate-number-places
     number-places-requires
-    slice-aggregate-merge
-    merge-requires
-    slice-aggregate-list-kinds
-    list-kinds-requires
-    slice-aggregate-list-pieces
-    list-pieces-requires
-    slice-aggregate-board-images
-    board-images-requires
-    slice-aggregate-board-images-2
-    board-images-requires-2
-    slice-aggregate-build-rows
-    slice-aggregate-build-rows-2
-    build-rows-requires
-    chain-rows-requires
-    sub-t61
     volume-of-requires
     same-length
     same-length-2

@@ -1,0 +1,81 @@
+// Trays without their empty outer layers: new records, whose grids stand in a slice of the caller's, the board's first, 512 bytes for each.
+ghost use Prim.Native.Nat.{_+_, _≤_};
+ghost use lib.Dec.{T};
+ghost use lib.ListN.{length};
+ghost use Rattle.definitions.specs.Refusals.{sidesFit, cellsLie};
+ghost use Rattle.placements.specs.Counting.{Accepted9};
+ghost use Rattle.placements.specs.Merging.{Sound};
+ghost use Rattle.placements.specs.Stripping.{StripsRecord, StripsPieces, StripsTray};
+use super::Table;
+use super::records;
+use definitions::Record;
+use shape::Coord;
+use shape::stripping;
+
+// How many bytes the grids of 16 pieces and a board need.
+pub const ROOM: usize = 8704;
+
+// A record over the stripped grid, and where that grid's corner lies in the lent box.
+struct StrippedRecord {
+    row: Record,
+    at: Coord,
+}
+
+// The records of a stripped tray, and where the corner of its board lies in the lent box.
+pub struct StrippedRecords {
+    pub table: Table,
+    pub board: Record,
+    pub at: Coord,
+}
+
+// The grid of a record, stripped, into out from `start` on, where 512 bytes are free.
+fn strip_record(bytes: &[u8], r: Record, out: &mut [u8], start: usize) -> StrippedRecord
+    requires { ⌜ T (sidesFit r) × T (cellsLie (now bytes) r) × (start + 512 ≤ length (now out)) ⌝ }
+    ensures { λ s. ⌜ StripsRecord (now (bytes .entry)) r s (now (out .entry)) start (now (out .exit)) ⌝ }
+{
+    let cells = records::cells_of(bytes, r);
+    let w = stripping::strip_grid(cells, records::sides_of(r), out, start);
+    let s = w.sides;
+    let at = w.at;
+    StrippedRecord {
+        row: Record {
+            a: s.0,
+            b: s.1,
+            c: s.2,
+            count: r.count,
+            wood: r.wood,
+            start,
+        },
+        at,
+    }
+}
+
+// The grids of the pieces, stripped, behind the first 512 bytes of out.
+fn strip_pieces(t: Table, bytes: &[u8], out: &mut [u8]) -> Table
+    requires { ⌜ Sound t (now bytes) × (8704 ≤ length (now out)) ⌝ }
+    ensures { λ r. ⌜ StripsPieces t (now (bytes .entry)) r (now (out .entry)) (now (out .exit)) ⌝ }
+{
+    let n = t.n;
+    let mut table = t;
+    let mut i = 0;
+    while i < n {
+        let p = t.rows[i];
+        let s = strip_record(bytes, p, out, 512 * i + 512);
+        let q = s.row;
+        table.rows[i] = q;
+        i += 1;
+    }
+    table
+}
+
+// The records of a tray that rows 2 to 9 let pass, stripped.
+pub fn strip_tray(t: Table, board: Record, bytes: &[u8], out: &mut [u8]) -> StrippedRecords
+    requires { ⌜ Accepted9 t board (now bytes) × (8704 ≤ length (now out)) ⌝ }
+    ensures { λ r. ⌜ StripsTray t board (now (bytes .entry)) r (now (out .exit)) ⌝ }
+{
+    let b = strip_record(bytes, board, out, 0);
+    let table = strip_pieces(t, bytes, out);
+    let board = b.row;
+    let at = b.at;
+    StrippedRecords { table, board, at }
+}
