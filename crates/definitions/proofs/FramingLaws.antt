@@ -4,14 +4,13 @@ use mathlib.Core.Bool.{Bool, true, false, cond, not, _&&_}
 use mathlib.Core.List.{List, [], _∷_, _++_, map, List·Memᴰ, List·Memᴰ·head, List·Memᴰ·tail, Memᴰ·of-map}
 use mathlib.Core.Path.{_≡_, refl, sym, ap, ap₂, _∙_, subst}
 use mathlib.Core.Logic.{_⊎_, inl, inr}
-use native.Mathlib.Nat.{mul-le-mul-right}
 use native.Mathlib.Omega.{arith}
 use lib.Dec.{T, leb, ltb, eqb, leb→le, le→leb, ltb→lt, lt→ltb}
 use lib.ListN.{length, getD, length-map}
 use Rattle.definitions.specs.Lists.{consIf, keep, each, from, below, headOr, member}
 use Rattle.definitions.proofs.ListLaws.{and-left, and-right, and-both, keep-at, is-true, is-false, not-T, decide, clash, member-at, length-from}
 use Rattle.definitions.specs.Grid.{Sides, Cell, Grid, setDown, sameCell, box, volume, placeOf, byteAt, gridWith, InBox}
-use Rattle.definitions.proofs.MapLaws.{cell-path, box-at, byte-with, each-same}
+use Rattle.definitions.proofs.MapLaws.{cell-path, box-at, place-lt, byte-with, each-same}
 use Rattle.definitions.proofs.GroupLaws.{bytes-whole, map-same}
 use Rattle.definitions.proofs.GridLaws.{length-box, all-set-down-none}
 use Rattle.definitions.specs.Scan.{scanNumber}
@@ -50,13 +49,6 @@ module _ (s : Sides) (p q : Cell → ℕ) (u : Cell) (b : InBox s u) where
   box-second = pairs-second p q (box s) (placeOf s u) ∙ unfold byteAt gridWith in (byte-with s q u b)
 
 -- ---- the places of a box are the numbers below its volume, in order
-pub place-below : (s : Sides) (u : Cell) → InBox s u → placeOf s u < volume s
-unfolding volume
-place-below s u b = digits (digits (b .0) (b .1)) (b .2)
-  where
-    digits : {x y m n : ℕ} → x < m → y < n → x * n + y < m * n
-    digits {x} {y} {m} {n} h k = omega (arith, mul-le-mul-right n h)
-
 pub places : (s : Sides) → map (placeOf s) (box s) ≡ below (volume s)
 places s = map-same (placeOf s) (byteAt g) (box s) (λ u k. sym (at u (box-at s u k))) ∙ bytes-whole g (length-from 0 (volume s))
   where
@@ -69,7 +61,7 @@ places s = map-same (placeOf s) (byteAt g) (box s) (λ u k. sym (at u (box-at s 
     numbers i (suc n) (suc k) h = numbers (suc i) n k (omega arith) ∙ omega arith
 
     at : (u : Cell) → InBox s u → byteAt g u ≡ placeOf s u
-    at u b = unfold byteAt in (numbers 0 (volume s) (placeOf s u) (place-below s u b) ∙ omega arith)
+    at u b = unfold byteAt in (numbers 0 (volume s) (placeOf s u) (place-lt s u b) ∙ omega arith)
 
 -- a list of an even length, two by two
 two-by-two : (n : ℕ) (xs : List ℕ) → length xs ≡ 2 * n → each (below n) (λ k. getD xs (2 * k + 0) 0 ∷ getD xs (2 * k + 1) 0 ∷ []) ≡ xs

@@ -8,7 +8,7 @@ use native.Mathlib.Omega.{arith}
 use lib.Dec.{T, ltb, eqb, eqb→eq, ltb→lt}
 use lib.ListN.{length, getD}
 use Rattle.definitions.specs.Lists.{any, consIf, keep, each, below, from, member, less, isEmpty}
-use Rattle.definitions.proofs.ListLaws.{and-left, and-right, and-both, or-cases, all-at, any-at, any-of, keep-at, keep-of, keep-keep, keep-ascending, each-at, member-of, ascending-unique, clash, eqb-of, holds}
+use Rattle.definitions.proofs.ListLaws.{and-left, and-right, and-both, or-cases, all-at, any-at, any-of, keep-at, keep-of, keep-keep, keep-each, keep-ascending, each-at, member-of, ascending-unique, clash, eqb-of, holds}
 use Rattle.definitions.specs.Maps.{Map, turns, mirrorings, mapCell}
 use Rattle.definitions.specs.Kinds.{Kind}
 use Rattle.definitions.specs.Placements.{Placement, Compiled, compile}
@@ -34,19 +34,6 @@ module _ {A : Type 0} where
   nothing-in : (xs : List A) → ((x : A) → List·Memᴰ x xs → ⊥) → xs ≡ []
   nothing-in [] f = refl
   nothing-in (x ∷ xs) f = absurd (f x (List·Memᴰ·head refl))
-
-module _ {A : Type 0} (p : A → Bool) where
-  keep-append : (xs ys : List A) → keep p (xs ++ ys) ≡ keep p xs ++ keep p ys
-  keep-append [] ys = refl
-  keep-append (x ∷ xs) ys = go (p x) (keep-append xs ys)
-    where
-      go : (b : Bool) → keep p (xs ++ ys) ≡ keep p xs ++ keep p ys → consIf b x (keep p (xs ++ ys)) ≡ consIf b x (keep p xs) ++ keep p ys
-      go true e = ap (λ (l : List A). x ∷ l) e
-      go false e = e
-
-keep-each : {A B : Type 0} (p : B → Bool) (f : A → List B) (xs : List A) → keep p (each xs f) ≡ each xs (λ x. keep p (f x))
-keep-each p f [] = refl
-keep-each p f (x ∷ xs) = keep-append p (f x) (each xs f) ∙ ap (λ (l : List _). keep p (f x) ++ l) (keep-each p f xs)
 
 -- entries that give nothing may be left out
 each-keep : {A B : Type 0} (p : A → Bool) (f : A → List B) (xs : List A) → ((x : A) → List·Memᴰ x xs → T (not (p x)) → f x ≡ []) → each (keep p xs) f ≡ each xs f

@@ -9,7 +9,7 @@ use native.Mathlib.Omega.{arith}
 use lib.Dec.{T, leb, ltb, eqb, eqb→eq, leb→le, le→leb, ltb→lt, lt→ltb}
 use lib.ListN.{length, length-map}
 use Rattle.definitions.specs.Lists.{consIf, keep, each, below, isEmpty, sum}
-use Rattle.definitions.proofs.ListLaws.{and-left, and-right, and-both, keep-same, all-of, any-of, any-at, is-false, eqb-of, decide, clash}
+use Rattle.definitions.proofs.ListLaws.{and-left, and-right, and-both, keep-same, keep-each, all-of, any-of, any-at, is-false, eqb-of, decide, clash}
 use Rattle.definitions.proofs.CountLaws.{total-same, howMany-total, howMany-length, sum-map}
 use Rattle.definitions.specs.Grid.{setDown, Sides, Cell, Grid, box, volume, byteAt, gridWith, filledCells, InBox}
 use Rattle.definitions.specs.Maps.{coordinate}
@@ -103,21 +103,9 @@ module _ (f : Cell → ℕ) (us : List Cell) (some : T (not (isEmpty us))) where
 cellOf : ℕ → ℕ → ℕ → Cell
 cellOf i j k = record { x = i; y = j; z = k }
 
-keep-append : {A : Type 0} (p : A → Bool) (xs ys : List A) → keep p (xs ++ ys) ≡ keep p xs ++ keep p ys
-keep-append p [] ys = refl
-keep-append p (x ∷ xs) ys = go (p x) (keep-append p xs ys)
-  where
-    go : (b : Bool) → keep p (xs ++ ys) ≡ keep p xs ++ keep p ys → consIf b x (keep p (xs ++ ys)) ≡ consIf b x (keep p xs) ++ keep p ys
-    go true e = ap (λ (l : List _). x ∷ l) e
-    go false e = e
-
-keep-each : {A B : Type 0} (p : B → Bool) (f : A → List B) (xs : List A) → keep p (each xs f) ≡ each xs (λ x. keep p (f x))
-keep-each p f [] = refl
-keep-each p f (x ∷ xs) = keep-append p (f x) (each xs f) ∙ ap (λ (l : List _). keep p (f x) ++ l) (keep-each p f xs)
-
-keep-map : {A B : Type 0} (p : B → Bool) (f : A → B) (xs : List A) → keep p (map f xs) ≡ each xs (λ x. consIf (p (f x)) (f x) [])
-keep-map p f [] = refl
-keep-map p f (x ∷ xs) = go (p (f x)) (keep-map p f xs)
+keep-one-each : {A B : Type 0} (p : B → Bool) (f : A → B) (xs : List A) → keep p (map f xs) ≡ each xs (λ x. consIf (p (f x)) (f x) [])
+keep-one-each p f [] = refl
+keep-one-each p f (x ∷ xs) = go (p (f x)) (keep-one-each p f xs)
   where
     go : (b : Bool) → keep p (map f xs) ≡ each xs (λ y. consIf (p (f y)) (f y) []) → consIf b (f x) (keep p (map f xs)) ≡ consIf b (f x) [] ++ each xs (λ y. consIf (p (f y)) (f y) [])
     go true e = ap (λ (l : List _). f x ∷ l) e
@@ -138,7 +126,7 @@ module _ (p : Cell → Bool) where
       keep-each p (λ i. each (below (s .b)) (λ j. map (cellOf i j) (below (s .c)))) (below (s .a))
       ∙ each-same (λ i. keep p (each (below (s .b)) (λ j. map (cellOf i j) (below (s .c))))) (λ i. each (below (s .b)) (λ j. each (below (s .c)) (spot i j))) (below (s .a))
       (λ i. keep-each p (λ j. map (cellOf i j) (below (s .c))) (below (s .b))
-      ∙ each-same (λ j. keep p (map (cellOf i j) (below (s .c)))) (λ j. each (below (s .c)) (spot i j)) (below (s .b)) (λ j. keep-map p (cellOf i j) (below (s .c))))
+      ∙ each-same (λ j. keep p (map (cellOf i j) (below (s .c)))) (λ j. each (below (s .c)) (spot i j)) (below (s .b)) (λ j. keep-one-each p (cellOf i j) (below (s .c))))
 
   none-there : (i j k : ℕ) → (T (p (cellOf i j k)) → ⊥) → spot i j k ≡ []
   unfolding spot

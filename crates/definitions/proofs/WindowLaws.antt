@@ -5,6 +5,7 @@ use mathlib.Core.Logic.{_⊎_, inl, inr}
 use mathlib.Core.Path.{_≡_, refl, sym, ap, ap₂, _∙_}
 use native.Mathlib.Omega.{arith}
 use Rattle.definitions.specs.Lists.{each, from, below}
+use Rattle.definitions.proofs.GroupLaws.{from-append}
 
 module _ {B : Type 0} (f : ℕ → List B) where
   each-append : (xs ys : List ℕ) → each (xs ++ ys) f ≡ each xs f ++ each ys f
@@ -15,15 +16,6 @@ module _ {B : Type 0} (f : ℕ → List B) where
   each-none i zero h = refl
   each-none i (suc m) h = ap₂ (λ (x y : List B). x ++ y) (h i (omega arith) (omega arith)) (each-none (suc i) m (λ j a b. h j (omega arith) (omega arith)))
 
-from-split : (i a b : ℕ) → from i (a + b) ≡ from i a ++ from (i + a) b
-from-split i zero b =
-    let e : i ≡ i + 0 = omega arith in
-    let g : 0 + b ≡ b = omega arith in
-    ap₂ (λ (k m : ℕ). from k m) e g
-from-split i (suc a) b =
-    ap (λ (m : ℕ). from i m) {x = suc a + b} {y = suc (a + b)} (omega arith)
-    ∙ ap (λ (l : List ℕ). i ∷ l) (from-split (suc i) a b ∙ ap (λ (k : ℕ). from (suc i) a ++ from k b) {x = suc i + a} {y = i + suc a} (omega arith))
-
 shifted : {B : Type 0} (f : ℕ → List B) (lo k m : ℕ) → each (from (lo + k) m) f ≡ each (from k m) (λ i. f (lo + i))
 shifted f lo k zero = refl
 shifted f lo k (suc m) = ap (λ (l : List _). f (lo + k) ++ l) (ap (λ (j : ℕ). each (from j m) f) (omega arith) ∙ shifted f lo (suc k) m)
@@ -32,7 +24,7 @@ pub each-window : {B : Type 0} (f : ℕ → List B) (lo m n : ℕ) → lo + m �
 each-window f lo m n h none =
     let rest = n - (lo + m) in
     let parts : from 0 n ≡ from 0 lo ++ (from (0 + lo) m ++ from (0 + lo + m) rest) =
-    ap (λ (k : ℕ). from 0 k) (let e : n ≡ lo + (m + (n - (lo + m))) = omega arith in e) ∙ from-split 0 lo (m + rest) ∙ ap (λ (l : List ℕ). from 0 lo ++ l) (from-split (0 + lo) m rest) in
+    ap (λ (k : ℕ). from 0 k) (let e : n ≡ lo + (m + (n - (lo + m))) = omega arith in e) ∙ sym (from-append 0 lo (m + rest)) ∙ ap (λ (l : List ℕ). from 0 lo ++ l) (sym (from-append (0 + lo) m rest)) in
     ap (λ (l : List ℕ). each l f) parts ∙ each-append f (from 0 lo) (from (0 + lo) m ++ from (0 + lo + m) rest)
     ∙ ap₂ (λ (x y : List _). x ++ y) (each-none f 0 lo (λ j a b. none j (inl (omega arith)))) (each-append f (from (0 + lo) m) (from (0 + lo + m) rest))
     ∙ ap (λ (y : List _). each (from (0 + lo) m) f ++ y) (each-none f (0 + lo + m) rest (λ j a b. none j (inr (omega arith))))

@@ -12,7 +12,7 @@ use Rattle.definitions.specs.Lists.{consIf, keep, any, before, each, member, is
 use Rattle.definitions.specs.Placements.{Placement}
 use Rattle.definitions.specs.Kept.{Identify}
 use Rattle.definitions.specs.Orders.{State, possible, choose, search, fastChoices}
-use Rattle.definitions.proofs.ListLaws.{and-left, any-at, is-true, is-false, eqb-of, keep-at, keep-shorter, member-of}
+use Rattle.definitions.proofs.ListLaws.{and-left, any-at, is-true, is-false, eqb-of, keep-at, keep-append, keep-shorter, member-of}
 use Rattle.definitions.proofs.OrderLaws.{each-same-in}
 use Rattle.definitions.proofs.DemandLaws.{take-in}
 use Rattle.rows.specs.Systems.{System}
@@ -24,14 +24,6 @@ use Rattle.kept.specs.Entries.{numbersOf, entries}
 use Rattle.fast.specs.Searching.{fastBelow}
 
 -- ---- lists
-pub keep-append : {A : Type 0} (p : A → Bool) (xs ys : List A) → keep p (xs ++ ys) ≡ keep p xs ++ keep p ys
-keep-append p [] ys = refl
-keep-append {A} p (x ∷ xs) ys = go (p x) (keep-append p xs ys)
-  where
-    go : (b : Bool) → keep p (xs ++ ys) ≡ keep p xs ++ keep p ys → consIf b x (keep p (xs ++ ys)) ≡ consIf b x (keep p xs) ++ keep p ys
-    go true e = ap (λ (l : List A). x ∷ l) e
-    go false e = e
-
 pub map-append : {A B : Type 0} (f : A → B) (xs ys : List A) → map f (xs ++ ys) ≡ map f xs ++ map f ys
 map-append f [] ys = refl
 map-append {B = B} f (x ∷ xs) ys = ap (λ (l : List B). f x ∷ l) (map-append f xs ys)

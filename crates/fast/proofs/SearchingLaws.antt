@@ -12,7 +12,7 @@ use Rattle.definitions.specs.Lists.{consIf, keep, all, from, below, member, isE
 use Rattle.definitions.specs.Placements.{Placement}
 use Rattle.definitions.specs.Packing.{ahead}
 use Rattle.definitions.specs.Orders.{possible, choose}
-use Rattle.definitions.proofs.ListLaws.{and-right, all-at, all-of, decide, clash, is-true, is-false, not-T, holds, eqb-of, keep-at, keep-of, keep-same, keep-keep, keep-shorter, below-at, below-of, member-at, member-of, apart-append}
+use Rattle.definitions.proofs.ListLaws.{and-right, all-at, all-of, decide, clash, is-true, is-false, not-T, holds, eqb-of, keep-at, keep-of, keep-same, keep-keep, keep-append, keep-shorter, below-at, below-of, member-at, member-of, apart-append}
 use Rattle.masks.specs.Masks.{has, either, apart, FirstOpen}
 use Rattle.masks.specs.declared.Mask.{Mask}
 use Rattle.masks.proofs.MaskLaws.{apart-of, apart-not}
@@ -24,7 +24,7 @@ use Rattle.kept.specs.Normal.{rowOf, ofKind}
 use Rattle.kept.specs.Ready.{Fillable}
 use Rattle.kept.specs.Entries.{putAll}
 use Rattle.fast.specs.Searching.{uncovered, stateBy, Searching, fits}
-use Rattle.fast.proofs.ChoiceLaws.{keep-append, map-append, not-not}
+use Rattle.fast.proofs.ChoiceLaws.{map-append, not-not}
 use Rattle.kept.proofs.LeafLaws.{row-in, put-all-last}
 
 -- ---- the first uncovered cell

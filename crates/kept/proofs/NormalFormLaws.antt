@@ -13,6 +13,7 @@ use Rattle.definitions.specs.Lists.{consIf, keep, all, each, howMany, before, f
 use Rattle.definitions.specs.Placements.{Placement}
 use Rattle.definitions.specs.Refusals.{identifies}
 use Rattle.definitions.proofs.ListLaws.{and-left, and-right, all-at, all-of, below-of, from-of, from-at, length-below, all-map}
+use Rattle.definitions.proofs.GroupLaws.{from-append}
 use Rattle.definitions.proofs.WellMadeLaws.{nth-mem}
 use Rattle.definitions.proofs.KindLaws.{nth-at}
 use Rattle.rows.specs.declared.Dims.{Dims}
@@ -52,13 +53,6 @@ from-none k n h = let a : n - k ≡ 0 = omega arith in ap (from k) a
 
 from-start : (n : ℕ) → from 0 (n - 0) ≡ below n
 from-start n = let a : n - 0 ≡ n = omega arith in ap (from 0) a
-
-from-append : (i m n : ℕ) → from i (m + n) ≡ from i m ++ from (i + m) n
-from-append i zero n = let a : 0 + n ≡ n = omega arith in let b : i + 0 ≡ i = omega arith in ap₂ from (sym b) a
-from-append i (suc m) n =
-    let a : suc m + n ≡ suc (m + n) = omega arith in
-    let b : suc i + m ≡ i + suc m = omega arith in
-    ap (from i) a ∙ ap (λ (l : List ℕ). i ∷ l) (from-append (suc i) m n ∙ ap (λ (j : ℕ). from (suc i) m ++ from j n) b)
 
 module _ {A : Type 0} where
   all-append : (p : A → Bool) (xs ys : List A) → all p (xs ++ ys) ≡ all p xs && all p ys
@@ -250,7 +244,7 @@ module _ (d : Dims) (work images scans kinds pieces : List ℕ) where
     both-all : all (isKept rs) (below (d .turns + d .mirrorings)) ≡ all (λ f. not (imageSmaller S false rs f)) (S .turned) && all (λ f. not (imageSmaller S true rs f)) (S .mirrored)
     both-all =
         let z : 0 + d .turns ≡ d .turns = omega arith in
-        ap (all (isKept rs)) (from-append 0 (d .turns) (d .mirrorings) ∙ ap (λ (j : ℕ). from 0 (d .turns) ++ from j (d .mirrorings)) z)
+        ap (all (isKept rs)) (sym (from-append 0 (d .turns) (d .mirrorings)) ∙ ap (λ (j : ℕ). from 0 (d .turns) ++ from j (d .mirrorings)) z)
         ∙ all-append (isKept rs) (below (d .turns)) (from (d .turns) (d .mirrorings))
         ∙ ap₂ (λ (a b : Bool). a && b) turned-all mirrored-all
 

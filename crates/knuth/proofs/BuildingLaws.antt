@@ -10,7 +10,7 @@ use lib.Dec.{T, ltb, ltb→lt, nltb→le}
 use lib.ListN.{length, getD, length-append, length-map, List·getD-map}
 use Rattle.definitions.specs.Lists.{consIf, keep, howMany, below, from, sum}
 use Rattle.definitions.specs.Placements.{Placement}
-use Rattle.definitions.proofs.ListLaws.{decide, keep-of, from-at, below-of, length-from}
+use Rattle.definitions.proofs.ListLaws.{decide, keep-of, keep-append, from-at, below-of, length-from}
 use Rattle.definitions.proofs.CountLaws.{howMany-length}
 use Rattle.masks.specs.Masks.{has}
 use Rattle.rows.specs.declared.Dims.{Dims}
@@ -25,7 +25,7 @@ use Rattle.links.specs.Search.{Shape, Seek, copies}
 use Rattle.links.specs.Build.{Posed, Stocked, whole, all}
 use Rattle.knuth.specs.Tables.{Node, nodeAt, nodesIn, headNodes, rowNodes, nodesFrom, stockedRows, columns, linkNodes, tableOf, Laid, StockLaid}
 use Rattle.knuth.specs.Listing.{Begun}
-use Rattle.knuth.proofs.LaidLaws.{keep-append, below-split, keep-hit, keep-miss, heads-length, same-node, same-nodes, laid-more, laid-none}
+use Rattle.knuth.proofs.LaidLaws.{below-split, keep-hit, keep-miss, heads-length, same-node, same-nodes, laid-more, laid-none}
 use Rattle.knuth.proofs.TableOfLaws.{getD-map-in, getD-from, noNode, table-lawful, table-shape, table-rows, row-lawful}
 
 -- ---- lists

@@ -10,7 +10,7 @@ use lib.Dec.{T, ltb, ltb→lt, nltb→le}
 use lib.ListN.{length, getD, set, length-append, length-map, length-set}
 use lib.Seq.{getD-set-same, getD-set-other}
 use Rattle.definitions.specs.Lists.{consIf, keep, howMany, below, from}
-use Rattle.definitions.proofs.ListLaws.{decide, length-below}
+use Rattle.definitions.proofs.ListLaws.{decide, length-below, keep-append}
 use Rattle.definitions.proofs.CountLaws.{howMany-length}
 use Rattle.definitions.proofs.GroupLaws.{from-append}
 use Rattle.masks.specs.Masks.{has}
@@ -21,14 +21,6 @@ use Rattle.knuth.specs.Tables.{Node, nodeAt, nodesIn, headNodes, rowNode
 map-append : {A B : Type 0} (f : A → B) (xs ys : List A) → map f (xs ++ ys) ≡ map f xs ++ map f ys
 map-append f [] ys = refl
 map-append f (x ∷ xs) ys = ap (λ (l : List _). f x ∷ l) (map-append f xs ys)
-
-pub keep-append : {A : Type 0} (p : A → Bool) (xs ys : List A) → keep p (xs ++ ys) ≡ keep p xs ++ keep p ys
-keep-append p [] ys = refl
-keep-append p (x ∷ xs) ys = go (p x) (keep-append p xs ys)
-  where
-    go : (b : Bool) → keep p (xs ++ ys) ≡ keep p xs ++ keep p ys → consIf b x (keep p (xs ++ ys)) ≡ consIf b x (keep p xs) ++ keep p ys
-    go true e = ap (λ (l : List _). x ∷ l) e
-    go false e = e
 
 -- the numbers below n and those from n on
 pub below-split : (n m : ℕ) → n ≤ m → below m ≡ below n ++ from n (m - n)

@@ -14,7 +14,7 @@ use Rattle.definitions.specs.Placements.{Placement}
 use Rattle.definitions.specs.Packing.{used}
 use Rattle.definitions.specs.Kept.{Identify}
 use Rattle.definitions.specs.Emission.{Emitted, emits}
-use Rattle.definitions.proofs.ListLaws.{keep-same, is-false, same→eq, keep-map}
+use Rattle.definitions.proofs.ListLaws.{keep-same, is-false, same→eq, keep-append, keep-map}
 use Rattle.definitions.proofs.CountLaws.{howMany-length}
 use Rattle.definitions.proofs.EmissionLaws.{emits-unmet}
 use Rattle.rows.specs.Systems.{System}
@@ -34,7 +34,6 @@ use Rattle.links.proofs.Search.{sel-liv, sel-seek, try-live}
 use Rattle.knuth.specs.Tables.{columns, tableOf}
 use Rattle.knuth.specs.Listing.{Chosen, emitAll, foundRows, knuthRows}
 use Rattle.knuth.proofs.TableOfLaws.{cols-are, row-lawful}
-use Rattle.knuth.proofs.LaidLaws.{keep-append}
 use Rattle.knuth.proofs.KnuthStateLaws.{by-eq, both-left}
 use Rattle.knuth.proofs.ChosenLaws.{node-in, row-node, kind-column, kind-more, spend-kind, spend-other, was-live, select-clear}
 use Rattle.knuth.proofs.KnuthFoundLaws.{pick-at, list-at}
