@@ -74,16 +74,17 @@ module _ (l : Call) (ok : refusal l ≡ 0) where
   as-many = length-map {B = Piece} (lentOf l .pieces) stripPiece
 
   pub stripped-tray : StrippedTray (lentOf l) (trayOf l)
-  unfolding trayOf stripTray frameOf
+  unfolding trayOf stripTray frameOf ownFrame
   stripped-tray = record { board = of-board (some-or-none (lentOf l .board)); lent = refl; asMany = as-many; each = of-piece; counts = λ n h. ap (λ (q : Piece). q .count) (piece-is n (in-lent n h)); woods = λ n h. ap (λ (q : Piece). q .wood) (piece-is n (in-lent n h)) }
     where
       in-lent : (n : ℕ) → n < length (trayOf l .pieces) → n < length (lentOf l .pieces)
       in-lent n h = let e = as-many in omega arith
 
       of-board : T (not (isEmpty (filledCells (lentOf l .board)))) ⊎ (filledCells (lentOf l .board) ≡ [])
-          → Stripped (lentOf l .board) (trayOf l .board) (trayOf l .frame .at) ⊎ ((filledCells (lentOf l .board) ≡ []) × (trayOf l .board ≡ lentOf l .board))
+          → Stripped (lentOf l .board) (trayOf l .board) (trayOf l .frame .at)
+          ⊎ ((filledCells (lentOf l .board) ≡ []) × (trayOf l .board ≡ lentOf l .board) × (trayOf l .frame ≡ ownFrame (lentOf l .board)))
       of-board (inl some) = inl (stripped-of (lentOf l .board) (lent-board-bits l ok) some)
-      of-board (inr e) = inr (e, strip-empty (lentOf l .board) e)
+      of-board (inr e) = inr (e, strip-empty (lentOf l .board) e, λ i. record { lent = lentOf l .board .sides; at = corner-none (lentOf l .board) e i })
 
       of-piece : (n : ℕ) → n < length (trayOf l .pieces) → (at : Cell) × Stripped (pieceAt (lentOf l) n .grid) (pieceAt (trayOf l) n .grid) at
       of-piece n h =

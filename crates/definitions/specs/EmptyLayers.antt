@@ -10,6 +10,7 @@ use lib.Dec.{T}
 use lib.ListN.{length}
 use Rattle.definitions.specs.Lists.{all}
 use Rattle.definitions.specs.Grid.{Cell, Grid, setDown, volume, filledCells}
+use Rattle.definitions.specs.Stripping.{ownFrame}
 use Rattle.definitions.specs.Kinds.{Tray}
 use Rattle.definitions.specs.Kept.{Identify}
 use Rattle.definitions.specs.Framing.{unframed, inFrame}
@@ -29,7 +30,7 @@ pub record Stripped (g h : Grid) (at : Cell) : Type 0 where
 -- the tray t is the lent tray s, stripped: its board, lying where it lay in the box that was lent, or as lent where no cell is filled; and its pieces, each in
 -- its place with its count and its wood
 pub record StrippedTray (s t : Tray) : Type 0 where
-  pub board : Stripped (s .board) (t .board) (t .frame .at) ⊎ ((filledCells (s .board) ≡ []) × (t .board ≡ s .board))
+  pub board : Stripped (s .board) (t .board) (t .frame .at) ⊎ ((filledCells (s .board) ≡ []) × (t .board ≡ s .board) × (t .frame ≡ ownFrame (s .board)))
   pub lent : t .frame .lent ≡ s .board .sides
   pub asMany : length (t .pieces) ≡ length (s .pieces)
   pub each : (n : ℕ) → n < length (t .pieces) → (at : Cell) × Stripped (pieceAt s n .grid) (pieceAt t n .grid) at
