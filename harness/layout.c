@@ -1,8 +1,9 @@
-/* The record in C: the wood lies in what was padding, so records made before it have the same size and the same fields in the same
-   places, and a zeroed one has wood 0. Compiling this holds the layout (C11). Linked with the static library, it takes an engine, an
-   identification and two woods, and prints the listing of two cells packed by two pieces of one cell, one copy each, in these woods;
-   before that it holds the page of records made as they were before to that of records with wood 0. Status 1 on a difference.
-   layout.sh does both, and holds the listings to the model. */
+/* Record and answer in C. The wood of a record lies in what was padding, so records made before it have the same size and the same
+   fields in the same places, and a zeroed one has wood 0; so does `missing` of an answer, behind `further`. Compiling this holds the
+   layout (C11). Linked with the static library, it takes an engine, an identification and two woods, and prints the listing of two
+   cells packed by two pieces of one cell, one copy each, in these woods; before that it holds the page of records made as they were
+   before to that of records with wood 0, and afterwards it asks for the page behind each entry and behind what is none. Status 1 on
+   a difference. layout.sh does both, and holds the listings to the model. */
 #include <stdbool.h>
 #include <stddef.h>
 #include <stdint.h>
@@ -12,7 +13,8 @@
 
 typedef struct { size_t a, b, c; uint32_t count; uint8_t wood; size_t start; } Record;
 typedef struct { size_t a, b, c; uint32_t count; size_t start; } RecordBefore;
-typedef struct { uint32_t number; size_t written; bool further; } Answer;
+typedef struct { uint32_t number; size_t written; bool further, missing; } Answer;
+typedef struct { uint32_t number; size_t written; bool further; } AnswerBefore;
 
 _Static_assert(sizeof(Record) == 40 && sizeof(RecordBefore) == 40, "a record has 40 bytes");
 _Static_assert(_Alignof(Record) == _Alignof(RecordBefore), "the alignment");
@@ -22,11 +24,18 @@ _Static_assert(offsetof(Record, c) == 16 && offsetof(RecordBefore, c) == 16, "c"
 _Static_assert(offsetof(Record, count) == 24 && offsetof(RecordBefore, count) == 24, "count");
 _Static_assert(offsetof(Record, wood) == 28, "wood");
 _Static_assert(offsetof(Record, start) == 32 && offsetof(RecordBefore, start) == 32, "start");
+_Static_assert(sizeof(Answer) == 24 && sizeof(AnswerBefore) == 24, "an answer has 24 bytes");
+_Static_assert(_Alignof(Answer) == _Alignof(AnswerBefore), "the alignment of an answer");
+_Static_assert(offsetof(Answer, number) == 0 && offsetof(AnswerBefore, number) == 0, "number");
+_Static_assert(offsetof(Answer, written) == 8 && offsetof(AnswerBefore, written) == 8, "written");
+_Static_assert(offsetof(Answer, further) == 16 && offsetof(AnswerBefore, further) == 16, "further");
+_Static_assert(offsetof(Answer, missing) == 17, "missing");
 
 Answer ferghuul_page(
     const Record *pieces, size_t piece_count, Record board,
     const uint8_t *bytes, size_t byte_count,
-    uint8_t engine, bool turned, bool mirrored, uint64_t skip,
+    uint8_t engine, bool turned, bool mirrored,
+    bool behind, uint64_t skip, const uint8_t *last, size_t last_bytes,
     uint8_t *answers, size_t answer_bytes,
     uint64_t *work, size_t words,
     uint16_t *links, size_t numbers);
@@ -39,13 +48,19 @@ static const uint8_t cells[4] = {1, 1, 1, 1};
 
 typedef struct { Answer answer; uint8_t answers[12]; } Page;
 
-static Page page(const Record pieces[2], Record board, uint8_t engine, bool turned) {
+/* The page from the start, or behind `last` where it is not null; then the skip is not read. */
+static Page page_from(const uint8_t *last, size_t size, const Record pieces[2], Record board, uint8_t engine, bool turned) {
     Page page;
     memset(&page, 0, sizeof page);
     memset(page.answers, 170, sizeof page.answers);
-    page.answer = ferghuul_page(pieces, 2, board, cells, sizeof cells, engine, turned, false, 0,
+    page.answer = ferghuul_page(pieces, 2, board, cells, sizeof cells, engine, turned, false,
+                                last != NULL, last != NULL ? 77 : 0, last, size,
                                 page.answers, sizeof page.answers, work, 8192, links, 32768);
     return page;
+}
+
+static Page page(const Record pieces[2], Record board, uint8_t engine, bool turned) {
+    return page_from(NULL, 0, pieces, board, engine, turned);
 }
 
 static Record in_wood(size_t length, uint32_t count, uint8_t wood, size_t start) {
@@ -74,7 +89,7 @@ static Record from_before(size_t length, uint32_t count, size_t start) {
 
 static bool same(Page one, Page other) {
     return one.answer.number == other.answer.number && one.answer.written == other.answer.written
-        && one.answer.further == other.answer.further
+        && one.answer.further == other.answer.further && one.answer.missing == other.answer.missing
         && memcmp(one.answers, other.answers, sizeof one.answers) == 0;
 }
 
@@ -84,6 +99,27 @@ static void expect(bool holds, const char *what) {
     if (!holds) {
         fprintf(stderr, "layout: %s\n", what);
         wrong = 1;
+    }
+}
+
+/* Behind entry i of a list stands what follows it; behind what is no entry nothing, and this is told. */
+static void hold_behind(const Page *list, const Record pieces[2], Record board, uint8_t engine, bool turned) {
+    size_t total = list->answer.written;
+    for (size_t entry = 0; entry < total; entry++) {
+        Page rest = page_from(list->answers + 4 * entry, 4, pieces, board, engine, turned);
+        size_t ahead = total - entry - 1;
+        expect(rest.answer.number == 0 && rest.answer.written == ahead && !rest.answer.further && !rest.answer.missing,
+               "behind an entry");
+        expect(memcmp(rest.answers, list->answers + 4 * (entry + 1), 4 * ahead) == 0, "another entry behind an entry");
+    }
+    uint8_t damaged[5];
+    memcpy(damaged, list->answers, 4);
+    damaged[4] = 0;
+    for (size_t size = 0; size <= 5; size++) {
+        damaged[3] = size == 4 ? 9 : list->answers[3];
+        Page none = page_from(damaged, size, pieces, board, engine, turned);
+        expect(none.answer.number == 0 && none.answer.written == 0 && !none.answer.further && none.answer.missing,
+               "behind what is no entry");
     }
 }
 
@@ -111,7 +147,8 @@ int main(int argc, char **argv) {
     expect(same(found, page(pieces, in_wood(2, 0, one, 0), engine, turned)), "the board's wood is read");
     expect(same(found, page(pieces, in_wood(2, 0, 255, 0), engine, turned)), "the board's wood 255 is read");
     expect(one != other || same(found, without), "one wood all through is not as no wood");
-    expect(found.answer.number == 0 && !found.answer.further, "not the whole list");
+    expect(found.answer.number == 0 && !found.answer.further && !found.answer.missing, "not the whole list");
+    hold_behind(&found, pieces, board, engine, turned);
     for (size_t entry = 0; entry < found.answer.written; entry++) {
         const uint8_t *bytes = found.answers + 4 * entry;
         printf("%zu\t%d.%d %d.%d\n", entry, bytes[0], bytes[1], bytes[2], bytes[3]);

@@ -1,7 +1,7 @@
 #!/bin/sh
-# Holds the record in C to its layout: compiles layout.c, whose assertions stand for sizes and offsets with a wood and before it, links
-# it with the static library (`rt staticlib exports` at the root), runs it and compares what it lists with the model (oracle/model.py).
-# `layout.sh compile` stops before the library. Status 1 on a difference.
+# Holds record and answer in C to their layout: compiles layout.c, whose assertions stand for sizes and offsets with a wood and before
+# it, with `missing` and before it, links it with the static library (`rt staticlib exports` at the root), runs it and compares what it
+# lists with the model (oracle/model.py). `layout.sh compile` stops before the library. Status 1 on a difference.
 cd "$(dirname "$0")" || exit 1
 library=../target/staticlib/libexports.a
 folder=$(mktemp -d) || exit 1
@@ -28,5 +28,5 @@ for engine in fast knuth; do
         done
     done
 done
-[ $failed = 0 ] && echo "layout: 40 bytes, wood at 28, wood 0 as no wood; $run lists as the model's"
+[ $failed = 0 ] && echo "layout: a record of 40 bytes, wood at 28, wood 0 as no wood; an answer of 24, missing at 17; $run lists as the model's"
 exit $failed

@@ -1,4 +1,4 @@
-//! The page calls of the static library, and trays as they take them.
+//! The page call of the static library, and trays as it takes them.
 
 use oracle::tray::{Engine, Grid, Tray};
 
@@ -19,6 +19,21 @@ pub struct Answer {
     pub number: u32,
     pub written: usize,
     pub further: bool,
+    pub missing: bool,
+}
+
+impl Answer {
+    /// An accepted call's: a page with so many answers, and whether a further one follows.
+    pub const fn page(written: usize, further: bool) -> Answer {
+        Answer { number: 0, written, further, missing: false }
+    }
+
+    pub const fn refused(number: u32) -> Answer {
+        Answer { number, written: 0, further: false, missing: false }
+    }
+
+    /// No entry of the list equals the one that was lent, to begin behind it.
+    pub const MISSING: Answer = Answer { number: 0, written: 0, further: false, missing: true };
 }
 
 extern "C" {
@@ -32,24 +47,8 @@ extern "C" {
         engine: u8,
         turned: bool,
         mirrored: bool,
+        behind: bool,
         skip: u64,
-        answers: *mut u8,
-        answer_bytes: usize,
-        work: *mut u64,
-        words: usize,
-        links: *mut u16,
-        numbers: usize,
-    ) -> Answer;
-
-    fn ferghuul_page_behind(
-        pieces: *const Record,
-        piece_count: usize,
-        board: Record,
-        bytes: *const u8,
-        byte_count: usize,
-        engine: u8,
-        turned: bool,
-        mirrored: bool,
         last: *const u8,
         last_bytes: usize,
         answers: *mut u8,
@@ -62,7 +61,7 @@ extern "C" {
 }
 
 /// Where a page begins: at an entry, by its number, or behind an entry, by its bytes.
-#[derive(Clone, Copy)]
+#[derive(Clone, Copy, Debug)]
 pub enum Start<'a> {
     Skip(u64),
     Behind(&'a [u8]),
@@ -111,48 +110,33 @@ impl Lent {
         }
     }
 
-    /// A page of the engine's list, or the refusal.
+    /// A page of the engine's list, or the refusal. Of skip and last entry the one that is not to be read holds something.
     pub fn page(&self, start: Start, answers: &mut [u8], work: &mut [u64], links: &mut [u16]) -> Answer {
-        match start {
-            Start::Skip(skip) => unsafe {
-                ferghuul_page(
-                    self.pieces.as_ptr(),
-                    self.pieces.len(),
-                    self.board,
-                    self.bytes.as_ptr(),
-                    self.bytes.len(),
-                    self.engine_number(),
-                    self.turned,
-                    self.mirrored,
-                    skip,
-                    answers.as_mut_ptr(),
-                    answers.len(),
-                    work.as_mut_ptr(),
-                    work.len(),
-                    links.as_mut_ptr(),
-                    links.len(),
-                )
-            },
-            Start::Behind(last) => unsafe {
-                ferghuul_page_behind(
-                    self.pieces.as_ptr(),
-                    self.pieces.len(),
-                    self.board,
-                    self.bytes.as_ptr(),
-                    self.bytes.len(),
-                    self.engine_number(),
-                    self.turned,
-                    self.mirrored,
-                    last.as_ptr(),
-                    last.len(),
-                    answers.as_mut_ptr(),
-                    answers.len(),
-                    work.as_mut_ptr(),
-                    work.len(),
-                    links.as_mut_ptr(),
-                    links.len(),
-                )
-            },
+        let (behind, skip, last) = match start {
+            Start::Skip(skip) => (false, skip, &[STAIN; 3][..]),
+            Start::Behind(last) => (true, 1, last),
+        };
+        unsafe {
+            ferghuul_page(
+                self.pieces.as_ptr(),
+                self.pieces.len(),
+                self.board,
+                self.bytes.as_ptr(),
+                self.bytes.len(),
+                self.engine_number(),
+                self.turned,
+                self.mirrored,
+                behind,
+                skip,
+                last.as_ptr(),
+                last.len(),
+                answers.as_mut_ptr(),
+                answers.len(),
+                work.as_mut_ptr(),
+                work.len(),
+                links.as_mut_ptr(),
+                links.len(),
+            )
         }
     }
 }
@@ -176,13 +160,17 @@ pub const STAIN: u8 = 170;
 const WORD_STAIN: u64 = 0xAAAA_AAAA_AAAA_AAAA;
 const LINK_STAIN: u16 = 0xAAAA;
 
-/// One page from stained slices of these lengths; what it must not touch is looked at.
+/// One page from stained slices of these lengths; what it must not touch is looked at. An entry is missing only where one was
+/// waited for and the call is accepted; then nothing is written and none follows.
 pub fn ask(lent: &Lent, start: Start, room: usize, words: usize, numbers: usize) -> Result<(Vec<u8>, Answer), String> {
     let mut answers = vec![STAIN; room];
     let mut work = vec![WORD_STAIN; words];
     let mut links = vec![LINK_STAIN; numbers];
     let answer = lent.page(start, &mut answers, &mut work, &mut links);
     let is_accepted = answer.number == 0;
+    if answer.missing && (answer != Answer::MISSING || matches!(start, Start::Skip(_))) {
+        return Err(format!("missing: {answer:?}"));
+    }
     let cleared = if is_accepted { 8_192 } else { 0 };
     let unlinked = if is_accepted && lent.engine == Engine::Knuth { 32_768 } else { 0 };
     let behind = answer.written * lent.size();

@@ -1,6 +1,6 @@
 -- The table of Corners, computed. Assumes nothing.
 use lib.Dec.{T}
-use Rattle.definitions.specs.Lists.{all}
+use Rattle.lists.specs.Lists.{all}
 use Rattle.definitions.specs.Grid.{setDown, sameCell, box, volume, byteAt, gridWith, filledCells, sidesThenCells, sameGrid, gridAhead}
 use Rattle.definitions.specs.Maps.{side, coordinate, fromEnd, mapSides, mapCell, axisOf, flipOf, inverse, mapGrid, permutations, transform, parity, turns, mirrorings, mirror}
 use Rattle.definitions.specs.Stripping.{along, corner, span, spanned, strip, frameOf, ownFrame}

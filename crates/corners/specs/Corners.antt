@@ -4,7 +4,7 @@ use Prim.Native.Nat.{ℕ, _+_, _*_, _/_, _%_}
 use mathlib.Core.Bool.{Bool, true, false, cond, _&&_}
 use mathlib.Core.List.{List, [], _∷_, map}
 use lib.Dec.{eqb}
-use Rattle.definitions.specs.Lists.{each}
+use Rattle.lists.specs.Lists.{each}
 use Rattle.definitions.specs.Kept.{Identify}
 use Rattle.definitions.specs.Kept.Identify.{None, Turned, Mirrored}
 use Rattle.definitions.specs.Refusals.{Call}

@@ -1,15 +1,13 @@
 -- Allowed maps are a group, and so are the images of packings under them. Assumes nothing.
-use Prim.Native.Nat.{ℕ, zero, suc, _+_, _≤_, _<_}
-use mathlib.Core.Bool.{Bool, true, false, cond, not, _&&_}
-use mathlib.Core.List.{List, [], _∷_, _++_, map, List·Memᴰ, List·Memᴰ·head, List·Memᴰ·not-nil, List·Memᴰ·append-cases, Memᴰ·append-left, Memᴰ·append-right, Memᴰ·cast, Memᴰ·map, Memᴰ·of-map}
-use mathlib.Core.Path.{_≡_, refl, sym, ap, ap₂, _∙_, subst}
+use mathlib.Core.Bool.{Bool, true, false, not}
+use mathlib.Core.List.{List, List·Memᴰ, List·Memᴰ·not-nil, List·Memᴰ·append-cases, Memᴰ·append-left, Memᴰ·append-right, Memᴰ·cast, Memᴰ·map, Memᴰ·of-map}
+use mathlib.Core.Path.{_≡_, sym, ap, _∙_, subst}
 use mathlib.Core.Logic.{_⊎_, inl, inr}
 use lib.Dec.{T}
 use lib.ListN.{length}
-use Rattle.definitions.specs.Lists.{all, keep}
-use Rattle.definitions.proofs.ListLaws.{all-at, keep-at, keep-of}
-use Rattle.definitions.specs.Grid.{Sides, Cell, Grid, volume, filledCells, sameGrid, InBox}
-use Rattle.definitions.specs.Maps.{Map, mapSides, mapCell, inverse, mapGrid, turns, mirrorings, product, identity}
+use Rattle.lists.proofs.ListLaws.{all-at, keep-at, keep-of}
+use Rattle.definitions.specs.Grid.{Sides, Cell, Grid, volume, filledCells, sameGrid}
+use Rattle.definitions.specs.Maps.{Map, mapSides, mapCell, mapGrid, turns, mirrorings, product, identity}
 use Rattle.definitions.proofs.MapLaws.{Fits, turn-fits, mirroring-fits, filled-at, filled-there, mapped-sides}
 use Rattle.definitions.proofs.GroupLaws.{isFlips, identity-turn, identity-cell, identity-grid, turns-flips, mirrorings-flips, closed-at, turn-turn-test, mirror-mirror-test, turn-mirror-test, mirror-turn-test, back-at, turns-back-test, mirrorings-back-test, product-cell, product-grid, sameGrid→eq, sameGrid-of}
 use Rattle.definitions.specs.Placements.{Placement, Compiled}
@@ -45,10 +43,6 @@ product-in true true m n a b = closed-at mirrorings mirrorings turns mirror-mirr
 pub back-in : (odd : Bool) (m : Map) → List·Memᴰ m (mapsOf odd) → (n : Map) × List·Memᴰ n (mapsOf odd) × (product n m ≡ identity) × (product m n ≡ identity)
 back-in false m k = back-at turns turns-back-test m k
 back-in true m k = back-at mirrorings mirrorings-back-test m k
-
-plus-self : (odd : Bool) → plus odd odd ≡ false
-plus-self false = refl
-plus-self true = refl
 
 -- the grid of a product
 pub product-on : (odd odd′ : Bool) (m n : Map) → List·Memᴰ m (mapsOf odd) → List·Memᴰ n (mapsOf odd′) → (g : Grid) → mapGrid m (mapGrid n g) ≡ mapGrid (product m n) g

@@ -1,15 +1,19 @@
 -- No two packings share an answer. Assumes nothing.
 use Prim.Native.Nat.{ℕ, zero, suc, _+_, _<_}
 use mathlib.Core.Bool.{Bool, cond, not}
-use mathlib.Core.List.{List, [], _∷_, _++_, map, List·Memᴰ, List·Memᴰ·head, List·Memᴰ·tail, List·Memᴰ·not-nil, List·Memᴰ·cases-cons, Memᴰ·append-left, Memᴰ·append-right, Memᴰ·cast, Memᴰ·of-map, head-eq-of-cons-eq, tail-eq-of-cons-eq}
+use mathlib.Core.List.{List, [], _∷_, map, List·Memᴰ, List·Memᴰ·head, List·Memᴰ·tail, List·Memᴰ·not-nil, List·Memᴰ·cases-cons, Memᴰ·cast, Memᴰ·of-map}
 use mathlib.Core.Path.{_≡_, refl, sym, ap, ap₂, _∙_, subst}
 use mathlib.Core.Logic.{_⊎_, inl, inr}
 use native.Mathlib.Omega.{arith}
 use lib.Dec.{T, ltb, eqb, eqb→eq, eqb-refl, lt→ltb}
 use lib.ListN.{length, getD}
-use Rattle.definitions.specs.Lists.{keep, each, joined, numbered, numberedFrom, headOr, member, below, Apart}
-use Rattle.definitions.proofs.ListLaws.{is-true, is-false, decide, clash, keep-at, keep-of, each-at, member-at, member-of, apart-each, apart-keep, apart-ascending, ascending-unique, from-ascending, ltb-trans, ltb-irrefl, below-at}
-use Rattle.definitions.proofs.CountLaws.{howMany-length}
+use Rattle.lists.specs.Lists.{keep, numbered, headOr, member, below, Apart}
+use Rattle.lists.proofs.TestLaws.{is-true, is-false, decide, clash, ltb-trans, ltb-irrefl}
+use Rattle.lists.proofs.ListLaws.{joined-of, keep-at, keep-of, each-at, apart-each, apart-keep, joined-at, apart-map, two-at}
+use Rattle.lists.proofs.SortLaws.{apart-ascending, ascending-unique}
+use Rattle.lists.proofs.RangeLaws.{member-at, member-of, from-ascending, below-at}
+use Rattle.lists.proofs.CountLaws.{howMany-length}
+use Rattle.lists.proofs.NthLaws.{mem-nth-of, numbered-of, Nth, nth-mem, nth-below, nth-getD, getD-nth, numbered-at, numbered-ascending, nth-unique, nth-apart}
 use Rattle.definitions.specs.Grid.{Cell, setDown, sameCell, box, volume, InBox}
 use Rattle.definitions.proofs.MapLaws.{box-of}
 use Rattle.definitions.specs.Scan.{scanNumber}
@@ -20,8 +24,7 @@ use Rattle.definitions.proofs.PackingLaws.{ahead-trans, ahead-irrefl, p
 use Rattle.definitions.specs.Answers.{Taken, takes, taken, copyOn, lentCells, answer}
 use Rattle.definitions.specs.Refusals.{Call, lentOf, stripTray, trayOf, refusal}
 use Rattle.definitions.proofs.SearchLaws.{WellMade}
-use Rattle.definitions.proofs.WellMadeLaws.{sameCell→eq, sameCell-refl, Nth, nth-mem, nth-below, nth-getD, getD-nth, joined-at, numbered-at, numbered-ascending}
-use Rattle.definitions.proofs.CellLaws.{nth-unique, nth-apart, apart-map-in}
+use Rattle.definitions.proofs.WellMadeLaws.{sameCell→eq, sameCell-refl}
 use Rattle.definitions.proofs.ImageLaws.{Numbered}
 use Rattle.definitions.proofs.PartnerLaws.{sameForm→eq, form-irrefl, fs, fs-up, form-nth}
 use Rattle.definitions.proofs.GeometryLaws.{numbered-cells, acts, onto-itself, only-itself, W, in-box, piece-whole}
@@ -29,36 +32,6 @@ use Rattle.definitions.specs.Kept.Identify.{Turned, Mirrored}
 use Rattle.definitions.proofs.KeptLaws.{Geometry}
 use Rattle.definitions.proofs.StrippingLaws.{strip-fits}
 use Rattle.definitions.proofs.StrippedLaws.{set-down-one}
-
--- ---- lists
-two-at : {A : Type 0} (a b a′ b′ : A → ℕ) (xs : List A) → each xs (λ x. a x ∷ b x ∷ []) ≡ each xs (λ x. a′ x ∷ b′ x ∷ []) → (x : A) → List·Memᴰ x xs → (a x ≡ a′ x) × (b x ≡ b′ x)
-two-at a b a′ b′ [] e x m = absurd (List·Memᴰ·not-nil m)
-two-at a b a′ b′ (y ∷ ys) e x m = go (List·Memᴰ·cases-cons m) (λ (k : List·Memᴰ x ys). two-at a b a′ b′ ys (tail-eq-of-cons-eq (tail-eq-of-cons-eq e)) x k)
-  where
-    go : (x ≡ y) ⊎ List·Memᴰ x ys → (List·Memᴰ x ys → (a x ≡ a′ x) × (b x ≡ b′ x)) → (a x ≡ a′ x) × (b x ≡ b′ x)
-    go (inl i) f = subst (λ z. (a z ≡ a′ z) × (b z ≡ b′ z)) (sym i) (head-eq-of-cons-eq e, head-eq-of-cons-eq (tail-eq-of-cons-eq e))
-    go (inr k) f = f k
-
-pub joined-of : {A : Type 0} (xss : List (List A)) {xs : List A} {z : A} → List·Memᴰ xs xss → List·Memᴰ z xs → List·Memᴰ z (joined xss)
-joined-of [] m k = absurd (List·Memᴰ·not-nil m)
-joined-of (ys ∷ xss) {xs} {z} m k = go (List·Memᴰ·cases-cons m) (λ (h : List·Memᴰ xs xss). joined-of xss h k)
-  where
-    go : (xs ≡ ys) ⊎ List·Memᴰ xs xss → (List·Memᴰ xs xss → List·Memᴰ z (joined xss)) → List·Memᴰ z (ys ++ joined xss)
-    go (inl e) f = Memᴰ·append-left (joined xss) (subst (λ (l : List _). List·Memᴰ z l) e k)
-    go (inr h) f = Memᴰ·append-right ys (f h)
-
-pub numbered-of : {A B : Type 0} (f : ℕ → A → B) (i : ℕ) (xs : List A) (n : ℕ) (x : A) → Nth xs n x → List·Memᴰ (f (n + i) x) (numberedFrom i xs f)
-numbered-of f i [] n x h = absurd h
-numbered-of f i (y ∷ ys) zero x h = List·Memᴰ·head (let e : zero + i ≡ i = omega arith in ap₂ (λ (k : ℕ) (z : _). f k z) e h)
-numbered-of f i (y ∷ ys) (suc n) x h = List·Memᴰ·tail (Memᴰ·cast (let e : suc n + i ≡ n + suc i = omega arith in ap (λ (k : ℕ). f k x) e) (numbered-of f (suc i) ys n x h))
-
-pub mem-nth-of : {A : Type 0} (xs : List A) (x : A) → List·Memᴰ x xs → (n : ℕ) × Nth xs n x
-mem-nth-of [] x m = absurd (List·Memᴰ·not-nil m)
-mem-nth-of (y ∷ ys) x m = go (List·Memᴰ·cases-cons m) (λ (k : List·Memᴰ x ys). mem-nth-of ys x k)
-  where
-    go : (x ≡ y) ⊎ List·Memᴰ x ys → (List·Memᴰ x ys → (n : ℕ) × Nth ys n x) → (n : ℕ) × Nth (y ∷ ys) n x
-    go (inl e) f = (zero, e)
-    go (inr k) f = let r = f k in (suc (r .0), r .1)
 
 -- ---- which copy lies where
 takes-at : (ds : List Copy) (qs : List Placement) (t : Taken) → List·Memᴰ t (takes ds qs) → (j : ℕ) × (q : Placement) × Nth ds j (t .copy) × Nth qs j q × (t .cells ≡ q .cells)
@@ -274,7 +247,7 @@ module _ (t : Tray) where
   unfolding copiesOf
   copies-apart f =
       apart-each copiesOfPiece (keep (λ (q : Sorted). sameForm (q .form) f) (sorted t)) (apart-keep (λ (q : Sorted). sameForm (q .form) f) (sorted t) sorted-apart)
-      (λ q m. apart-map-in (copyOf q) (below (q .count)) (apart-ascending ltb ltb-irrefl (below (q .count)) (from-ascending 0 (q .count))) (λ a b k l e. ap (λ (z : Copy). z .copy) e))
+      (λ q m. apart-map (copyOf q) (below (q .count)) (apart-ascending ltb ltb-irrefl (below (q .count)) (from-ascending 0 (q .count))) (λ a b k l e. ap (λ (z : Copy). z .copy) e))
       (λ q r m k x a b.
       let n = Memᴰ·of-map (copyOf q) (below (q .count)) a in
       let o = Memᴰ·of-map (copyOf r) (below (r .count)) b in

@@ -6,9 +6,12 @@ use mathlib.Core.Path.{_≡_, sym, ap, _∙_, subst, subst₂}
 use native.Mathlib.Omega.{arith}
 use lib.Dec.{T, eqb}
 use lib.ListN.{length, take, drop, length-map}
-use Rattle.definitions.specs.Lists.{each, keep, headOr, member}
-use Rattle.definitions.proofs.ListLaws.{keep-at, keep-none, keep-ascending, member-at}
-use Rattle.definitions.proofs.CountLaws.{howMany-keep}
+use Rattle.lists.specs.Lists.{each, keep, headOr, member}
+use Rattle.lists.proofs.ListLaws.{keep-at, keep-none}
+use Rattle.lists.proofs.SortLaws.{keep-ascending}
+use Rattle.lists.proofs.RangeLaws.{member-at}
+use Rattle.lists.proofs.CountLaws.{howMany-keep}
+use Rattle.lists.proofs.NthLaws.{Nth, nth-mem, nth-below, nth-getD, getD-nth, nth-howMany, nth-value, before-nth}
 use Rattle.definitions.specs.Grid.{Sides, Cell, InBox, setDown, box, placeOf, byteAt, gridWith, filledCells, sameCell}
 use Rattle.definitions.proofs.MapLaws.{cell-path, place-lt, byte-with, filled-at}
 use Rattle.definitions.proofs.GridLaws.{length-box}
@@ -23,9 +26,7 @@ use Rattle.definitions.specs.Outcomes.{answerSize}
 use Rattle.definitions.specs.AnswersRight.{bytesOf, numberIn, copyFor, AnswerRight, answersRight}
 use Rattle.definitions.proofs.PackingLaws.{ahead-trans, ahead-irrefl, packing-placed, packing-once}
 use Rattle.definitions.proofs.SearchLaws.{WellMade}
-use Rattle.definitions.proofs.WellMadeLaws.{Nth, nth-mem, nth-below, nth-getD, getD-nth, nth-howMany, sameCell→eq}
-use Rattle.definitions.proofs.CellLaws.{nth-value}
-use Rattle.definitions.proofs.PartnerLaws.{before-holds}
+use Rattle.definitions.proofs.WellMadeLaws.{sameCell→eq}
 use Rattle.definitions.proofs.GeometryLaws.{W, to-filled}
 use Rattle.definitions.proofs.AnswerLaws.{kindList, Held, held, taken-at, set-number, in-lent}
 use Rattle.definitions.proofs.DemandLaws.{answer-length}
@@ -117,7 +118,7 @@ module _ (l : Call) (ok : refusal l ≡ 0) where
   numbered-filled u h =
       let r = getD-nth (lentCells C) (scanNumber (lentCells C) u) (subst (λ (n : ℕ). scanNumber (lentCells C) u < n) (sym (length-map (C .cells) (setDown at))) h) in
       let m = Memᴰ·of-map (setDown at) (C .cells) (nth-mem (lentCells C) (scanNumber (lentCells C) u) (r .1)) in
-      Memᴰ·cast (sameCell→eq u (r .0) (before-holds (sameCell u) (lentCells C) (r .0) (r .1)) ∙ sym (m .2)) (Memᴰ·map (setDown at) (to-filled l ok (m .0) (m .1)))
+      Memᴰ·cast (sameCell→eq u (r .0) (before-nth (sameCell u) (lentCells C) (r .0) (r .1)) ∙ sym (m .2)) (Memᴰ·map (setDown at) (to-filled l ok (m .0) (m .1)))
 
   answer-right : (P : List Placement) → Packing C P → AnswerRight C P
   unfolding answerSize

@@ -1,16 +1,19 @@
 -- Each placement has its image under an allowed map, so the image of a packing is a packing, where kinds and copies allow it. Assumes nothing.
 use Prim.Native.Nat.{ℕ, suc, _+_, _-_, _≤_, _<_}
 use mathlib.Core.Bool.{Bool, true, false, cond, _&&_}
-use mathlib.Core.List.{List, [], _∷_, map, List·Memᴰ, List·Memᴰ·head, List·Memᴰ·tail, Memᴰ·cast, Memᴰ·map, Memᴰ·of-map}
+use mathlib.Core.List.{List, [], _∷_, map, List·Memᴰ, List·Memᴰ·head, Memᴰ·cast, Memᴰ·map, Memᴰ·of-map}
 use mathlib.Core.Path.{_≡_, refl, sym, ap, _∙_, subst}
-use mathlib.Core.Logic.{_⊎_, inl, inr}
 use native.Mathlib.Nat.{le-refl}
 use native.Mathlib.Omega.{arith}
 use lib.Dec.{T, leb, eqb, eqb→eq, le→leb}
 use lib.ListN.{length, getD}
-use Rattle.definitions.specs.Lists.{all, any, howMany, keep, below, member, Apart}
-use Rattle.definitions.proofs.ListLaws.{and-both, all-of, any-of, keep-at, keep-of, below-at, member-of, member-at, howMany-pos, without, apart-keep, apart-length, apart-ascending, eqb-of}
-use Rattle.definitions.proofs.CountLaws.{howMany-length}
+use Rattle.lists.specs.Lists.{all, any, keep, below, member, Apart}
+use Rattle.lists.proofs.TestLaws.{and-both, eqb-of}
+use Rattle.lists.proofs.ListLaws.{relate-length, all-of, any-of, keep-at, keep-of, apart-keep}
+use Rattle.lists.proofs.SortLaws.{apart-ascending}
+use Rattle.lists.proofs.RangeLaws.{below-at, member-of, member-at}
+use Rattle.lists.proofs.CountLaws.{just-one, howMany-length}
+use Rattle.lists.proofs.NthLaws.{Nth, nth-mem, nth-getD, getD-nth, mem-nth-of}
 use Rattle.definitions.specs.Grid.{Sides, Cell, Grid, volume, sameCell, filledCells, InBox}
 use Rattle.definitions.specs.Maps.{Map, side, coordinate, fromEnd, mapSides, mapCell, inverse, mapGrid, turns, mirror, product, identity, axisAt, flipAt}
 use Rattle.definitions.proofs.MapLaws.{Fits, filled-at, filled-there, filled-back, mapped-sides}
@@ -22,7 +25,7 @@ use Rattle.definitions.specs.Packing.{ahead, samePlacement, covering, us
 use Rattle.definitions.proofs.PackingLaws.{ahead-irrefl, samePlacement-refl, packing-placed, packing-once, packing-at, packing-within}
 use Rattle.definitions.specs.Kept.{kindAfter, cellAfter, image}
 use Rattle.definitions.proofs.SearchLaws.{WellMade}
-use Rattle.definitions.proofs.WellMadeLaws.{Nth, nth-mem, nth-getD, getD-nth, Made, ShapeFacts, from-made, up-board, lies-on, lies-coordinate, the-variant, kind-in, some-cells, up-variant, sameCell-refl}
+use Rattle.definitions.proofs.WellMadeLaws.{Made, ShapeFacts, from-made, up-board, lies-on, lies-coordinate, the-variant, kind-in, some-cells, up-variant, sameCell-refl}
 use Rattle.definitions.proofs.ShapeLaws.{shape-facts, variant-at, smallest-at}
 use Rattle.definitions.proofs.CellLaws.{cell-by, scan-filled, filled-scan}
 use Rattle.definitions.proofs.MoveLaws.{mirror-in}
@@ -30,35 +33,8 @@ use Rattle.definitions.proofs.PartnerLaws.{variant-of, partner-form, sh
 use Rattle.definitions.proofs.ImageLaws.{Numbered, Onto, Onto-placement, after-below, after-after, after-still, image-at, image-of, image-ascending, same-cells, numbers-inj}
 use Rattle.definitions.proofs.ActLaws.{plus, mapsOf, fits-of, product-in, product-on, back-in, Allowed, allowed-back, identity-then-cell, on-cells, kinds-back}
 use Rattle.definitions.proofs.GeometryLaws.{piece-whole, good, W, numbered-cells, to-filled, of-filled, whole, partners, in-box}
-use Rattle.definitions.proofs.AnswerLaws.{mem-nth-of}
 use Rattle.definitions.proofs.SetDownLaws.{placed-nth}
 use Rattle.definitions.specs.Refusals.{Call, trayOf, refusal}
-
--- ---- lists
-module _ {A : Type 0} where
-  -- just one entry passes where one does and no other
-  pub just-one : (p : A → Bool) (xs : List A) → Apart xs → (x : A) → List·Memᴰ x xs → T (p x) → ((y : A) → List·Memᴰ y xs → T (p y) → y ≡ x) → howMany p xs ≡ 1
-  just-one p xs h x m t f =
-      let a = howMany-pos p xs m t in
-      let b = apart-length (keep p xs) (x ∷ []) (apart-keep p xs h) (λ z k. let r = keep-at p xs k in List·Memᴰ·head (f z (r .0) (r .1))) in
-      let e = howMany-length p xs in
-      omega arith
-
--- a list whose entries are related each to one of another list, no two to the same, is no longer
-pub relate-length : {A B : Type 0} (R : A → B → Type 0) (xs : List A) (ys : List B) → Apart xs → ((x : A) → List·Memᴰ x xs → (y : B) × List·Memᴰ y ys × R x y)
-    → ((x z : A) (y : B) → List·Memᴰ x xs → List·Memᴰ z xs → R x y → R z y → x ≡ z) → length xs ≤ length ys
-relate-length R [] ys h g i = omega arith
-relate-length R (x ∷ xs) ys h g i =
-    let r = without ys (g x (List·Memᴰ·head refl) .1) in
-    let k =
-    relate-length R xs (r .0) (h .1) (λ z m. other z m (g z (List·Memᴰ·tail m)) (r .2 (g z (List·Memᴰ·tail m) .0) (g z (List·Memᴰ·tail m) .1)))
-    (λ z v y m l. i z v y (List·Memᴰ·tail m) (List·Memᴰ·tail l)) in
-    let e = r .1 in
-    omega arith
-  where
-    other : {zs : List _} (z : _) → List·Memᴰ z xs → (b : (y : _) × List·Memᴰ y ys × R z y) → (b .0 ≡ g x (List·Memᴰ·head refl) .0) ⊎ List·Memᴰ (b .0) zs → (y : _) × List·Memᴰ y zs × R z y
-    other z m b (inl e) = absurd (h .0 (Memᴰ·cast (i x z (b .0) (List·Memᴰ·head refl) (List·Memᴰ·tail m) (subst (λ (y : _). R x y) (sym e) (g x (List·Memᴰ·head refl) .2)) (b .2)) m))
-    other z m b (inr k) = (b .0, k, b .2)
 
 -- ---- the image of a packing whose placements all have images
 module _ (c : Compiled) (w : WellMade c) (nu : Numbered c) (odd : Bool) (f g : Cell → Cell) (on : Onto c w nu f) (ong : Onto c w nu g)

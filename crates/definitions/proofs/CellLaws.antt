@@ -1,29 +1,30 @@
 -- Scan numbers are one to one, and a placement is given by its kind and its cells. Assumes nothing.
-use Prim.Native.Nat.{ℕ, zero, suc, _+_, _-_, _≤_, _<_}
+use Prim.Native.Nat.{ℕ, _+_, _-_, _≤_}
 use mathlib.Core.Bool.{Bool, true, false, cond, not, _&&_}
-use mathlib.Core.List.{List, [], _∷_, map, List·Memᴰ, List·Memᴰ·head, List·Memᴰ·tail, List·Memᴰ·not-nil, List·Memᴰ·cases-cons, Memᴰ·cast, Memᴰ·map, Memᴰ·of-map, head-eq-of-cons-eq, tail-eq-of-cons-eq, nil≢cons, cons≢nil}
+use mathlib.Core.List.{List, map, List·Memᴰ, Memᴰ·map, Memᴰ·of-map, map-id}
 use mathlib.Core.Path.{_≡_, refl, sym, ap, ap₂, _∙_, subst}
 use mathlib.Core.Logic.{_⊎_, inl, inr}
 use native.Mathlib.Nat.{le-antisymm}
 use native.Mathlib.Omega.{arith}
 use lib.Dec.{T, leb, eqb, eqb→eq, leb→le}
-use lib.ListN.{length, getD}
-use Rattle.definitions.specs.Lists.{all, any, keep, sort, less, ascending, Apart}
-use Rattle.definitions.proofs.ListLaws.{and-left, and-right, all-at, any-at, keep-at, apart-keep, apart-ascending, sort-ascending, less-trans, less-irrefl, decide, clash, eqb-of}
+use lib.ListN.{length}
+use Rattle.lists.specs.Lists.{all, any, keep, sort, Apart}
+use Rattle.lists.proofs.TestLaws.{and-left, and-right, decide, clash, eqb-of}
+use Rattle.lists.proofs.ListLaws.{map-through, apart-map, any-at, apart-keep, map-same}
+use Rattle.lists.proofs.SortLaws.{apart-ascending, sort-ascending, less-trans, less-irrefl, sort-at, sort-of}
+use Rattle.lists.proofs.NthLaws.{nth-apart, nth-unique, Nth}
 use Rattle.definitions.specs.Grid.{Sides, Cell, Grid, sameCell, box, volume, byteAt, filledCells, gridAhead, sidesThenCells, InBox}
-use Rattle.definitions.specs.Maps.{Map, side, coordinate, fromEnd, mapSides, mapCell, inverse, mapGrid, turns, axisAt, flipAt}
-use Rattle.definitions.proofs.MapLaws.{Fits, turn-fits, box-at, cell-path, filled-at, filled-of, filled-there, filled-back, mapped-sides}
-use Rattle.definitions.proofs.GroupLaws.{side-at, coordinate-at, coordinate-below, grid-path, bytes-whole, map-same}
+use Rattle.definitions.specs.Maps.{Map, side, coordinate, fromEnd, mapCell, mapGrid, turns, axisAt, flipAt}
+use Rattle.definitions.proofs.MapLaws.{Fits, box-at, filled-at, filled-of, filled-there, mapped-sides}
+use Rattle.definitions.proofs.GroupLaws.{side-at, coordinate-at, coordinate-below, grid-path, bytes-whole}
 use Rattle.definitions.specs.Scan.{axes, cellAhead, scan, scanNumber}
-use Rattle.definitions.specs.Kinds.{Tray, Piece, Kind, kindsOf, variants, smallest}
+use Rattle.definitions.specs.Kinds.{Tray, Kind, kindsOf, variants}
 use Rattle.definitions.specs.Placements.{origin, lies, reaches, fits, Placement, compile}
 use Rattle.definitions.proofs.SearchLaws.{WellMade}
-use Rattle.definitions.proofs.EngineLaws.{sort-at}
-use Rattle.definitions.proofs.WellMadeLaws.{Nth, nth-mem, nth-below, getD-nth, Made, ShapeFacts, from-made, up-board, nth-number, mem-nth, number-below, lies-on, lies-coordinate, the-variant, kind-in, some-cells, up-variant, cell-trans, cell-irrefl, scan-ascending}
-use Rattle.definitions.proofs.ShapeLaws.{sort-of, cells-tied, variant-at, smallest-at, kind-at}
+use Rattle.definitions.proofs.WellMadeLaws.{Made, ShapeFacts, from-made, up-board, nth-number, mem-nth, lies-on, lies-coordinate, the-variant, kind-in, some-cells, up-variant}
+use Rattle.definitions.proofs.ShapeLaws.{cells-tied}
 use Rattle.definitions.proofs.GridLaws.{byte-bit}
 use Rattle.definitions.specs.Refusals.{areBits, filledWhere, isTight}
-use Rattle.definitions.proofs.MoveLaws.{mapped-whole, mapped-bits}
 use Rattle.definitions.proofs.KeptLaws.{same-rank}
 
 -- ---- tight grids: a filled cell at each end of each axis
@@ -139,45 +140,6 @@ same-filled g h tg th bg bh eg eh f b =
             omega (arith, lg, lh)
 
 -- ---- lists
-module _ {A : Type 0} where
-  pub nth-unique : (xs : List A) (n : ℕ) (a b : A) → Nth xs n a → Nth xs n b → a ≡ b
-  nth-unique [] n a b h k = absurd h
-  nth-unique (x ∷ xs) zero a b h k = h ∙ sym k
-  nth-unique (x ∷ xs) (suc n) a b h k = nth-unique xs n a b h k
-
-  pub nth-apart : (xs : List A) → Apart xs → (n m : ℕ) (a : A) → Nth xs n a → Nth xs m a → n ≡ m
-  nth-apart [] p n m a h k = absurd h
-  nth-apart (x ∷ xs) p zero zero a h k = refl
-  nth-apart (x ∷ xs) p zero (suc m) a h k = absurd (p .0 (Memᴰ·cast (sym h) (nth-mem xs m k)))
-  nth-apart (x ∷ xs) p (suc n) zero a h k = absurd (p .0 (Memᴰ·cast (sym k) (nth-mem xs n h)))
-  nth-apart (x ∷ xs) p (suc n) (suc m) a h k = ap suc (nth-apart xs (p .1) n m a h k)
-
-  pub nth-value : (xs : List A) (n : ℕ) (a d : A) → Nth xs n a → getD xs n d ≡ a
-  nth-value [] n a d h = absurd h
-  nth-value (x ∷ xs) zero a d h = sym h
-  nth-value (x ∷ xs) (suc n) a d h = nth-value xs n a d h
-
-pub apart-map-in : {A B : Type 0} (f : A → B) (xs : List A) → Apart xs → ((x y : A) → List·Memᴰ x xs → List·Memᴰ y xs → f x ≡ f y → x ≡ y) → Apart (map f xs)
-apart-map-in f [] h g = tt
-apart-map-in f (x ∷ xs) h g = (
-  λ m. let r = Memᴰ·of-map f xs m in h .0 (Memᴰ·cast (g x (r .0) (List·Memᴰ·head refl) (List·Memᴰ·tail (r .1)) (sym (r .2))) (r .1)),
-  apart-map-in f xs (h .1) (λ y z m k. g y z (List·Memᴰ·tail m) (List·Memᴰ·tail k)),
-)
-
--- lists that are the same under f and g are the same under what f and g tell
-map-through : {A B C D : Type 0} (f : A → C) (g : B → C) (F : A → D) (G : B → D) (xs : List A) (ys : List B)
-    → ((x : A) (y : B) → List·Memᴰ x xs → List·Memᴰ y ys → f x ≡ g y → F x ≡ G y) → map f xs ≡ map g ys → map F xs ≡ map G ys
-map-through f g F G [] [] h e = refl
-map-through f g F G [] (y ∷ ys) h e = absurd (nil≢cons e)
-map-through f g F G (x ∷ xs) [] h e = absurd (cons≢nil e)
-map-through f g F G (x ∷ xs) (y ∷ ys) h e =
-    ap₂ (λ (a : _) (l : List _). a ∷ l) (h x y (List·Memᴰ·head refl) (List·Memᴰ·head refl) (head-eq-of-cons-eq e))
-    (map-through f g F G xs ys (λ a b m k. h a b (List·Memᴰ·tail m) (List·Memᴰ·tail k)) (tail-eq-of-cons-eq e))
-
-map-still : {A : Type 0} (xs : List A) → map (λ x. x) xs ≡ xs
-map-still [] = refl
-map-still (x ∷ xs) = ap (λ (l : List _). x ∷ l) (map-still xs)
-
 pub grid-trans : (g h k : Grid) → T (gridAhead g h) → T (gridAhead h k) → T (gridAhead g k)
 unfolding gridAhead
 grid-trans g h k s t = less-trans (sidesThenCells g) (sidesThenCells h) (sidesThenCells k) s t
@@ -249,7 +211,7 @@ module _ (t : Tray) (facts : ShapeFacts t) (w : WellMade (compile t))
   variants-apart g = apart-ascending gridAhead grid-irrefl (sort gridAhead (map (λ m. mapGrid m g) turns)) (sort-ascending gridAhead grid-trans (map (λ m. mapGrid m g) turns))
 
   fitting-apart : (d : Kind) → List·Memᴰ d (kindsOf t) → (v : Cell) → Apart (keep (fits bd v) (map (scan or) (variants (d .shape))))
-  fitting-apart d k v = apart-keep (fits bd v) (map (scan or) (variants (d .shape))) (apart-map-in (scan or) (variants (d .shape)) (variants-apart (d .shape)) (scan-inj d k))
+  fitting-apart d k v = apart-keep (fits bd v) (map (scan or) (variants (d .shape))) (apart-map (scan or) (variants (d .shape)) (variants-apart (d .shape)) (scan-inj d k))
 
   module _ (q r : Placement) (a : List·Memᴰ q (compile t .placements)) (b : List·Memᴰ r (compile t .placements)) (k : q .kind ≡ r .kind) (e : q .cells ≡ r .cells) where
     x : Made or bd (kindsOf t) q
@@ -331,10 +293,10 @@ module _ (t : Tray) (facts : ShapeFacts t) (w : WellMade (compile t))
 
       variants-eq : X .variant ≡ Y .variant
       variants-eq =
-          sym (map-still (X .variant))
+          sym (map-id (X .variant))
           ∙ map-through (lies (X .on) (origin (X .variant))) (lies (Y .on) (origin (Y .variant))) (λ u. u) (λ u. u) (X .variant) (Y .variant)
           (λ u v m l i. lies-inj (Y .on) (origin (Y .variant)) u v (ap₂ (λ (z o : Cell). lies z o u) (sym on-eq) (sym origins) ∙ i)) placed
-          ∙ map-still (Y .variant)
+          ∙ map-id (Y .variant)
 
       list-eq : keep (fits bd (X .on)) (map (scan or) (variants (X .kind .shape))) ≡ keep (fits bd (Y .on)) (map (scan or) (variants (Y .kind .shape)))
       list-eq = ap₂ (λ (v : Cell) (d : Kind). keep (fits bd v) (map (scan or) (variants (d .shape)))) on-eq (kind-same q r a b k e)

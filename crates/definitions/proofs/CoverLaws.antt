@@ -1,16 +1,19 @@
 -- Both engines' lists of packings are the exact covers within the copies, for a compiled tray that is well made. Assumes nothing.
-use Prim.Native.Nat.{ℕ, zero, suc, _+_, _≤_, _<_}
-use mathlib.Core.Bool.{Bool, true, false, cond, not, _&&_}
-use mathlib.Core.List.{List, [], _∷_, map, Perm, perm-ext-iff-of-nodup, List·Nodup, Pairwise·nil, Pairwise·cons, List·Mem, List·Memᴰ, List·Memᴰ·head, List·Memᴰ·tail, List·Memᴰ·not-nil, List·Memᴰ·cases-cons, Memᴰ·cast, Memᴰ·map, Memᴰ·of-map}
-use mathlib.Core.Path.{_≡_, refl, sym, ap, _∙_, subst}
+use Prim.Native.Nat.{ℕ, _<_}
+use mathlib.Core.Bool.{not}
+use mathlib.Core.List.{List, [], _∷_, Perm, perm-ext-iff-of-nodup, List·Nodup, Pairwise·nil, Pairwise·cons, List·Mem, List·Memᴰ, Memᴰ·cast, Memᴰ·map, Memᴰ·of-map}
+use mathlib.Core.Path.{_≡_, sym, ap, _∙_, subst}
 use mathlib.Core.Logic.{_⊎_, inl, inr, ∥∥₁-map, ∥∥₁-elim}
 use mathlib.Core.HLevel.{⊥-prop}
-use native.Mathlib.Nat.{lt-irrefl, le-antisymm}
+use native.Mathlib.Nat.{le-antisymm}
 use native.Mathlib.Omega.{arith}
-use lib.Dec.{T, ltb, leb, eqb, eqb→eq, ltb→lt, lt→ltb, nltb→le, eqb-refl}
+use lib.Dec.{T, ltb, eqb, eqb→eq, ltb→lt, lt→ltb, nltb→le, eqb-refl}
 use lib.ListN.{length, getD, length-map, List·getD-map}
-use Rattle.definitions.specs.Lists.{all, any, howMany, keep, below, member, ascending, Apart}
-use Rattle.definitions.proofs.ListLaws.{and-left, and-right, and-both, all-at, all-of, any-at, any-of, keep-at, keep-of, keep-ascending, below-at, below-of, from-ascending, member-of, howMany-pos, ascending-unique, apart-keep, eqb-of, decide, ltb-trans, ltb-irrefl}
+use Rattle.lists.specs.Lists.{all, any, howMany, keep, below, member, ascending, Apart}
+use Rattle.lists.proofs.TestLaws.{eqb-of, decide, ltb-trans, ltb-irrefl}
+use Rattle.lists.proofs.ListLaws.{howMany-same, howMany-map, all-at, all-of, any-at, any-of, keep-at, keep-of, howMany-pos, apart-keep, getD-mem, mem-getD}
+use Rattle.lists.proofs.SortLaws.{getD-ahead, keep-ascending, ascending-unique, pick-ascending}
+use Rattle.lists.proofs.RangeLaws.{below-at, below-of, from-ascending}
 use Rattle.definitions.specs.Placements.{Placement, Compiled}
 use Rattle.definitions.specs.Packing.{ahead, samePlacement, covering, used, limits, placed, coversOnce, withinCopies, Packing}
 use Rattle.definitions.proofs.PackingLaws.{ahead-trans, ahead-irrefl, samePlacement-refl, samePlacement→eq, packing-placed, packing-covers, packing-within}
@@ -21,53 +24,9 @@ use Rattle.definitions.specs.Refusals.{rowsOf}
 use Rattle.definitions.proofs.SearchLaws.{WellMade}
 use Rattle.definitions.proofs.EngineLaws.{Exactly, fast-exact, knuth-exact}
 use Rattle.definitions.specs.Demands.{ExactCover, CoverWithin, matrixOf, placementsIn, nowhere}
-use Rattle.definitions.specs.declared.SolverKind.{SolverKind}
 use Rattle.definitions.specs.declared.SolverKind.the-variants.{Fast, KnuthAlgorithm}
 
 -- ---- lists
-module _ {A : Type 0} (d : A) where
-  getD-mem : (xs : List A) (r : ℕ) → r < length xs → List·Memᴰ (getD xs r d) xs
-  getD-mem [] r h = absurd (omega arith)
-  getD-mem (x ∷ xs) zero h = List·Memᴰ·head refl
-  getD-mem (x ∷ xs) (suc r) h = List·Memᴰ·tail (getD-mem xs r (omega arith))
-
-  mem-getD : (xs : List A) {x : A} → List·Memᴰ x xs → (r : ℕ) × (r < length xs) × (getD xs r d ≡ x)
-  mem-getD [] m = absurd (List·Memᴰ·not-nil m)
-  mem-getD (y ∷ ys) {x} m = go (List·Memᴰ·cases-cons m) (λ (k : List·Memᴰ x ys). mem-getD ys k)
-    where
-      go : (x ≡ y) ⊎ List·Memᴰ x ys → (List·Memᴰ x ys → (r : ℕ) × (r < length ys) × (getD ys r d ≡ x)) → (r : ℕ) × (r < suc (length ys)) × (getD (y ∷ ys) r d ≡ x)
-      go (inl e) f = (zero, omega arith, sym e)
-      go (inr k) f = let r = f k in (suc (r .0), (let h = r .1 in omega arith), r .2)
-
-  getD-ahead : (ahead : A → A → Bool) (xs : List A) → T (ascending ahead xs) → (i j : ℕ) → i < j → j < length xs → T (ahead (getD xs i d) (getD xs j d))
-  getD-ahead ahead [] t i j h k = absurd (omega arith)
-  getD-ahead ahead (x ∷ xs) t i zero h k = absurd (omega arith)
-  getD-ahead ahead (x ∷ xs) t zero (suc j) h k = all-at (ahead x) xs (and-left (all (ahead x) xs) (ascending ahead xs) t) (getD-mem xs j (omega arith))
-  getD-ahead ahead (x ∷ xs) t (suc i) (suc j) h k = getD-ahead ahead xs (and-right (all (ahead x) xs) (ascending ahead xs) t) i j (omega arith) (omega arith)
-
-  -- the entries at ascending places ascend
-  pick-ascending : (ahead : A → A → Bool) (xs : List A) → T (ascending ahead xs) → (rs : List ℕ) → T (ascending ltb rs) → T (all (λ r. ltb r (length xs)) rs)
-      → T (ascending ahead (map (λ r. getD xs r d) rs))
-  pick-ascending ahead xs t [] s u = tt
-  pick-ascending ahead xs t (r ∷ rs) s u =
-      and-both (all (ahead (getD xs r d)) (map (λ i. getD xs i d) rs)) (ascending ahead (map (λ i. getD xs i d) rs))
-      (all-of (ahead (getD xs r d)) (map (λ i. getD xs i d) rs) (λ z m. later z (Memᴰ·of-map (λ i. getD xs i d) rs m)))
-      (pick-ascending ahead xs t rs (and-right (all (ltb r) rs) (ascending ltb rs) s) (and-right (ltb r (length xs)) (all (λ i. ltb i (length xs)) rs) u))
-    where
-      later : (z : A) → (i : ℕ) × List·Memᴰ i rs × (getD xs i d ≡ z) → T (ahead (getD xs r d) z)
-      later z x =
-          subst (λ (y : A). T (ahead (getD xs r d) y)) (x .2)
-          (getD-ahead ahead xs t r (x .0) (ltb→lt r (x .0) (all-at (ltb r) rs (and-left (all (ltb r) rs) (ascending ltb rs) s) (x .1)))
-          (ltb→lt (x .0) (length xs) (all-at (λ i. ltb i (length xs)) rs (and-right (ltb r (length xs)) (all (λ i. ltb i (length xs)) rs) u) (x .1))))
-
-howMany-map : {A B : Type 0} (p : B → Bool) (f : A → B) (xs : List A) → howMany p (map f xs) ≡ howMany (λ x. p (f x)) xs
-howMany-map p f [] = refl
-howMany-map p f (x ∷ xs) = ap (λ (n : ℕ). cond (p (f x)) 1 0 + n) (howMany-map p f xs)
-
-howMany-same : {A : Type 0} (p q : A → Bool) (xs : List A) → ((x : A) → p x ≡ q x) → howMany p xs ≡ howMany q xs
-howMany-same p q [] h = refl
-howMany-same p q (x ∷ xs) h = ap (λ (b : Bool). cond b 1 0 + howMany p xs) (h x) ∙ ap (λ (n : ℕ). cond (q x) 1 0 + n) (howMany-same p q xs h)
-
 nodup-of : {A : Type 0} (xs : List A) → Apart xs → List·Nodup xs
 nodup-of [] h = Pairwise·nil
 nodup-of (x ∷ xs) h = Pairwise·cons (λ y m e. ∥∥₁-elim m ⊥-prop (λ k. h .0 (Memᴰ·cast e k))) (nodup-of xs (h .1))

@@ -1,19 +1,21 @@
 -- The outcome of document 01's definitions meets demands 2 and 3. Assumes nothing.
-use Prim.Native.Nat.{ℕ, zero, suc, _+_, _-_, _*_, _/_, _≤_, _<_, min}
+use Prim.Native.Nat.{ℕ, _+_, _-_, _*_, _/_, _≤_, _<_, min}
 use mathlib.Core.Bool.{Bool, true, false, cond, _&&_}
-use mathlib.Core.List.{List, [], _∷_, _++_, map, Perm·map, List·Memᴰ, List·Memᴰ·head, List·Memᴰ·tail, List·Memᴰ·not-nil, List·Memᴰ·cases-cons, Memᴰ·map, Memᴰ·of-map}
+use mathlib.Core.List.{List, [], _∷_, _++_, map, Perm·map, List·Memᴰ, List·Memᴰ·head, List·Memᴰ·not-nil, List·Memᴰ·cases-cons, Memᴰ·map, Memᴰ·of-map, map-map}
 use mathlib.Core.Path.{_≡_, refl, sym, ap, ap₂, _∙_, subst}
 use mathlib.Core.Logic.{_⊎_, inl, inr}
-use native.Mathlib.Nat.{suc-mul, zero-mul, mul-comm, div-mul-le-self, lt-div-mul-add, add-mul, one-mul, mul-le-mul-right, le-trans, mul-pos}
+use native.Mathlib.Nat.{mul-comm, div-mul-le-self, lt-div-mul-add, add-mul, one-mul, mul-le-mul-right, le-trans, mul-pos}
 use native.Mathlib.Omega.{arith}
 use lib.Dec.{T, ltb, leb, ltb→lt, lt→ltb, leb→le}
-use lib.ListN.{length, take, drop, replicate, length-take, length-drop, length-append, length-map, length-replicate}
+use lib.ListN.{length, take, drop, replicate, length-take, length-drop, length-map, length-replicate}
 use lib.Seq.{length-front, length-take-le}
-use Rattle.definitions.specs.Lists.{all, keep, each, joined, headOr, member, sum, ascending, Apart}
-use Rattle.definitions.proofs.ListLaws.{and-left, and-right, all-of, keep-at, each-at, keep-ascending}
+use Rattle.lists.specs.Lists.{all, keep, each, joined, headOr, member, sum, ascending, Apart}
+use Rattle.lists.proofs.TestLaws.{and-left, and-right}
+use Rattle.lists.proofs.ListLaws.{each-length, take-min, take-in, drop-in, length-joined, all-of, keep-at, each-at, apart-map}
+use Rattle.lists.proofs.SortLaws.{keep-ascending}
+use Rattle.lists.proofs.NthLaws.{nth-mem, nth-below}
 use Rattle.definitions.specs.Grid.{Cell, box, volume}
 use Rattle.definitions.specs.Stripping.{frameOf}
-use Rattle.definitions.proofs.MapLaws.{map-map-of}
 use Rattle.definitions.proofs.GridLaws.{length-box}
 use Rattle.definitions.specs.Scan.{scanNumber}
 use Rattle.definitions.specs.Kinds.{Tray, Piece, Copy, Kind}
@@ -31,8 +33,6 @@ use Rattle.definitions.specs.declared.SolverKind.{SolverKind}
 use Rattle.definitions.specs.declared.SolverKind.the-variants.{Fast, KnuthAlgorithm}
 use Rattle.definitions.proofs.RefusalLaws.{passed, board-sides, outcome-accepted}
 use Rattle.definitions.proofs.SearchLaws.{WellMade}
-use Rattle.definitions.proofs.WellMadeLaws.{nth-mem, nth-below}
-use Rattle.definitions.proofs.CellLaws.{apart-map-in}
 use Rattle.definitions.proofs.ShapeLaws.{accepted-well-made}
 use Rattle.definitions.proofs.CoverLaws.{CoverList, fast-covers, knuth-covers, fast-knuth, knuth-fast, fast-apart, knuth-apart, rows-same, cover-packing, perm-of}
 use Rattle.definitions.proofs.KeptLaws.{ListFacts, list-facts}
@@ -41,46 +41,6 @@ use Rattle.definitions.proofs.OrderLaws.{fast-ascending}
 use Rattle.definitions.proofs.KnuthOrderLaws.{knuth-ordered}
 
 -- ---- lists of entries of one size
-Sized : ℕ → List (List ℕ) → Type 0
-Sized n xs = (x : List ℕ) → List·Memᴰ x xs → length x ≡ n
-
-pub length-joined : (n : ℕ) (xs : List (List ℕ)) → ((x : List ℕ) → List·Memᴰ x xs → length x ≡ n) → length (joined xs) ≡ length xs * n
-length-joined n [] h = sym (zero-mul n)
-length-joined n (x ∷ xs) h =
-    let a = length-append x (joined xs) in
-    let b = h x (List·Memᴰ·head refl) in
-    let c = length-joined n xs (λ y m. h y (List·Memᴰ·tail m)) in
-    let d = suc-mul (length xs) n in
-    omega arith
-
-pub drop-in : {A : Type 0} (n : ℕ) (xs : List A) {x : A} → List·Memᴰ x (drop n xs) → List·Memᴰ x xs
-drop-in zero xs m = m
-drop-in (suc n) [] m = m
-drop-in (suc n) (y ∷ ys) m = List·Memᴰ·tail (drop-in n ys m)
-
-pub take-in : {A : Type 0} (n : ℕ) (xs : List A) {x : A} → List·Memᴰ x (take n xs) → List·Memᴰ x xs
-take-in zero xs m = absurd (List·Memᴰ·not-nil m)
-take-in (suc n) [] m = m
-take-in (suc n) (y ∷ ys) {x} m = go (List·Memᴰ·cases-cons m) (λ (k : List·Memᴰ x (take n ys)). take-in n ys k)
-  where
-    go : (x ≡ y) ⊎ List·Memᴰ x (take n ys) → (List·Memᴰ x (take n ys) → List·Memᴰ x ys) → List·Memᴰ x (y ∷ ys)
-    go (inl e) f = List·Memᴰ·head e
-    go (inr k) f = List·Memᴰ·tail (f k)
-
-take-min : {A : Type 0} (n : ℕ) (xs : List A) → take (length (take n xs)) xs ≡ take n xs
-take-min zero xs = refl
-take-min (suc n) [] = refl
-take-min (suc n) (x ∷ xs) = ap (λ (l : List _). x ∷ l) (take-min n xs)
-
-each-length : {A : Type 0} (n : ℕ) (f : A → List ℕ) (xs : List A) → ((x : A) → length (f x) ≡ n) → length (each xs f) ≡ length xs * n
-each-length n f [] h = sym (zero-mul n)
-each-length n f (x ∷ xs) h =
-    let a = length-append (f x) (each xs f) in
-    let b = h x in
-    let c = each-length n f xs h in
-    let d = suc-mul (length xs) n in
-    omega arith
-
 -- two numbers for each cell of the box
 pub answer-length : (c : Compiled) (P : List Placement) → length (answer c P) ≡ answerSize (c .frame .lent)
 unfolding answer answerSize
@@ -160,6 +120,7 @@ module _ (l : Call) (ok : refusal l ≡ 0) where
           number = 0;
           written = length entries;
           further = ltb (l .skip + length entries) (length list);
+          missing = false;
           answers = joined entries ++ drop (length (joined entries)) (l .answers);
           work = replicate 8192 0 ++ drop 8192 (l .work);
           links = cond (isKnuth (l .config .solver)) (replicate 32768 0 ++ drop 32768 (l .links)) (l .links);
@@ -173,6 +134,7 @@ module _ (l : Call) (ok : refusal l ≡ 0) where
           number = 0;
           written = length (take (capacity l) (drop (l .skip) xs));
           further = ltb (l .skip + length (take (capacity l) (drop (l .skip) xs))) (length xs);
+          missing = false;
           answers = joined (take (capacity l) (drop (l .skip) xs)) ++ drop (length (joined (take (capacity l) (drop (l .skip) xs)))) (l .answers);
           work = replicate 8192 0 ++ drop 8192 (l .work);
           links = cond (isKnuth (l .config .solver)) (replicate 32768 0 ++ drop 32768 (l .links)) (l .links);
@@ -200,7 +162,7 @@ module _ (l : Call) (ok : refusal l ≡ 0) where
     stretch = subst (λ (o : Outcome). Stretch list l o) (sym its-outcome) stretch-of
 
 -- every page of a tray's one list is its stretch
-answers-sized : (t : Tray) (i : Identify) (e : SolverKind) (x : List ℕ) → List·Memᴰ x (answersOf t i e) → length x ≡ answerSize (t .frame .lent)
+pub answers-sized : (t : Tray) (i : Identify) (e : SolverKind) (x : List ℕ) → List·Memᴰ x (answersOf t i e) → length x ≡ answerSize (t .frame .lent)
 unfolding answersOf compile
 answers-sized t i e x m =
     let r = Memᴰ·of-map (answer (compile t)) (listed (compile t) i e) m in
@@ -240,7 +202,7 @@ module _ (l : Call) (ok : refusal l ≡ 0) where
   -- stripping changes no count
   pub copies-lent : copyCount (trayOf l) ≡ copyCount (lentOf l)
   unfolding copyCount trayOf stripTray
-  copies-lent = ap sum (map-map-of {B = Piece} (λ q. q .count) stripPiece (lentOf l .pieces))
+  copies-lent = ap sum (map-map {B = Piece} (λ q. q .count) stripPiece (lentOf l .pieces))
 
   pub copy-fits : (d : Kind) → List·Memᴰ d (compile (trayOf l) .kinds) → (x : Copy) → List·Memᴰ x (d .copies) → (x .piece < 16) × (x .copy < 128)
   unfolding compile copyCount
@@ -311,7 +273,7 @@ module _ (l : Call) (ok : refusal l ≡ 0) where
 
   -- no answer stands twice
   answers-apart : (L : List (List Placement)) → Apart L → ((P : List Placement) → List·Memᴰ P L → Packing C₀ P) → Apart (map (answer C₀) L)
-  answers-apart L h f = apart-map-in (answer C₀) L h (λ P Q m k e. geometry l ok .answersDiffer P Q (f P m) (f Q k) e)
+  answers-apart L h f = apart-map (answer C₀) L h (λ P Q m k e. geometry l ok .answersDiffer P Q (f P m) (f Q k) e)
 
   covers-of : (L : List (List Placement)) → CoverList C₀ well L → Apart L → ((P : List Placement) → List·Memᴰ P L → Packing C₀ P) → Covers T₀ (map (answer C₀) L)
   unfolding coverAnswer

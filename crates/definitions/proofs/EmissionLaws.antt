@@ -1,22 +1,22 @@
 -- The entries of a list, emitted one after the other, leave document 01's page. Assumes nothing.
 use Prim.Native.Nat.{ℕ, zero, suc, min, _+_, _-_, _*_, _≤_, _<_}
-use mathlib.Core.Bool.{Bool, true, false, cond, not}
+use mathlib.Core.Bool.{Bool, true, false, cond, not, _&&_, _||_, true≢false}
 use mathlib.Core.List.{List, [], _∷_, _++_, List·Memᴰ, List·Memᴰ·head, List·Memᴰ·tail, append-nil, append-assoc}
-use mathlib.Core.Path.{_≡_, refl, sym, ap, ap₂, _∙_, subst}
+use mathlib.Core.Path.{_≡_, refl, sym, ap, _∙_, subst}
 use mathlib.Core.Logic.{_⊎_, inl, inr, ⊎-elim}
-use native.Mathlib.Nat.{suc-mul, add-mul, zero-mul, mul-le-mul-right, le-trans}
+use native.Mathlib.Nat.{suc-mul, add-mul, zero-mul, mul-le-mul-right}
 use native.Mathlib.Numerals.{add-one}
-use native.Mathlib.Decide.{decLt}
 use native.Mathlib.Omega.{arith}
-use borrow.Author.Tests.{lt-ltb, le-ltb}
+use borrow.Author.Tests.{lt-ltb, le-ltb, ltb-true, ltb-false}
 use lib.Dec.{T, ltb, leb·suc-suc}
-use lib.ListN.{length, take, drop, length-take, length-drop, length-append, drop-of-length-le, take-append-drop}
+use lib.ListN.{length, take, drop, length-take, length-drop, drop-of-length-le, take-append-drop}
 use lib.Seq.{paste, take-nil, drop-nil, take-length, take-paste, drop-paste, drop-drop, length-paste}
-use Rattle.definitions.specs.Lists.{joined, same}
-use Rattle.definitions.specs.Page.{Page, page}
+use Rattle.lists.specs.Lists.{any, joined, same}
+use Rattle.lists.proofs.TestLaws.{ltb-same, lt-or-ge}
+use Rattle.lists.proofs.ListLaws.{length-joined, drop-in, take-in}
+use Rattle.definitions.specs.Page.{page}
 use Rattle.definitions.specs.Outcomes.{overStart}
 use Rattle.definitions.specs.Emission.{Emitted, begin, emit, emits, behind, onwards, IsPage}
-use Rattle.definitions.proofs.DemandLaws.{length-joined, drop-in, take-in}
 
 -- ---- one entry
 module _ (capacity : ℕ) (entry : List ℕ) (s : Emitted) where
@@ -66,6 +66,43 @@ emits-unmet capacity (x ∷ xs) s f others = rw (stays (s .further) refl) (emits
         emit-waited capacity x s e f
         ∙ (λ i. record { last = s .last; waiting = (ap not (others x (List·Memᴰ·head refl)) ∙ sym f) i; skip = s .skip; written = s .written; further = sym e i; answers = s .answers })
 
+-- an entry that was met, or was not waited for, is not waited for any more
+met-stays : (capacity : ℕ) (x : List ℕ) (s : Emitted) → s .waiting ≡ false → emit capacity x s .waiting ≡ false
+met-stays capacity x s f = go (s .further) refl
+  where
+    full : (b : Bool) → ltb (s .written) capacity ≡ b → s .further ≡ false → s .skip ≤ 0 → emit capacity x s .waiting ≡ false
+    full true d e z = ap (λ (y : Emitted). y .waiting) (emit-written capacity x s f e z (ltb-true (s .written) capacity d))
+    full false d e z = ap (λ (y : Emitted). y .waiting) (emit-full capacity x s f e z (ltb-false (s .written) capacity d))
+
+    skips : (b : Bool) → ltb 0 (s .skip) ≡ b → s .further ≡ false → emit capacity x s .waiting ≡ false
+    skips true d e = ap (λ (y : Emitted). y .waiting) (emit-skipped capacity x s f e (ltb-true 0 (s .skip) d))
+    skips false d e = full (ltb (s .written) capacity) refl e (ltb-false 0 (s .skip) d)
+
+    go : (b : Bool) → s .further ≡ b → emit capacity x s .waiting ≡ false
+    go true e = ap (λ (y : Emitted). y .waiting) (emit-done capacity x s e) ∙ f
+    go false e = skips (ltb 0 (s .skip)) refl e
+
+all-met : (capacity : ℕ) (xs : List (List ℕ)) (s : Emitted) → s .waiting ≡ false → emits capacity xs s .waiting ≡ false
+unfolding emits
+all-met capacity [] s f = f
+all-met capacity (x ∷ xs) s f = all-met capacity xs (emit capacity x s) (met-stays capacity x s f)
+
+-- afterwards an entry is waited for exactly if it was, and none of the list equals it
+pub emits-waiting : (capacity : ℕ) (list : List (List ℕ)) (last : List ℕ) (waiting : Bool) (skip : ℕ) (old : List ℕ)
+    → emits capacity list (begin last waiting skip old) .waiting ≡ (waiting && not (any (λ x. same x last) list))
+unfolding emits
+emits-waiting capacity list last false skip old = all-met capacity list (begin last false skip old) refl
+emits-waiting capacity list last true skip old = go list
+  where
+    go : (xs : List (List ℕ)) → emits capacity xs (begin last true skip old) .waiting ≡ not (any (λ x. same x last) xs)
+    go [] = refl
+    go (x ∷ xs) = ap (λ (s : Emitted). emits capacity xs s .waiting) (emit-waited capacity x (begin last true skip old) refl refl) ∙ one (same x last) (go xs)
+      where
+        one : (b : Bool) → emits capacity xs (begin last true skip old) .waiting ≡ not (any (λ y. same y last) xs)
+            → emits capacity xs (begin last (not b) skip old) .waiting ≡ not (b || any (λ y. same y last) xs)
+        one true r = all-met capacity xs (begin last false skip old) refl
+        one false r = r
+
 -- ---- entries that are skipped
 abbrev at : List ℕ → ℕ → ℕ → List ℕ → Emitted
 at last k w o = record { last = last; waiting = false; skip = k; written = w; further = false; answers = o }
@@ -102,7 +139,7 @@ module _ (n : ℕ) (o a : List ℕ) (w : ℕ) (size : length a ≡ n) (fits : w 
 abbrev pub Sized : ℕ → List (List ℕ) → Type 0
 Sized n l = (x : List ℕ) → List·Memᴰ x l → length x ≡ n
 
-room : (w capacity n m : ℕ) → w < capacity → capacity * n ≤ m → w * n + n ≤ m
+pub room : (w capacity n m : ℕ) → w < capacity → capacity * n ≤ m → w * n + n ≤ m
 room w capacity n m h k = let a = mul-le-mul-right n (let i : suc w ≤ capacity = omega arith in i) in let b = suc-mul w n in omega arith
 
 written : (last : List ℕ) (n : ℕ) (l : List (List ℕ)) → Sized n l → (c capacity w : ℕ) (o : List ℕ) → capacity ≡ w + c → capacity * n ≤ length o
@@ -130,18 +167,6 @@ written last n (x ∷ xs) s (suc c) capacity w o e h =
     (written last n xs (λ y m. s y (List·Memᴰ·tail m)) c capacity (w + 1) (paste o (w * n) x n) (omega arith) (rw (length-paste o (w * n) x n fits (omega arith)) h))
 
 -- ---- the page
-lt-or-ge : (a b : ℕ) → (a < b) ⊎ (b ≤ a)
-lt-or-ge a b = go (decLt a b)
-  where
-    go : Dec (a < b) → (a < b) ⊎ (b ≤ a)
-    go (yes h) = inl h
-    go (no h) = inr (omega arith)
-
--- two tests that hold together
-pub same-test : (a b c d : ℕ) → (a < b → c < d) → (b ≤ a → d ≤ c) → ltb a b ≡ ltb c d
-same-test a b c d f g =
-    ⊎-elim (λ (h : a < b). lt-ltb a b h ∙ sym (lt-ltb c d (f h))) (λ (h : b ≤ a). le-ltb a b h ∙ sym (le-ltb c d (g h))) (lt-or-ge a b)
-
 module _ (last : List ℕ) (n : ℕ) (list : List (List ℕ)) (sized : Sized n list) (skip capacity : ℕ) (old : List ℕ) (fits : capacity * n ≤ length old) where
   abbrev entries : List (List ℕ)
   entries = take capacity (drop skip list)
@@ -173,7 +198,7 @@ module _ (last : List ℕ) (n : ℕ) (list : List (List ℕ)) (sized : Sized n l
       rw (ends h)
       (record {
         written = refl;
-        further = same-test capacity (length list - skip) (skip + length entries) (length list) (λ u. omega arith) (λ u. omega arith);
+        further = ltb-same capacity (length list - skip) (skip + length entries) (length list) (λ u. omega arith) (λ u. omega arith);
         answers = refl;
       }))
       (λ (h : length list ≤ skip).
@@ -194,6 +219,15 @@ behind-in last (y ∷ ys) {x} m = go (same y last) m (λ (k : List·Memᴰ x (be
     go : (b : Bool) → List·Memᴰ x (cond b ys (behind last ys)) → (List·Memᴰ x (behind last ys) → List·Memᴰ x ys) → List·Memᴰ x (y ∷ ys)
     go true k f = List·Memᴰ·tail k
     go false k f = List·Memᴰ·tail (f k)
+
+-- behind an entry that is not in the list there is nothing
+pub behind-none : (last : List ℕ) (list : List (List ℕ)) → any (λ x. same x last) list ≡ false → behind last list ≡ []
+behind-none last [] e = refl
+behind-none last (x ∷ xs) e = go (same x last) e (behind-none last xs)
+  where
+    go : (b : Bool) → (b || any (λ y. same y last) xs) ≡ false → (any (λ y. same y last) xs ≡ false → behind last xs ≡ []) → cond b xs (behind last xs) ≡ []
+    go true f r = absurd (true≢false f)
+    go false f r = r f
 
 -- the entry is met, and what lies behind it is emitted; or it never comes, and there is nothing behind it
 met-or-not : (last : List ℕ) (capacity skip : ℕ) (old : List ℕ) (list : List (List ℕ))

@@ -7,7 +7,9 @@ use mathlib.Core.Logic.{_⊎_, inl, inr, _↔_, _≢_}
 use native.Mathlib.Omega.{arith}
 use lib.Dec.{T, ltb, eqb, eqb→eq, ltb→lt}
 use lib.ListN.{length, replicate}
-use Rattle.definitions.specs.Lists.{consIf, keep, all, any, each, below, isEmpty, member}
+use Rattle.lists.specs.Lists.{consIf, keep, all, any, each, below, isEmpty, member}
+use Rattle.lists.proofs.TestLaws.{and-left, and-right, and-both, or-left, or-right, or-cases, decide, clash, is-true, eqb-of}
+use Rattle.lists.proofs.ListLaws.{all-at, all-of, any-at, keep-length}
 use Rattle.definitions.specs.Grid.{Grid, Cell, box, byteAt, volume, filledCells}
 use Rattle.definitions.specs.Stripping.{Frame, strip, frameOf}
 use Rattle.definitions.proofs.StrippingLaws.{strip-empty, strip-count, strip-none}
@@ -16,11 +18,9 @@ use Rattle.definitions.specs.Kinds.{sorted, forms, kindsOf}
 use Rattle.definitions.specs.Placements.{Placement, Compiled, compile}
 use Rattle.definitions.specs.Packing.{limits, covering, placed, coversOnce, withinCopies, Packing, isPacking}
 use Rattle.definitions.specs.Kept.{Identify, compared, smaller, images, kept}
-use Rattle.definitions.specs.Orders.{State, start, choose, search, fastChoices, identifiesTurned, kind0First}
-use Rattle.definitions.specs.Orders.{fastList, knuthChoices, knuthList, packings, listed}
+use Rattle.definitions.specs.Orders.{State, start, choose, search, fastChoices, identifiesTurned, kind0First, fastList, knuthChoices, knuthList, packings, listed}
 use Rattle.definitions.specs.Answers.{taken, copyOn, answer}
-use Rattle.definitions.specs.Refusals.{Call, Row, gridOf, lentOf, stripTray, trayOf, identifyOf, sidesFit, copyCount, withRecords}
-use Rattle.definitions.specs.Refusals.{isPorted, isKnuth, placementCount, rowsOf, linkCount, table, applies, refusal}
+use Rattle.definitions.specs.Refusals.{Call, Row, gridOf, lentOf, stripTray, trayOf, identifyOf, sidesFit, copyCount, withRecords, isPorted, isKnuth, placementCount, rowsOf, linkCount, table, applies, refusal}
 use Rattle.definitions.specs.Outcomes.{Outcome, answersOf, answerSize, refused, outcome}
 use Rattle.definitions.specs.Demands.{Stretch, Pages, demand1}
 use Rattle.definitions.specs.Files.{callIn, listing}
@@ -28,8 +28,6 @@ use Rattle.definitions.specs.EmptyBox.{emptyBoxList, emptyBox, never1, e
 use Rattle.definitions.specs.declared.SolverKind.{SolverKind}
 use Rattle.definitions.specs.declared.SolverKind.the-variants.{Auto, Naive, Fast, KnuthAlgorithm}
 use Rattle.definitions.specs.declared.Record.{Record}
-use Rattle.definitions.proofs.ListLaws.{and-left, and-right, and-both, or-left, or-right, or-cases, decide, clash}
-use Rattle.definitions.proofs.ListLaws.{is-true, eqb-of, all-at, all-of, any-at, keep-length}
 use Rattle.definitions.proofs.GridLaws.{length-box}
 use Rattle.definitions.proofs.ShapeLaws.{scan-length}
 use Rattle.definitions.proofs.RefusalLaws.{passed, fit-volume, outcome-refused, demand1-holds}

@@ -1,68 +1,31 @@
 -- Both engines' choices are fair, so their lists hold exactly the packings, each once. Assumes nothing.
-use Prim.Native.Nat.{ℕ, zero, suc, _+_, _*_, _≤_, _<_}
+use Prim.Native.Nat.{ℕ, _*_, _≤_, _<_}
 use mathlib.Core.Bool.{Bool, true, false, cond, not, _&&_}
-use mathlib.Core.List.{List, [], _∷_, _++_, map, List·Memᴰ, List·Memᴰ·head, List·Memᴰ·tail, List·Memᴰ·not-nil, List·Memᴰ·cases-cons, List·Memᴰ·eq-of-singleton, Memᴰ·cast, Memᴰ·map, Memᴰ·of-map}
+use mathlib.Core.List.{List, [], _∷_, map, List·Memᴰ, List·Memᴰ·head, List·Memᴰ·not-nil, List·Memᴰ·cases-cons, List·Memᴰ·eq-of-singleton, Memᴰ·cast, Memᴰ·map, Memᴰ·of-map}
 use mathlib.Core.Path.{_≡_, refl, sym, ap, _∙_, subst}
 use mathlib.Core.Logic.{_⊎_, inl, inr}
-use native.Mathlib.Nat.{lt-irrefl, lt-trans, mul-le-mul-right, le-of-mul-le-mul-right, le-antisymm, le-of-eq}
+use native.Mathlib.Nat.{mul-le-mul-right, le-of-mul-le-mul-right, le-antisymm, le-of-eq}
 use native.Mathlib.Omega.{arith}
-use lib.Dec.{T, ltb, eqb, eqb→eq, ltb→lt, lt→ltb, eqb-refl}
+use lib.Dec.{T, ltb, eqb, eqb→eq, ltb→lt, lt→ltb}
 use lib.ListN.{length, getD, take, length-map}
-use Rattle.definitions.specs.Lists.{all, any, howMany, keep, each, below, from, member, ascending, put, sort, isEmpty, Apart}
-use Rattle.definitions.proofs.ListLaws.{and-left, and-right, and-both, all-at, all-of, any-at, any-of, keep-at, keep-of, each-at, each-of, from-at, from-ascending, member-of, member-at, howMany-pos, keep-ascending, put-at, eqb-of, below-at, below-of, length-below, howMany-any, howMany-one, decide, keep-length, apart-each, apart-ascending, holds, is-true}
-use Rattle.definitions.proofs.CountLaws.{total, total-same, total-one, total-tight, exchange, howMany-in, by-key, sum-map}
+use Rattle.lists.specs.Lists.{all, any, howMany, keep, each, below, member, ascending, sort, isEmpty, Apart}
+use Rattle.lists.proofs.TestLaws.{and-left, and-right, and-both, eqb-of}
+use Rattle.lists.proofs.ListLaws.{all-at, all-of, any-at, any-of, keep-at, keep-of, each-at, each-of, howMany-pos, howMany-any, howMany-one, keep-length, apart-each, getD-pos, one-at, head-at}
+use Rattle.lists.proofs.SortLaws.{sort-at, sort-some, keep-ascending, apart-ascending}
+use Rattle.lists.proofs.RangeLaws.{from-ascending, member-of, member-at, below-at, below-of, length-below}
+use Rattle.lists.proofs.CountLaws.{total, total-same, total-one, total-tight, exchange, howMany-in, by-key, sum-map}
 use Rattle.definitions.specs.Placements.{Placement, Compiled}
 use Rattle.definitions.specs.Packing.{ahead, covering, used, limits, Packing}
-use Rattle.definitions.proofs.PackingLaws.{ahead-trans, ahead-irrefl, packing-placed, packing-covers, packing-once, packing-within}
+use Rattle.definitions.proofs.PackingLaws.{ahead-irrefl, packing-placed, packing-covers, packing-within}
 use Rattle.definitions.specs.Orders.{State, start, possible, choose, search, fastChoices, Tally, tallyAhead, tallies, knuthChoices, knuthList, fastList, sizes, allCells, kind0First, identifiesTurned}
-use Rattle.definitions.proofs.SearchLaws.{WellMade, Sound, Fair, getD-pos, sound-start, sound-choose, free-at, possible-free, search-sound, search-complete, search-apart, from-start-sound, from-start-complete, from-start-apart}
+use Rattle.definitions.proofs.SearchLaws.{WellMade, Sound, Fair, sound-start, sound-choose, possible-free, search-sound, search-complete, search-apart, from-start-sound, from-start-complete, from-start-apart}
 use Rattle.definitions.specs.Kept.{Identify}
 
 mul-right-cancel-of-pos : {m n k : ℕ} → 0 < k → m * k ≡ n * k → m ≡ n
 mul-right-cancel-of-pos h e = le-antisymm (le-of-mul-le-mul-right (le-of-eq e) h) (le-of-mul-le-mul-right (le-of-eq (sym e)) h)
 
--- ---- lists
-module _ {A : Type 0} where
-  -- the first entry
-  pub head-at : (xs : List A) → T (not (isEmpty xs)) → (x : A) × (take 1 xs ≡ x ∷ []) × List·Memᴰ x xs
-  head-at [] t = absurd t
-  head-at (x ∷ xs) t = (x, refl, List·Memᴰ·head refl)
-
-  module _ (before : A → A → Bool) where
-    put-some : (x : A) (ys : List A) → T (not (isEmpty (put before x ys)))
-    put-some x [] = tt
-    put-some x (y ∷ ys) = go (before x y) (before y x)
-      where
-        go : (b c : Bool) → T (not (isEmpty (cond b (x ∷ y ∷ ys) (cond c (y ∷ put before x ys) (y ∷ ys)))))
-        go true c = tt
-        go false true = tt
-        go false false = tt
-
-    sort-some : (xs : List A) {x : A} → List·Memᴰ x xs → T (not (isEmpty (sort before xs)))
-    sort-some [] m = absurd (List·Memᴰ·not-nil m)
-    sort-some (y ∷ ys) m = put-some y (sort before ys)
-
-    pub sort-at : (xs : List A) {x : A} → List·Memᴰ x (sort before xs) → List·Memᴰ x xs
-    sort-at [] m = m
-    sort-at (y ∷ ys) {x} m = go (put-at before y (sort before ys) m) (λ (k : List·Memᴰ x (sort before ys)). sort-at ys k)
-      where
-        go : (x ≡ y) ⊎ List·Memᴰ x (sort before ys) → (List·Memᴰ x (sort before ys) → List·Memᴰ x ys) → List·Memᴰ x (y ∷ ys)
-        go (inl e) f = List·Memᴰ·head e
-        go (inr k) f = List·Memᴰ·tail (f k)
-
--- at most one entry of the first
-one-at : {A : Type 0} (xs : List A) (p q : A → Bool) → T (any p (take 1 xs)) → T (any q (take 1 xs)) → (x : A) × T (p x) × T (q x)
-one-at [] p q s t = absurd s
-one-at (x ∷ xs) p q s t =
-    let a = any-at p (x ∷ []) s in
-    let b = any-at q (x ∷ []) t in
-    (x, subst (λ z. T (p z)) (List·Memᴰ·eq-of-singleton (a .1)) (a .2), subst (λ z. T (q z)) (List·Memᴰ·eq-of-singleton (b .1)) (b .2))
-
 -- ---- Fast
 module _ (c : Compiled) (w : WellMade c) where
-  fast-test : State → Placement → Bool
-  fast-test s q = any (eqb (q .p)) (take 1 (s .free)) && possible s q
-
   pub fast-parts : (s : State) (q : Placement) → List·Memᴰ q (fastChoices (c .placements) s)
       → List·Memᴰ q (c .placements) × T (any (eqb (q .p)) (take 1 (s .free))) × T (possible s q)
   unfolding fastChoices

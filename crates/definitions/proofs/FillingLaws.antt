@@ -1,7 +1,7 @@
 -- The lines of document 01 that are marked to be proved, computed. Assumes nothing.
 use mathlib.Core.Bool.{_&&_}
 use lib.Dec.{T}
-use Rattle.definitions.specs.Lists.{all}
+use Rattle.lists.specs.Lists.{all}
 use Rattle.definitions.specs.Grid.{setDown, sameCell, box, volume, byteAt, gridWith, filledCells, sidesThenCells, sameGrid, gridAhead}
 use Rattle.definitions.specs.Maps.{side, coordinate, fromEnd, mapSides, mapCell, axisOf, flipOf, inverse, mapGrid, permutations, transform, parity, turns, mirrorings, mirror}
 use Rattle.definitions.specs.Stripping.{along, corner, span, spanned, strip, frameOf, ownFrame}

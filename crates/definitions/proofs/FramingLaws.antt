@@ -1,18 +1,21 @@
 -- An answer in the lent box is the stripped tray's answer put back into its frame, and what was put back can be taken out again. Assumes nothing.
 use Prim.Native.Nat.{ℕ, zero, suc, _+_, _-_, _*_, _<_}
 use mathlib.Core.Bool.{Bool, true, false, cond, not, _&&_}
-use mathlib.Core.List.{List, [], _∷_, _++_, map, List·Memᴰ, List·Memᴰ·head, List·Memᴰ·tail, Memᴰ·of-map}
+use mathlib.Core.List.{List, [], _∷_, map, List·Memᴰ, List·Memᴰ·head, List·Memᴰ·tail, Memᴰ·of-map}
 use mathlib.Core.Path.{_≡_, refl, sym, ap, ap₂, _∙_, subst}
 use mathlib.Core.Logic.{_⊎_, inl, inr}
 use native.Mathlib.Omega.{arith}
 use lib.Dec.{T, leb, ltb, eqb, leb→le, le→leb, ltb→lt, lt→ltb}
 use lib.ListN.{length, getD, length-map}
-use Rattle.definitions.specs.Lists.{consIf, keep, each, from, below, headOr, member}
-use Rattle.definitions.proofs.ListLaws.{and-left, and-right, and-both, keep-at, is-true, is-false, not-T, decide, clash, member-at, length-from}
+use Rattle.lists.specs.Lists.{consIf, keep, each, from, below, headOr, member}
+use Rattle.lists.proofs.TestLaws.{and-left, and-right, and-both, is-true, is-false, not-T, decide, clash}
+use Rattle.lists.proofs.ListLaws.{keep-at, map-same, each-same, pairs-second, pairs-first}
+use Rattle.lists.proofs.RangeLaws.{member-at, length-from}
+use Rattle.lists.proofs.NthLaws.{nth-mem}
 use Rattle.definitions.specs.Grid.{Sides, Cell, Grid, setDown, sameCell, box, volume, placeOf, byteAt, gridWith, InBox}
-use Rattle.definitions.proofs.MapLaws.{cell-path, box-at, place-lt, byte-with, each-same}
-use Rattle.definitions.proofs.GroupLaws.{bytes-whole, map-same}
-use Rattle.definitions.proofs.GridLaws.{length-box, all-set-down-none}
+use Rattle.definitions.proofs.MapLaws.{cell-path, box-at, place-lt, byte-with}
+use Rattle.definitions.proofs.GroupLaws.{bytes-whole}
+use Rattle.definitions.proofs.GridLaws.{all-set-down-none}
 use Rattle.definitions.specs.Scan.{scanNumber}
 use Rattle.definitions.specs.Kinds.{Tray, Copy, kindsOf, sorted}
 use Rattle.definitions.specs.Placements.{Placement, Compiled, compile}
@@ -20,26 +23,12 @@ use Rattle.definitions.specs.Packing.{Packing}
 use Rattle.definitions.proofs.PackingLaws.{packing-placed}
 use Rattle.definitions.specs.Answers.{Taken, taken, copyOn, answer, twoBytes}
 use Rattle.definitions.proofs.SearchLaws.{WellMade}
-use Rattle.definitions.proofs.WellMadeLaws.{nth-mem, sameCell→eq}
+use Rattle.definitions.proofs.WellMadeLaws.{sameCell→eq}
 use Rattle.definitions.proofs.AnswerLaws.{taken-at, kindList, set-number}
-use Rattle.definitions.specs.Outcomes.{answerSize}
-use Rattle.definitions.specs.Stripping.{Frame, ownFrame, FitsIn}
-use Rattle.definitions.specs.Framing.{between, inside, liftOff, byteIn, inFrame, outOfFrame, unframed, ownAnswer}
+use Rattle.definitions.specs.Stripping.{Frame, ownFrame}
+use Rattle.definitions.specs.Framing.{between, inside, liftOff, byteIn, inFrame, unframed, ownAnswer}
 
 -- ---- two bytes for each cell
-module _ {A : Type 0} (p q : A → ℕ) where
-  pub pairs-first : (xs : List A) (n : ℕ) → getD (each xs (λ x. p x ∷ q x ∷ [])) (2 * n + 0) 0 ≡ getD (map p xs) n 0
-  pairs-first [] n = refl
-  pairs-first (x ∷ xs) zero = refl
-  pairs-first (x ∷ xs) (suc n) =
-      ap (λ (k : ℕ). getD (p x ∷ q x ∷ each xs (λ y. p y ∷ q y ∷ [])) k 0) {x = 2 * suc n + 0} {y = suc (suc (2 * n + 0))} (omega arith) ∙ pairs-first xs n
-
-  pub pairs-second : (xs : List A) (n : ℕ) → getD (each xs (λ x. p x ∷ q x ∷ [])) (2 * n + 1) 0 ≡ getD (map q xs) n 0
-  pairs-second [] n = refl
-  pairs-second (x ∷ xs) zero = refl
-  pairs-second (x ∷ xs) (suc n) =
-      ap (λ (k : ℕ). getD (p x ∷ q x ∷ each xs (λ y. p y ∷ q y ∷ [])) k 0) {x = 2 * suc n + 1} {y = suc (suc (2 * n + 1))} (omega arith) ∙ pairs-second xs n
-
 -- in a list with two bytes for each cell of a box, the bytes of a cell
 module _ (s : Sides) (p q : Cell → ℕ) (u : Cell) (b : InBox s u) where
   pub box-first : getD (each (box s) (λ v. p v ∷ q v ∷ [])) (2 * placeOf s u + 0) 0 ≡ p u
@@ -62,22 +51,6 @@ places s = map-same (placeOf s) (byteAt g) (box s) (λ u k. sym (at u (box-at s 
 
     at : (u : Cell) → InBox s u → byteAt g u ≡ placeOf s u
     at u b = unfold byteAt in (numbers 0 (volume s) (placeOf s u) (place-lt s u b) ∙ omega arith)
-
--- a list of an even length, two by two
-two-by-two : (n : ℕ) (xs : List ℕ) → length xs ≡ 2 * n → each (below n) (λ k. getD xs (2 * k + 0) 0 ∷ getD xs (2 * k + 1) 0 ∷ []) ≡ xs
-two-by-two zero [] h = refl
-two-by-two zero (x ∷ xs) h = absurd (omega arith)
-two-by-two (suc n) [] h = absurd (omega arith)
-two-by-two (suc n) (x ∷ []) h = absurd (omega arith)
-two-by-two (suc n) (x ∷ y ∷ zs) h =
-    ap (λ (l : List ℕ). x ∷ y ∷ l) (step (λ k. getD (x ∷ y ∷ zs) (2 * k + 0) 0 ∷ getD (x ∷ y ∷ zs) (2 * k + 1) 0 ∷ []) 0 n
-    ∙ each-same (λ k. getD (x ∷ y ∷ zs) (2 * suc k + 0) 0 ∷ getD (x ∷ y ∷ zs) (2 * suc k + 1) 0 ∷ []) (λ k. getD zs (2 * k + 0) 0 ∷ getD zs (2 * k + 1) 0 ∷ []) (below n)
-    (λ k. ap₂ (λ (i j : ℕ). getD (x ∷ y ∷ zs) i 0 ∷ getD (x ∷ y ∷ zs) j 0 ∷ []) {x = 2 * suc k + 0} {y = suc (suc (2 * k + 0))} (omega arith) (let e : 2 * suc k + 1 ≡ suc (suc (2 * k + 1)) = omega arith in e))
-    ∙ two-by-two n zs (omega arith))
-  where
-    step : (F : ℕ → List ℕ) (i m : ℕ) → each (from (suc i) m) F ≡ each (from i m) (λ k. F (suc k))
-    step F i zero = refl
-    step F i (suc m) = ap (λ (l : List ℕ). F (suc i) ++ l) (step F (suc i) m)
 
 -- ---- the stripped part
 -- a cell of the stripped part is one of the box set down, and the other way round
@@ -107,46 +80,6 @@ inside-of at s u b =
 
     one : (lo n i : ℕ) → i < n → T (leb lo (lo + i) && ltb (lo + i) (lo + n))
     one lo n i h = and-both (leb lo (lo + i)) (ltb (lo + i) (lo + n)) (le→leb lo (lo + i) (omega arith)) (lt→ltb (lo + i) (lo + n) (omega arith))
-
--- ---- taken out again
-module _ (f : Frame) (s : Sides) (fit : FitsIn f s) where
-  set-in : (u : Cell) → InBox s u → InBox (f .lent) (setDown (f .at) u)
-  unfolding setDown
-  set-in u b = let x = b .0 in let y = b .1 in let z = b .2 in let p = fit .alongX in let q = fit .alongY in let r = fit .alongZ in (omega arith, omega arith, omega arith)
-
-  lift-set : (u : Cell) → liftOff (f .at) (setDown (f .at) u) ≡ u
-  unfolding liftOff setDown
-  lift-set u = cell-path (omega arith) (omega arith) (omega arith)
-
-  byte-set : (a : List ℕ) (j : ℕ) (u : Cell) → InBox s u → byteIn f s a j (setDown (f .at) u) ≡ getD a (2 * placeOf s u + j) 0
-  unfolding byteIn
-  byte-set a j u b =
-      ap {B = ℕ} (λ (t : Bool). cond t (getD a (2 * placeOf s (liftOff (f .at) (setDown (f .at) u)) + j) 0) 255) (is-true (inside (f .at) s (setDown (f .at) u)) (inside-of (f .at) s u b))
-      ∙ ap (λ (v : Cell). getD a (2 * placeOf s v + j) 0) (lift-set u)
-
-  pub out-in : (a : List ℕ) → length a ≡ answerSize s → outOfFrame f s (inFrame f s a) ≡ a
-  unfolding outOfFrame inFrame answerSize
-  out-in a e =
-      same-in (λ u. getD (inFrame f s a) (2 * placeOf (f .lent) (setDown (f .at) u) + 0) 0 ∷ getD (inFrame f s a) (2 * placeOf (f .lent) (setDown (f .at) u) + 1) 0 ∷ []) (λ u. two (placeOf s u)) (box s)
-      (λ u k. let b = box-at s u k in ap₂ (λ (x y : ℕ). x ∷ y ∷ [])
-      (box-first (f .lent) (byteIn f s a 0) (byteIn f s a 1) (setDown (f .at) u) (set-in u b) ∙ byte-set a 0 u b)
-      (box-second (f .lent) (byteIn f s a 0) (byteIn f s a 1) (setDown (f .at) u) (set-in u b) ∙ byte-set a 1 u b))
-      ∙ by-number (placeOf s) (box s) ∙ ap (λ (l : List ℕ). each l two) (places s) ∙ two-by-two (volume s) a e
-    where
-      two : ℕ → List ℕ
-      two n = getD a (2 * n + 0) 0 ∷ getD a (2 * n + 1) 0 ∷ []
-
-      same-in : (h k : Cell → List ℕ) (xs : List Cell) → ((u : Cell) → List·Memᴰ u xs → h u ≡ k u) → each xs h ≡ each xs k
-      same-in h k [] r = refl
-      same-in h k (x ∷ xs) r = ap₂ (λ (l m : List ℕ). l ++ m) (r x (List·Memᴰ·head refl)) (same-in h k xs (λ u m. r u (List·Memᴰ·tail m)))
-
-      by-number : (n : Cell → ℕ) (xs : List Cell) → each xs (λ u. two (n u)) ≡ each (map n xs) two
-      by-number n [] = refl
-      by-number n (x ∷ xs) = ap (λ (l : List ℕ). two (n x) ++ l) (by-number n xs)
-
-  -- put back is one to one
-  pub in-one : (a b : List ℕ) → length a ≡ answerSize s → length b ≡ answerSize s → inFrame f s a ≡ inFrame f s b → a ≡ b
-  in-one a b e h k = sym (out-in a e) ∙ ap (outOfFrame f s) k ∙ out-in b h
 
 -- ---- put back
 -- a cell that is none of them has their number
@@ -223,18 +156,6 @@ module _ (c : Compiled) (w : WellMade c) (inBox : (u : Cell) → List·Memᴰ u 
           ap₂ (λ (x y : ℕ). x ∷ y ∷ [])
           (ap (λ (x : Copy). x .piece) d ∙ sym (nowhere u 0 (not-T (inside (f .at) s u) t)))
           (ap (λ (x : Copy). x .copy) d ∙ sym (nowhere u 1 (not-T (inside (f .at) s u) t)))
-
--- two bytes for each cell of the stripped box
-pub own-length : (c : Compiled) (P : List Placement) → length (ownAnswer c P) ≡ answerSize (c .board .sides)
-unfolding ownAnswer answerSize
-own-length c P = go (box (c .board .sides)) ∙ ap (λ (n : ℕ). 2 * n) (length-box (c .board .sides))
-  where
-    two : Cell → List ℕ
-    two u = let d = copyOn (taken c P) (scanNumber (c .cells) u) in d .piece ∷ d .copy ∷ []
-
-    go : (xs : List Cell) → length (each xs two) ≡ 2 * length xs
-    go [] = refl
-    go (x ∷ xs) = let r = go xs in omega arith
 
 -- the answer of the unframed tray
 pub unframed-answer : (t : Tray) (P : List Placement) → answer (compile (unframed t)) P ≡ ownAnswer (compile t) P

@@ -5,7 +5,8 @@ use mathlib.Core.List.{List, [], _∷_, map, List·Memᴰ, Memᴰ·cast}
 use mathlib.Core.Path.{_≡_, refl, sym, ap, ap₂, _∙_, subst}
 use lib.Dec.{T}
 use lib.ListN.{length, getD}
-use Rattle.definitions.specs.Lists.{ascending}
+use Rattle.lists.specs.Lists.{ascending}
+use Rattle.lists.proofs.NthLaws.{nth-mem, getD-nth, nth-value}
 use Rattle.definitions.specs.Grid.{Cell, Grid, volume, filledCells, InBox}
 use Rattle.definitions.specs.Maps.{Map, mapCell, mapGrid}
 use Rattle.definitions.proofs.MapLaws.{filled-at, turn-fits}
@@ -20,9 +21,9 @@ use Rattle.definitions.specs.Moves.{Quarter, Move, Carries, inReach, bri
 use Rattle.definitions.specs.Moves.Move.{turn, mirroring}
 use Rattle.definitions.specs.Refusals.{Call, lentOf, trayOf, areBits, refusal}
 use Rattle.definitions.proofs.SearchLaws.{WellMade}
-use Rattle.definitions.proofs.WellMadeLaws.{nth-mem, getD-nth, nth-number, mem-nth, number-below, up-board, ShapeFacts}
+use Rattle.definitions.proofs.WellMadeLaws.{nth-number, mem-nth, number-below, up-board, ShapeFacts}
 use Rattle.definitions.proofs.ShapeLaws.{lent-board-whole, lent-board-bits, board-is, stripped-piece, bits, tight, shape-facts, accepted-well-made, variant-at, smallest-at, kind-at}
-use Rattle.definitions.proofs.CellLaws.{Tight, tight-of, tight-mapped, by-cells, nth-value, scan-filled, filled-scan}
+use Rattle.definitions.proofs.CellLaws.{Tight, tight-of, tight-mapped, by-cells, scan-filled, filled-scan}
 use Rattle.definitions.proofs.MoveLaws.{movesMap, moves-in, moves-cell, moves-grid, mapped-whole, mapped-bits, turn-moves, mirroring-moves, turns-even, turns-alone}
 use Rattle.definitions.proofs.PartnerLaws.{kinds-partner}
 use Rattle.definitions.proofs.ImageLaws.{Numbered, image-still, image-same, carried-image, image-carried}

@@ -1,16 +1,16 @@
 -- Bytes that are 0 or 1, how many cells a box has, and cells set down where they are. Assumes nothing.
 use Prim.Native.Nat.{ℕ, zero, suc, _+_, _*_, _≤_}
-use mathlib.Core.Bool.{Bool, _&&_}
 use mathlib.Core.List.{List, [], _∷_, map}
 use mathlib.Core.Path.{_≡_, refl, sym, ap₂, _∙_}
 use native.Mathlib.Nat.{mul-assoc}
 use native.Mathlib.Omega.{arith}
 use lib.Dec.{T, leb, leb→le}
 use lib.ListN.{length, getD, length-map}
-use Rattle.definitions.specs.Lists.{all, each, below}
-use Rattle.definitions.proofs.ListLaws.{and-left, and-right, length-below}
+use Rattle.lists.specs.Lists.{all, each, below}
+use Rattle.lists.proofs.TestLaws.{and-left, and-right}
+use Rattle.lists.proofs.RangeLaws.{length-below, length-blocks}
 use Rattle.definitions.specs.Grid.{Sides, Cell, Grid, setDown, box, volume, byteAt}
-use Rattle.definitions.proofs.MapLaws.{cell-path, length-blocks}
+use Rattle.definitions.proofs.MapLaws.{cell-path}
 use Rattle.definitions.specs.Refusals.{areBits}
 
 -- ---- bytes that are 0 or 1

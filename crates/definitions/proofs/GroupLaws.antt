@@ -1,18 +1,20 @@
 -- The 48 maps are a group: products, tested over the whole table, and what they do to cells and grids. Assumes nothing.
 use Prim.Native.Nat.{ℕ, zero, suc, _+_, _-_, _*_, _%_, _≤_, _<_}
-use mathlib.Core.Bool.{Bool, true, false, cond, not, _&&_, _||_}
-use mathlib.Core.List.{List, [], _∷_, _++_, map, List·Memᴰ, List·Memᴰ·head, List·Memᴰ·tail, List·Memᴰ·not-nil, List·Memᴰ·cases-cons, Memᴰ·cast, Memᴰ·map, Memᴰ·of-map, head-eq-of-cons-eq, tail-eq-of-cons-eq}
+use mathlib.Core.Bool.{Bool, true, false, cond, _&&_}
+use mathlib.Core.List.{List, [], _∷_, map, List·Memᴰ, List·Memᴰ·head, Memᴰ·cast, head-eq-of-cons-eq, tail-eq-of-cons-eq, map-map}
 use mathlib.Core.Path.{_≡_, refl, sym, ap, ap₂, _∙_, subst}
-use mathlib.Core.Logic.{_⊎_, inl, inr}
-use native.Mathlib.Nat.{suc-mul, zero-mul, mul-assoc}
+use native.Mathlib.Nat.{zero-mul, mul-assoc}
 use native.Mathlib.Omega.{arith}
-use lib.Dec.{T, ltb, leb, eqb, eqb→eq, ltb→lt, lt→ltb, leb→le, eqb-refl}
+use lib.Dec.{T, leb, eqb, leb→le}
 use lib.ListN.{length, getD}
-use Rattle.definitions.specs.Lists.{all, any, keep, each, below, from, same, Apart}
-use Rattle.definitions.proofs.ListLaws.{and-left, and-right, and-both, all-at, any-at, any-of, keep-at, keep-of, same→eq, same-refl, eqb-of}
-use Rattle.definitions.specs.Grid.{Sides, Cell, Grid, box, volume, byteAt, gridWith, filledCells, sidesThenCells, sameGrid, InBox}
-use Rattle.definitions.specs.Maps.{Map, side, coordinate, fromEnd, mapSides, mapCell, axisOf, flipOf, inverse, mapGrid, permutations, transform, parity, turns, mirrorings, mirror, identity, product, axisAt, flipAt}
-use Rattle.definitions.proofs.MapLaws.{map-map-of, map-each, each-same, box-at, byte-with, cell-path, Fits, turn-fits, mirroring-fits, filled-at, filled-of, filled-there, mapped-byte, mapped-sides}
+use Rattle.lists.specs.Lists.{all, any, each, below, from, same}
+use Rattle.lists.proofs.TestLaws.{and-left, and-right}
+use Rattle.lists.proofs.ListLaws.{map-same, all-at, any-at, map-each, each-same}
+use Rattle.lists.proofs.SortLaws.{same→eq, same-refl}
+use Rattle.lists.proofs.RangeLaws.{each-shift, from-shift, from-blocks, by-number}
+use Rattle.definitions.specs.Grid.{Sides, Cell, Grid, box, volume, byteAt, gridWith, sidesThenCells, sameGrid, InBox}
+use Rattle.definitions.specs.Maps.{Map, side, coordinate, fromEnd, mapSides, mapCell, axisOf, flipOf, inverse, mapGrid, permutations, transform, parity, turns, mirrorings, identity, product, axisAt, flipAt}
+use Rattle.definitions.proofs.MapLaws.{box-at, Fits, mapped-byte, mapped-sides}
 
 unfoldable pub codeOf : Map → List ℕ
 codeOf m = m .axisX ∷ m .axisY ∷ m .axisZ ∷ m .flipX ∷ m .flipY ∷ m .flipZ ∷ []
@@ -237,10 +239,6 @@ pub sameGrid-of : {g h : Grid} → g ≡ h → T (sameGrid g h)
 unfolding sameGrid
 sameGrid-of {g} {h} e = subst (λ (k : Grid). T (same (sidesThenCells g) (sidesThenCells k))) e (same-refl (sidesThenCells g))
 
-pub map-same : {A B : Type 0} (f g : A → B) (xs : List A) → ((x : A) → List·Memᴰ x xs → f x ≡ g x) → map f xs ≡ map g xs
-map-same f g [] h = refl
-map-same f g (x ∷ xs) h = ap₂ (λ (a : _) (l : List _). a ∷ l) (h x (List·Memᴰ·head refl)) (map-same f g xs (λ z m. h z (List·Memᴰ·tail m)))
-
 pub gridWith-same : (s : Sides) (f g : Cell → ℕ) → ((u : Cell) → InBox s u → f u ≡ g u) → gridWith s f ≡ gridWith s g
 unfolding gridWith
 gridWith-same s f g h = grid-path refl (map-same f g (box s) (λ u m. h u (box-at s u m)))
@@ -282,47 +280,14 @@ module _ (m n : Map) (tm : T (isFlips m)) (tn : T (isFlips n)) (fm : Fits m) (fn
       last-form = ap (λ (s : Sides). gridWith s (λ u. byteAt g (mapCell (inverse (product m n)) s u))) (product-sides m n tm tn (g .sides)) ∙ sym (unfolded-form (product m n) g (g .sides) refl)
 
 -- ---- a grid with as many cells as its box has
-pub from-append : (i n m : ℕ) → from i n ++ from (i + n) m ≡ from i (n + m)
-from-append i zero m = let e : i + zero ≡ i = omega arith in let f : m ≡ zero + m = omega arith in ap (λ (k : ℕ). from k m) e ∙ ap (from i) f
-from-append i (suc n) m =
-    let e : i + suc n ≡ suc i + n = omega arith in
-    let f : suc (n + m) ≡ suc n + m = omega arith in
-    ap (λ (l : List ℕ). i ∷ l) (ap (λ (k : ℕ). from (suc i) n ++ from k m) e ∙ from-append (suc i) n m) ∙ ap (from i) f
-
-from-blocks : (L i n : ℕ) → each (from i n) (λ k. from (k * L) L) ≡ from (i * L) (n * L)
-from-blocks L i zero = ap (from (i * L)) (sym (zero-mul L))
-from-blocks L i (suc n) =
-    let y = suc-mul i L in
-    let z = suc-mul n L in
-    let e : suc i * L ≡ i * L + L = omega arith in
-    let f : L + n * L ≡ suc n * L = omega arith in
-    ap (λ (l : List ℕ). from (i * L) L ++ l) (from-blocks L (suc i) n) ∙ ap (λ (k : ℕ). from (i * L) L ++ from k (n * L)) e
-    ∙ from-append (i * L) L (n * L) ∙ ap (from (i * L)) f
-
-from-shift : (t i n : ℕ) → map (λ k. t + k) (from i n) ≡ from (t + i) n
-from-shift t i zero = refl
-from-shift t i (suc n) = let e : t + suc i ≡ suc (t + i) = omega arith in ap (λ (l : List ℕ). (t + i) ∷ l) (from-shift t (suc i) n ∙ ap (λ (k : ℕ). from k n) e)
-
-each-shift : {A : Type 0} (h : ℕ → List A) (t i n : ℕ) → each (from i n) (λ j. h (t + j)) ≡ each (from (t + i) n) h
-each-shift h t i zero = refl
-each-shift h t i (suc n) = let e : t + suc i ≡ suc (t + i) = omega arith in ap (λ (l : List _). h (t + i) ++ l) (each-shift h t (suc i) n ∙ ap (λ (k : ℕ). each (from k n) h) e)
-
-getD-whole : (xs : List ℕ) → map (λ k. getD xs k 0) (from 0 (length xs)) ≡ xs
-getD-whole [] = refl
-getD-whole (x ∷ xs) = ap (λ (l : List ℕ). x ∷ l) (ap (map (λ k. getD (x ∷ xs) k 0)) (sucs 0 (length xs)) ∙ map-map-of (λ k. getD (x ∷ xs) k 0) suc (from 0 (length xs)) ∙ getD-whole xs)
-  where
-    sucs : (i n : ℕ) → from (suc i) n ≡ map suc (from i n)
-    sucs i zero = refl
-    sucs i (suc n) = ap (λ (l : List ℕ). suc i ∷ l) (sucs (suc i) n)
-
 plus-zero : (n : ℕ) → n + 0 ≡ n
 plus-zero n = omega arith
 
 pub bytes-whole : (g : Grid) → length (g .cells) ≡ volume (g .sides) → map (byteAt g) (box (g .sides)) ≡ g .cells
 unfolding byteAt box volume
 bytes-whole g e =
-    sym (map-map-of (λ k. getD (g .cells) k 0) (λ (u : Cell). (u .x * b + u .y) * c + u .z) (box (g .sides)))
-    ∙ ap (map (λ k. getD (g .cells) k 0)) indexes ∙ getD-whole (g .cells)
+    sym (map-map (λ k. getD (g .cells) k 0) (λ (u : Cell). (u .x * b + u .y) * c + u .z) (box (g .sides)))
+    ∙ ap (map (λ k. getD (g .cells) k 0)) indexes ∙ by-number 0 (g .cells)
   where
     a : ℕ
     a = g .sides .a
@@ -334,7 +299,7 @@ bytes-whole g e =
     c = g .sides .c
 
     line : (i j : ℕ) → map (λ (u : Cell). (u .x * b + u .y) * c + u .z) (map (λ k. record { x = i; y = j; z = k }) (below c)) ≡ from ((i * b + j) * c) c
-    line i j = map-map-of (λ (u : Cell). (u .x * b + u .y) * c + u .z) (λ k. record { x = i; y = j; z = k }) (below c) ∙ from-shift ((i * b + j) * c) 0 c ∙ ap (λ (k : ℕ). from k c) (plus-zero ((i * b + j) * c))
+    line i j = map-map (λ (u : Cell). (u .x * b + u .y) * c + u .z) (λ k. record { x = i; y = j; z = k }) (below c) ∙ from-shift ((i * b + j) * c) 0 c ∙ ap (λ (k : ℕ). from k c) (plus-zero ((i * b + j) * c))
 
     row : (i : ℕ) → map (λ (u : Cell). (u .x * b + u .y) * c + u .z) (each (below b) (λ j. map (λ k. record { x = i; y = j; z = k }) (below c))) ≡ from (i * (b * c)) (b * c)
     row i =

@@ -1,15 +1,14 @@
 -- Images of packings: what an image holds, and how images go back and on. Assumes nothing.
-use Prim.Native.Nat.{ℕ, zero, suc, _+_, _≤_, _<_}
-use mathlib.Core.Bool.{Bool, true, false, cond, not, _&&_, _||_, xor}
-use mathlib.Core.List.{List, [], _∷_, map, List·Memᴰ, List·Memᴰ·head, List·Memᴰ·tail, List·Memᴰ·not-nil, List·Memᴰ·cases-cons, Memᴰ·cast, Memᴰ·map, Memᴰ·of-map, head-eq-of-cons-eq, tail-eq-of-cons-eq}
+use Prim.Native.Nat.{ℕ, _<_}
+use mathlib.Core.Bool.{Bool, false}
+use mathlib.Core.List.{List, _∷_, map, List·Memᴰ, Memᴰ·cast, Memᴰ·map, Memᴰ·of-map, head-eq-of-cons-eq, tail-eq-of-cons-eq}
 use mathlib.Core.Path.{_≡_, refl, sym, ap, ap₂, _∙_, subst}
-use mathlib.Core.Logic.{_⊎_, inl, inr}
-use native.Mathlib.Nat.{le-antisymm}
-use native.Mathlib.Omega.{arith}
-use lib.Dec.{T, ltb, eqb, eqb→eq, ltb→lt, lt→ltb, nltb→le, eqb-refl}
+use lib.Dec.{T, ltb}
 use lib.ListN.{length, getD}
-use Rattle.definitions.specs.Lists.{all, any, keep, ascending, sort, same}
-use Rattle.definitions.proofs.ListLaws.{all-at, any-at, any-of, keep-at, keep-of, keep-ascending, same→eq, same-refl, ascending-unique, sort-ascending, eqb-of, ltb-trans, ltb-irrefl}
+use Rattle.lists.specs.Lists.{any, ascending, sort, same}
+use Rattle.lists.proofs.TestLaws.{ltb-tied, ltb-trans, ltb-irrefl}
+use Rattle.lists.proofs.ListLaws.{any-at, any-of, keep-at, keep-of}
+use Rattle.lists.proofs.SortLaws.{keep-ascending, same→eq, same-refl, ascending-unique, sort-ascending, sort-at, sort-of}
 use Rattle.definitions.specs.Grid.{Cell}
 use Rattle.definitions.specs.Scan.{scanNumber}
 use Rattle.definitions.specs.Placements.{Placement, Compiled}
@@ -18,11 +17,6 @@ use Rattle.definitions.proofs.PackingLaws.{ahead-trans, ahead-irrefl, p
 use Rattle.definitions.specs.Kept.{kindAfter, cellAfter, moved, image}
 use Rattle.definitions.specs.Moves.{CarriedOnto}
 use Rattle.definitions.proofs.SearchLaws.{WellMade}
-use Rattle.definitions.proofs.EngineLaws.{sort-at}
-use Rattle.definitions.proofs.ShapeLaws.{sort-of}
-
-pub ltb-tied : (a b : ℕ) → T (not (ltb a b)) → T (not (ltb b a)) → a ≡ b
-ltb-tied a b s t = le-antisymm (nltb→le b a t) (nltb→le a b s)
 
 -- the cells of the board and their scan numbers are one to one, and a placement is given by its kind and cells
 pub record Numbered (c : Compiled) : Type 0 where

@@ -1,21 +1,23 @@
 -- The list of kept packings, from what the images of packings under allowed maps have to do with sequences of moves. Assumes nothing.
-use Prim.Native.Nat.{ℕ, zero, suc, _+_, _-_, _≤_, _<_, min}
+use Prim.Native.Nat.{ℕ, _+_, _-_}
 use mathlib.Core.Bool.{Bool, true, false, cond, not, _&&_}
-use mathlib.Core.List.{List, [], _∷_, _++_, map, List·Memᴰ, List·Memᴰ·head, List·Memᴰ·tail, List·Memᴰ·not-nil, List·Memᴰ·cases-cons, Memᴰ·cast, head-eq-of-cons-eq, tail-eq-of-cons-eq}
+use mathlib.Core.List.{List, [], _∷_, _++_, List·Memᴰ, List·Memᴰ·head, List·Memᴰ·tail, List·Memᴰ·not-nil, List·Memᴰ·cases-cons, Memᴰ·cast, head-eq-of-cons-eq, tail-eq-of-cons-eq}
 use mathlib.Core.Path.{_≡_, refl, sym, ap, ap₂, _∙_, subst}
 use mathlib.Core.Logic.{_⊎_, inl, inr, _↔_}
 use native.Mathlib.Omega.{arith}
-use lib.Dec.{T, ltb, leb, eqb, eqb→eq, ltb→lt, lt→ltb, eqb-refl}
-use lib.ListN.{length, getD, take, drop, length-take, length-drop}
-use Rattle.definitions.specs.Lists.{all, any, keep, each, below, from, less, ascending, isEmpty, Apart}
-use Rattle.definitions.proofs.ListLaws.{and-left, and-right, and-both, all-at, all-of, any-at, any-of, keep-at, keep-of, less-total, less-trans, less-irrefl, apart-keep, ascending-unique, ascending-apart, below-at, below-of, clash, eqb-of, decide, is-true, same-refl}
-use Rattle.definitions.specs.Grid.{Grid, Cell, sameGrid, sidesThenCells}
+use lib.Dec.{T, eqb, eqb→eq, eqb-refl}
+use lib.ListN.{length}
+use Rattle.lists.specs.Lists.{keep, each, below, less, isEmpty, Apart}
+use Rattle.lists.proofs.TestLaws.{and-left, and-right, and-both, clash}
+use Rattle.lists.proofs.ListLaws.{all-at, all-of, keep-at, keep-of, apart-keep}
+use Rattle.lists.proofs.SortLaws.{less-total, less-trans, less-irrefl, ascending-unique, ascending-apart}
+use Rattle.lists.proofs.RangeLaws.{below-of}
 use Rattle.definitions.specs.Placements.{Placement, Compiled}
 use Rattle.definitions.specs.Packing.{rank, ahead, Packing, isPacking}
 use Rattle.definitions.proofs.PackingLaws.{ahead-trans, ahead-irrefl, packing-of, packing-test, packing-placed}
-use Rattle.definitions.specs.Kept.{Identify, compared, smaller, image, images, kept}
+use Rattle.definitions.specs.Kept.{Identify, compared, smaller, images, kept}
 use Rattle.definitions.specs.Kept.Identify.{None, Turned, Mirrored}
-use Rattle.definitions.specs.Moves.{Move, Carries, inReach, bringsBack, isOdd, cellAfterAll}
+use Rattle.definitions.specs.Moves.{Move, Carries, inReach}
 use Rattle.definitions.specs.Moves.Quarter.{aboutX}
 use Rattle.definitions.specs.Moves.Move.{turn}
 use Rattle.definitions.specs.Orders.{listed, packings}
@@ -240,10 +242,6 @@ module _ (c : Compiled) (w : WellMade c) (i : Identify) (a : Acts c i) (X : List
         let h = a .asMap (r .moves) (r .inReach) P Q g (r .carried) in
         let q = listed-at Q m .0 in
         sym (alike (stands-for P) Q stands-listed m (a .next (stands-for P) P Q (among .1) g q (a .back P (stands-for P) g (among .1) (among .0)) h))
-
-sameGrid-refl : (g : Grid) → T (sameGrid g g)
-unfolding sameGrid
-sameGrid-refl g = same-refl (sidesThenCells g)
 
 -- ---- the list
 -- what is left to show of a tray's geometry

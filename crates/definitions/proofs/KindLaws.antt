@@ -1,14 +1,19 @@
 -- The kinds of an accepted call's tray are its pieces' grids up to quarter turns and their woods, with their mirror partners and the copies lent. Assumes nothing.
 use Prim.Native.Nat.{ℕ, _+_, _<_}
 use mathlib.Core.Bool.{Bool, true, false, _&&_}
-use mathlib.Core.List.{List, [], _∷_, map, List·Memᴰ, List·Memᴰ·not-nil, List·Memᴰ·cases-cons, Memᴰ·cast, Memᴰ·map, Memᴰ·of-map}
+use mathlib.Core.List.{List, [], _∷_, map, List·Memᴰ, Memᴰ·cast, Memᴰ·map, Memᴰ·of-map}
 use mathlib.Core.Path.{_≡_, sym, ap, ap₂, _∙_, subst}
-use mathlib.Core.Logic.{_⊎_, inl, inr, _↔_}
+use mathlib.Core.Logic.{_↔_}
 use native.Mathlib.Omega.{arith}
 use lib.Dec.{T, ltb, eqb, lt→ltb, eqb-refl}
-use lib.ListN.{length, getD, length-map}
-use Rattle.definitions.specs.Lists.{all, keep, each, before, headOr, ascending, below, less}
-use Rattle.definitions.proofs.ListLaws.{and-left, and-right, and-both, or-left, or-right, all-at, all-of, keep-at, keep-of, each-at, each-of, not-T, is-true, first-ahead, keep-ascending, from-ascending, below-at, below-of}
+use lib.ListN.{length, length-map}
+use Rattle.lists.specs.Lists.{keep, each, before, ascending, below, less}
+use Rattle.lists.proofs.TestLaws.{and-both, or-left, or-right, not-T, is-true}
+use Rattle.lists.proofs.ListLaws.{keep-at, keep-of, each-at, each-of}
+use Rattle.lists.proofs.SortLaws.{up-map, head-first, keep-ascending, each-ascending, map-ascending}
+use Rattle.lists.proofs.RangeLaws.{from-ascending, below-at, below-of}
+use Rattle.lists.proofs.NthLaws.{nth-at, Nth, nth-mem, nth-below, nth-getD, getD-nth, numbered-at, numbered-ascending, nth-unique, nth-value, before-nth, numbered-of}
+use Rattle.lists.proofs.NameLaws.{name-at, name-nth, one-name}
 use Rattle.definitions.specs.Grid.{Cell, Grid, volume, filledCells, gridAhead}
 use Rattle.definitions.specs.Maps.{Map, mapGrid, turns, mirrorings, mirror, product}
 use Rattle.definitions.specs.Scan.{axes, cellAhead}
@@ -19,50 +24,13 @@ use Rattle.definitions.specs.Moves.Move.{turn, mirroring}
 use Rattle.definitions.specs.Refusals.{Call, trayOf, areBits, refusal}
 use Rattle.definitions.specs.PlacementsRight.{TurnsOnto, MirrorsOnto, noGrid, noKind, pieceAt, kindAt, kindAhead, copyAhead}
 use Rattle.definitions.proofs.GroupLaws.{identity-grid}
-use Rattle.definitions.proofs.WellMadeLaws.{Nth, nth-mem, nth-below, nth-getD, getD-nth, numbered-at, numbered-ascending, up-board}
+use Rattle.definitions.proofs.WellMadeLaws.{up-board}
 use Rattle.definitions.proofs.ShapeLaws.{bits, shape-facts, smallest-at}
 use Rattle.definitions.proofs.ActLaws.{mapsOf, product-in, product-on, back-in}
 use Rattle.definitions.proofs.MoveLaws.{movesMap, moves-in, moves-grid, turn-moves, mirroring-moves, turns-alone, mapped-whole, mirror-in}
-use Rattle.definitions.proofs.CellLaws.{nth-unique, nth-value, grid-trans, grid-irrefl}
-use Rattle.definitions.proofs.NameLaws.{name-at, name-nth, one-name}
-use Rattle.definitions.proofs.PartnerLaws.{variant-of, variants-up, smallest-turned, form-path, sameForm→eq, sameForm-of, forms-ordered, before-holds, before-form, fs-up, forms-are, fs, one-smallest}
+use Rattle.definitions.proofs.CellLaws.{grid-trans, grid-irrefl}
+use Rattle.definitions.proofs.PartnerLaws.{variant-of, variants-up, smallest-turned, form-path, sameForm→eq, sameForm-of, forms-ordered, before-form, fs-up, forms-are, fs, one-smallest}
 use Rattle.definitions.proofs.GeometryLaws.{piece-whole, to-filled, of-filled, turns-not-odd}
-use Rattle.definitions.proofs.AnswerLaws.{numbered-of}
-use Rattle.definitions.proofs.OrderLaws.{each-ascending}
-
--- ---- lists
-module _ {A : Type 0} where
-  -- a number below the length has an entry
-  pub nth-at : (d : A) (xs : List A) (n : ℕ) → n < length xs → Nth xs n (getD xs n d)
-  nth-at d xs n h = let r = getD-nth xs n h in subst (λ (x : A). Nth xs n x) (sym (nth-value xs n (r .0) d (r .1))) (r .1)
-
-  -- no entry of an ascending list stands ahead of its first
-  head-first : (ahead : A → A → Bool) → ((x y z : A) → T (ahead x y) → T (ahead y z) → T (ahead x z)) → ((x : A) → T (ahead x x) → ⊥)
-      → (d : A) (xs : List A) → T (ascending ahead xs) → {z : A} → List·Memᴰ z xs → T (ahead z (headOr d xs)) → ⊥
-  head-first ahead trans irrefl d [] t m a = List·Memᴰ·not-nil m
-  head-first ahead trans irrefl d (x ∷ xs) t {z} m a = go (List·Memᴰ·cases-cons m)
-    where
-      go : (z ≡ x) ⊎ List·Memᴰ z xs → ⊥
-      go (inl e) = irrefl x (subst (λ (w : A). T (ahead w x)) e a)
-      go (inr k) = irrefl x (trans x z x (first-ahead ahead trans irrefl x xs t k) a)
-
-map-up : {A B : Type 0} (first : A → A → Bool) (rel : B → B → Bool) (f : A → B) → ((x y : A) → T (first x y) → T (rel (f x) (f y)))
-    → (xs : List A) → T (ascending first xs) → T (ascending rel (map f xs))
-map-up first rel f h [] t = tt
-map-up first rel f h (x ∷ xs) t =
-    and-both (all (rel (f x)) (map f xs)) (ascending rel (map f xs))
-    (all-of (rel (f x)) (map f xs) (λ z m.
-    let r = Memᴰ·of-map f xs m in
-    subst (λ (w : _). T (rel (f x) w)) (r .2) (h x (r .0) (all-at (first x) xs (and-left (all (first x) xs) (ascending first xs) t) (r .1)))))
-    (map-up first rel f h xs (and-right (all (first x) xs) (ascending first xs) t))
-
-up-map : {A B : Type 0} (rel : B → B → Bool) (first : A → A → Bool) (f : A → B) → ((x y : A) → T (rel (f x) (f y)) → T (first x y))
-    → (xs : List A) → T (ascending rel (map f xs)) → T (ascending first xs)
-up-map rel first f h [] t = tt
-up-map rel first f h (x ∷ xs) t =
-    and-both (all (first x) xs) (ascending first xs)
-    (all-of (first x) xs (λ z m. h x z (all-at (rel (f x)) (map f xs) (and-left (all (rel (f x)) (map f xs)) (ascending rel (map f xs)) t) (Memᴰ·map f m))))
-    (up-map rel first f h xs (and-right (all (rel (f x)) (map f xs)) (ascending rel (map f xs)) t))
 
 -- ---- sequences of moves and maps, on a grid of 0 and 1 with all its cells
 abbrev Whole : Grid → Type 0
@@ -268,7 +236,7 @@ module _ (l : Call) (ok : refusal l ≡ 0) where
   partner-mirrors n m a b = (
     λ e.
         let i : Nth G (before (sameForm s) G) (formAt m) = subst (λ (k : ℕ). Nth G k (formAt m)) (sym e ∙ partner-is n a) (number-nth m b) in
-        let j : s ≡ formAt m = sameForm→eq s (formAt m) (before-holds (sameForm s) G (formAt m) i) in
+        let j : s ≡ formAt m = sameForm→eq s (formAt m) (before-nth (sameForm s) G (formAt m) i) in
         let r = both .0 (ap (λ (f : Form). f .grid) j) in
         (mirrored-onto (gridAt n) (grid-bits n a) (grid-all n a) (r .0) (gridAt m) (r .1) (r .2), ap (λ (f : Form). f .wood) j),
     λ x. partner-is n a ∙ ap (λ (f : Form). before (sameForm f) G) (form-path (both .1 (mirrors-by (gridAt n) (grid-bits n a) (grid-all n a) (gridAt m) (x .0))) (x .1)),
@@ -349,4 +317,4 @@ module _ (l : Call) (ok : refusal l ≡ 0) where
       let r = kind-nth k h in
       subst (λ (xs : List Copy). T (ascending copyAhead xs)) (sym (copies-are k (r .0) (r .1)))
       (each-ascending lentFirst copyAhead copiesOfPiece (keep (ofForm (r .0)) (sorted T₀)) (keep-ascending lentFirst (ofForm (r .0)) (sorted T₀) sorted-up)
-      (λ q m. map-up ltb copyAhead (copyOf q) (copy-next q) (below (q .count)) (from-ascending 0 (q .count))) (λ x y m k t. copy-later x y t))
+      (λ q m. map-ascending ltb copyAhead (copyOf q) (below (q .count)) (from-ascending 0 (q .count)) (λ x y a b. copy-next q x y)) (λ x y m k t. copy-later x y t))

@@ -1,15 +1,18 @@
 -- Knuth's listed packings stand in Knuth's order. Assumes nothing.
 use Prim.Native.Nat.{ℕ, zero, suc, _+_, _≤_, _<_}
 use mathlib.Core.Bool.{Bool, true, false, cond, not, _&&_, and-comm}
-use mathlib.Core.List.{List, [], _∷_, List·Memᴰ, List·Memᴰ·head, List·Memᴰ·not-nil, List·Memᴰ·cases-cons, List·Memᴰ·eq-of-singleton, head-eq-of-cons-eq, tail-eq-of-cons-eq}
-use mathlib.Core.Path.{_≡_, refl, sym, ap, _∙_, subst}
+use mathlib.Core.List.{List, [], _∷_, List·Memᴰ, List·Memᴰ·not-nil, head-eq-of-cons-eq, tail-eq-of-cons-eq}
+use mathlib.Core.Path.{_≡_, refl, sym, ap, _∙_}
 use mathlib.Core.Logic.{_⊎_, inl, inr}
 use native.Mathlib.Omega.{arith}
 use lib.Dec.{T, ltb, eqb, eqb→eq, ltb→lt, lt→ltb}
-use lib.ListN.{length, getD, take}
-use Rattle.definitions.specs.Lists.{all, any, howMany, keep, each, member, less, sort, ascending, isEmpty, Ordered}
-use Rattle.definitions.proofs.ListLaws.{and-left, and-right, and-both, or-cases, all-at, all-of, any-at, keep-same, keep-keep, member-at, member-of, put-howMany, sort-ascending, less-trans, less-total, clash, tests-same, eqb-of, ordered-keep, ordered-imp, ordered-each, ordered-at}
-use Rattle.definitions.proofs.CountLaws.{howMany-length}
+use lib.ListN.{length, getD}
+use Rattle.lists.specs.Lists.{all, howMany, keep, each, member, less, sort, isEmpty, Ordered}
+use Rattle.lists.proofs.TestLaws.{and-left, and-right, and-both, or-cases, clash, tests-same, eqb-of}
+use Rattle.lists.proofs.ListLaws.{all-at, all-of, keep-same, keep-keep}
+use Rattle.lists.proofs.SortLaws.{put-howMany, sort-ascending, less-trans, less-total, ordered-keep, ordered-imp, ordered-each, ordered-at, sort-at, sort-of, first-of}
+use Rattle.lists.proofs.RangeLaws.{member-at, member-of}
+use Rattle.lists.proofs.CountLaws.{howMany-length}
 use Rattle.definitions.specs.Placements.{Placement, Compiled}
 use Rattle.definitions.specs.Packing.{ahead, covering, used, limits}
 use Rattle.definitions.specs.Kept.{Identify, kept}
@@ -18,31 +21,17 @@ use Rattle.definitions.specs.KnuthOrder.{stillPossible, possibleOn, Step
 use Rattle.definitions.specs.KnuthOrder.KnuthAhead.{theyPart, bothTake}
 use Rattle.definitions.specs.declared.SolverKind.the-variants.{KnuthAlgorithm}
 use Rattle.definitions.proofs.SearchLaws.{WellMade, Sound, Fair, sound-start, free-at, free-of, possible-left, possible-free, fresh, chosen-put, step, search-sound}
-use Rattle.definitions.proofs.EngineLaws.{sort-at, fewest, knuth-parts, tally, talliesAt, tally-of, tally-at, knuth-fair}
-use Rattle.definitions.proofs.ShapeLaws.{sort-of}
-
--- the first of an ascending list, where a test passes on it: it stands ahead of the others, and what passes on the first passes on it
-first-of : {A : Type 0} (before : A → A → Bool) (xs : List A) → T (ascending before xs) → (p : A → Bool) → T (any p (take 1 xs))
-    → (x : A) × List·Memᴰ x xs × ((y : A) → List·Memᴰ y xs → (y ≡ x) ⊎ T (before x y)) × ((q : A → Bool) → T (any q (take 1 xs)) → T (q x))
-first-of before [] t p s = absurd s
-first-of {A} before (x ∷ xs) t p s = (x, List·Memᴰ·head refl, λ y m. others y (List·Memᴰ·cases-cons m), passes)
-  where
-    others : (y : A) → (y ≡ x) ⊎ List·Memᴰ y xs → (y ≡ x) ⊎ T (before x y)
-    others y (inl e) = inl e
-    others y (inr m) = inr (ordered-at before (x ∷ xs) t .0 y m)
-
-    passes : (q : A → Bool) → T (any q (x ∷ [])) → T (q x)
-    passes q u = let a = any-at q (x ∷ []) u in subst (λ z. T (q z)) (List·Memᴰ·eq-of-singleton (a .1)) (a .2)
+use Rattle.definitions.proofs.EngineLaws.{fewest, knuth-parts, tally, talliesAt, tally-of, tally-at, knuth-fair}
 
 -- ---- tallies
 abbrev key : Tally → List ℕ
 key t = t .placements ∷ t .cell ∷ []
 
-tally-trans : (t u v : Tally) → T (tallyAhead t u) → T (tallyAhead u v) → T (tallyAhead t v)
+pub tally-trans : (t u v : Tally) → T (tallyAhead t u) → T (tallyAhead u v) → T (tallyAhead t v)
 unfolding tallyAhead
 tally-trans t u v a b = less-trans (key t) (key u) (key v) a b
 
-tallies-tied : (t u : Tally) → T (not (tallyAhead t u)) → T (not (tallyAhead u t)) → t ≡ u
+pub tallies-tied : (t u : Tally) → T (not (tallyAhead t u)) → T (not (tallyAhead u t)) → t ≡ u
 unfolding tallyAhead
 tallies-tied t u a b = go (less-total (key t) (key u))
   where

@@ -1,7 +1,5 @@
 pub mod FillingLaws
 pub mod BoundaryLaws
-pub mod ListLaws
-pub mod CountLaws
 pub mod MapLaws
 pub mod GroupLaws
 pub mod PackingLaws
@@ -12,7 +10,6 @@ pub mod RefusalLaws
 pub mod CoverLaws
 pub mod KeptLaws
 pub mod GridLaws
-pub mod WindowLaws
 pub mod StrippingLaws
 pub mod ShapeLaws
 pub mod ImageLaws
@@ -20,7 +17,6 @@ pub mod ActLaws
 pub mod MoveLaws
 pub mod CellLaws
 pub mod StrippedLaws
-pub mod NameLaws
 pub mod PartnerLaws
 pub mod GeometryLaws
 pub mod AnswerLaws
@@ -38,6 +34,7 @@ pub mod KindLaws
 pub mod PlacementNumberLaws
 pub mod PlacementLaws
 pub mod WoodLaws
+pub mod StartLaws
 pub mod CarryLaws
 pub mod PruningLaws
 pub mod TrayLaws

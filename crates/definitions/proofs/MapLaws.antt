@@ -1,16 +1,18 @@
 -- Laws of grids and maps: the byte of a cell, and that each map takes the cells of a box onto those of the turned box, and back. Assumes nothing.
-use Prim.Native.Nat.{ℕ, zero, suc, _+_, _-_, _*_, _≤_, _<_}
-use mathlib.Core.Bool.{Bool, true, false, cond, not, _&&_, _||_}
-use mathlib.Core.List.{List, [], _∷_, _++_, map, List·Memᴰ, List·Memᴰ·head, List·Memᴰ·tail, List·Memᴰ·not-nil, List·Memᴰ·cases-cons, Memᴰ·cast, Memᴰ·map, Memᴰ·of-map, head-eq-of-cons-eq, tail-eq-of-cons-eq}
+use Prim.Native.Nat.{ℕ, _+_, _-_, _*_, _<_}
+use mathlib.Core.Bool.{Bool, true, false, cond}
+use mathlib.Core.List.{List, [], _∷_, map, List·Memᴰ, List·Memᴰ·not-nil, List·Memᴰ·cases-cons, Memᴰ·map, Memᴰ·of-map, head-eq-of-cons-eq, tail-eq-of-cons-eq, map-map}
 use mathlib.Core.Path.{_≡_, refl, sym, ap, ap₂, _∙_, subst}
 use mathlib.Core.Logic.{_⊎_, inl, inr}
-use native.Mathlib.Nat.{zero-mul, suc-mul, add-mul, mul-assoc, le-antisymm, mul-le-mul-right}
+use native.Mathlib.Nat.{add-mul, mul-assoc, le-antisymm, mul-le-mul-right}
 use native.Mathlib.Omega.{arith}
-use lib.Dec.{T, ltb, leb, eqb, eqb→eq, ltb→lt, lt→ltb, eqb-refl}
-use lib.ListN.{length, getD, length-append, length-map, List·getD-append}
-use lib.Seq.{getD-append-add}
-use Rattle.definitions.specs.Lists.{all, any, keep, each, below, from, same, Apart}
-use Rattle.definitions.proofs.ListLaws.{all-at, any-at, keep-at, keep-of, same→eq, eqb-of, apart-keep, inject-length, each-at, each-of, below-at, below-of, from-ascending, length-below, apart-each, apart-ascending}
+use lib.Dec.{T, eqb, eqb→eq}
+use lib.ListN.{length, getD, length-map}
+use Rattle.lists.specs.Lists.{all, any, each, below, same, Apart}
+use Rattle.lists.proofs.TestLaws.{eqb-of}
+use Rattle.lists.proofs.ListLaws.{map-each, all-at, any-at, keep-at, keep-of, apart-keep, inject-length, each-at, each-of, apart-each, each-same, apart-map}
+use Rattle.lists.proofs.SortLaws.{same→eq}
+use Rattle.lists.proofs.RangeLaws.{getD-blocks, length-blocks, apart-below, below-at, below-of, length-below, getD-below}
 use Rattle.definitions.specs.Grid.{Sides, Cell, Grid, box, volume, placeOf, byteAt, gridWith, filledCells, InBox}
 use Rattle.definitions.specs.Maps.{Map, side, coordinate, fromEnd, mapSides, mapCell, axisOf, flipOf, inverse, mapGrid, permutations, transform, parity, turns, mirrorings}
 
@@ -35,18 +37,11 @@ box-of s u h =
     each-of (λ i. each (below (s .b)) (λ j. map (cellOf i j) (below (s .c)))) (below (s .a)) (below-of (s .a) (h .0))
     (each-of (λ j. map (cellOf (u .x) j) (below (s .c))) (below (s .b)) (below-of (s .b) (h .1)) (Memᴰ·map (cellOf (u .x) (u .y)) (below-of (s .c) (h .2))))
 
-apart-map : {A B : Type 0} (f : A → B) (xs : List A) → Apart xs → ((x y : A) → f x ≡ f y → x ≡ y) → Apart (map f xs)
-apart-map f [] h g = tt
-apart-map f (x ∷ xs) h g = (λ m. let r = Memᴰ·of-map f xs m in h .0 (Memᴰ·cast (g x (r .0) (sym (r .2))) (r .1)), apart-map f xs (h .1) g)
-
-apart-below : (n : ℕ) → Apart (below n)
-apart-below n = apart-ascending ltb (λ x t. let h = ltb→lt x x t in omega arith) (below n) (from-ascending 0 n)
-
 pub box-apart : (s : Sides) → Apart (box s)
 unfolding box cellOf
 box-apart s =
     apart-each (λ i. each (below (s .b)) (λ j. map (cellOf i j) (below (s .c)))) (below (s .a)) (apart-below (s .a))
-    (λ i m. apart-each (λ j. map (cellOf i j) (below (s .c))) (below (s .b)) (apart-below (s .b)) (λ j k. apart-map (cellOf i j) (below (s .c)) (apart-below (s .c)) (λ x y e. ap (λ (u : Cell). u .z) e))
+    (λ i m. apart-each (λ j. map (cellOf i j) (below (s .c))) (below (s .b)) (apart-below (s .b)) (λ j k. apart-map (cellOf i j) (below (s .c)) (apart-below (s .c)) (λ x y a b e. ap (λ (u : Cell). u .z) e))
     (λ j j′ k l u a b. let r = Memᴰ·of-map (cellOf i j) (below (s .c)) a in let t = Memᴰ·of-map (cellOf i j′) (below (s .c)) b in ap (λ (v : Cell). v .y) (r .2 ∙ sym (t .2))))
     (λ i i′ m k u a b.
     let r = each-at (λ j. map (cellOf i j) (below (s .c))) (below (s .b)) a in
@@ -56,43 +51,6 @@ box-apart s =
     ap (λ (v : Cell). v .x) (p .2 ∙ sym (q .2)))
 
 -- ---- the byte of a cell
-module _ {A B : Type 0} where
-  map-append : (f : A → B) (xs ys : List A) → map f (xs ++ ys) ≡ map f xs ++ map f ys
-  map-append f [] ys = refl
-  map-append f (x ∷ xs) ys = ap (λ (l : List B). f x ∷ l) (map-append f xs ys)
-
-pub map-each : {A B C : Type 0} (f : B → C) (g : A → List B) (xs : List A) → map f (each xs g) ≡ each xs (λ x. map f (g x))
-map-each f g [] = refl
-map-each f g (x ∷ xs) = map-append f (g x) (each xs g) ∙ ap (λ (l : List _). map f (g x) ++ l) (map-each f g xs)
-
-pub map-map-of : {A B C : Type 0} (f : B → C) (g : A → B) (xs : List A) → map f (map g xs) ≡ map (λ x. f (g x)) xs
-map-map-of f g [] = refl
-map-map-of f g (x ∷ xs) = ap (λ (l : List _). f (g x) ∷ l) (map-map-of f g xs)
-
-pub each-same : {A B : Type 0} (f g : A → List B) (xs : List A) → ((x : A) → f x ≡ g x) → each xs f ≡ each xs g
-each-same f g [] h = refl
-each-same f g (x ∷ xs) h = ap₂ (λ (a b : List _). a ++ b) (h x) (each-same f g xs h)
-
-module _ {A : Type 0} (d : A) where
-  getD-from : (f : ℕ → A) (i n z : ℕ) → z < n → getD (map f (from i n)) z d ≡ f (z + i)
-  getD-from f i zero z h = absurd (omega arith)
-  getD-from f i (suc n) zero h = ap f (omega arith)
-  getD-from f i (suc n) (suc z) h = getD-from f (suc i) n z (omega arith) ∙ ap f (omega arith)
-
-  pub length-blocks : (g : ℕ → List A) (L : ℕ) → ((k : ℕ) → length (g k) ≡ L) → (i n : ℕ) → length (each (from i n) g) ≡ n * L
-  length-blocks g L h i zero = sym (zero-mul L)
-  length-blocks g L h i (suc n) = length-append (g i) (each (from (suc i) n) g) ∙ (let r = length-blocks g L h (suc i) n in let e = h i in let s = suc-mul n L in omega arith)
-
-  -- blocks of one length: entry r of block x
-  getD-blocks : (g : ℕ → List A) (L : ℕ) → ((k : ℕ) → length (g k) ≡ L) → (i n x r : ℕ) → x < n → r < L → getD (each (from i n) g) (x * L + r) d ≡ getD (g (x + i)) r d
-  getD-blocks g L h i zero x r a b = absurd (omega arith)
-  getD-blocks g L h i (suc n) zero r a b =
-      ap (λ (k : ℕ). getD (g i ++ each (from (suc i) n) g) k d) (let z = zero-mul L in omega arith)
-      ∙ List·getD-append (g i) (each (from (suc i) n) g) d r (let e = h i in omega arith) ∙ ap (λ (k : ℕ). getD (g k) r d) (omega arith)
-  getD-blocks g L h i (suc n) (suc x) r a b =
-      ap (λ (k : ℕ). getD (g i ++ each (from (suc i) n) g) k d) (let z = suc-mul x L in let e = h i in omega arith)
-      ∙ getD-append-add (g i) (each (from (suc i) n) g) (x * L + r) d ∙ getD-blocks g L h (suc i) n x r (omega arith) b ∙ ap (λ (k : ℕ). getD (g k) r d) (omega arith)
-
 -- digits of radix b: the low digit y, the high one x
 pub digits-lt : {x y a b : ℕ} → x < a → y < b → x * b + y < a * b
 digits-lt {b = b} h k = omega (arith, mul-le-mul-right b h)
@@ -107,8 +65,8 @@ byte-with s f u h =
     ap₂ (λ (l : List ℕ) (k : ℕ). getD l k 0) cells-are index
     ∙ getD-blocks 0 rows (s .b * s .c) row-length 0 (s .a) (u .x) (u .y * s .c + u .z) (h .0) (digits-lt (h .1) (h .2))
     ∙ getD-blocks 0 (line (u .x + 0)) (s .c) (line-length (u .x + 0)) 0 (s .b) (u .y) (u .z) (h .1) (h .2)
-    ∙ getD-from 0 (λ k. f (cellOf (u .x + 0) (u .y + 0) k)) 0 (s .c) (u .z) (h .2)
-    ∙ ap f (cell-path zero-x zero-y zero-z)
+    ∙ getD-below (λ k. f (cellOf (u .x + 0) (u .y + 0) k)) 0 (s .c) (u .z) (h .2)
+    ∙ ap f (cell-path zero-x zero-y refl)
   where
     line : ℕ → ℕ → List ℕ
     line i j = map (λ k. f (cellOf i j k)) (below (s .c))
@@ -126,7 +84,7 @@ byte-with s f u h =
     cells-are =
         map-each f (λ i. each (below (s .b)) (λ j. map (cellOf i j) (below (s .c)))) (below (s .a))
         ∙ each-same (λ i. map f (each (below (s .b)) (λ j. map (cellOf i j) (below (s .c))))) rows (below (s .a))
-        (λ i. map-each f (λ j. map (cellOf i j) (below (s .c))) (below (s .b)) ∙ each-same (λ j. map f (map (cellOf i j) (below (s .c)))) (line i) (below (s .b)) (λ j. map-map-of f (cellOf i j) (below (s .c))))
+        (λ i. map-each f (λ j. map (cellOf i j) (below (s .c))) (below (s .b)) ∙ each-same (λ j. map f (map (cellOf i j) (below (s .c)))) (line i) (below (s .b)) (λ j. map-map f (cellOf i j) (below (s .c))))
 
     index : (u .x * s .b + u .y) * s .c + u .z ≡ u .x * (s .b * s .c) + (u .y * s .c + u .z)
     index = let a = add-mul (u .x * s .b) (u .y) (s .c) in let b = mul-assoc (u .x) (s .b) (s .c) in omega arith
@@ -136,9 +94,6 @@ byte-with s f u h =
 
     zero-y : u .y + 0 ≡ u .y
     zero-y = omega arith
-
-    zero-z : u .z + 0 ≡ u .z
-    zero-z = omega arith
 
 -- ---- maps
 fe-below : (f n i : ℕ) → i < n → fromEnd f n i < n

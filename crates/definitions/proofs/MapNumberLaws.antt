@@ -7,8 +7,10 @@ use mathlib.Core.Logic.{_⊎_, inl, inr}
 use native.Mathlib.Omega.{arith}
 use lib.Dec.{T, ltb, leb, leb→le, le→leb, ltb→lt, lt→ltb, nltb→le}
 use lib.ListN.{length, List·getD-eq-default}
-use Rattle.definitions.specs.Lists.{all, any, below, from}
-use Rattle.definitions.proofs.ListLaws.{all-at, any-at, is-true, is-false, from-at, below-of, decide, and-left, and-right, and-both}
+use Rattle.lists.specs.Lists.{all, any, below, from}
+use Rattle.lists.proofs.TestLaws.{is-true, is-false, decide, and-left, and-right, and-both}
+use Rattle.lists.proofs.ListLaws.{all-at, any-at}
+use Rattle.lists.proofs.RangeLaws.{from-at, below-of}
 use Rattle.definitions.specs.Grid.{Sides, Grid}
 use Rattle.definitions.specs.Maps.{Map, mapSides, mapCell, mapGrid, permutations, transform, parity, turns, mirrorings, maps, mapOf, identity, product, inverse, axisAt, flipAt, axisOf, flipOf, isMirroring}
 use Rattle.definitions.specs.Moves.{Move, sidesAfterAll, isOdd}
@@ -107,12 +109,6 @@ module _ (n : ℕ) where
   pub inverse-before : product (inverse (mapOf n)) (mapOf n) ≡ identity
   unfolding undone
   inverse-before = sameMap→eq (product (inverse (mapOf n)) (mapOf n)) identity (and-left (sameMap (product (inverse (mapOf n)) (mapOf n)) identity) _ is-undone)
-
-  pub inverse-after : product (mapOf n) (inverse (mapOf n)) ≡ identity
-  unfolding undone
-  inverse-after =
-      sameMap→eq (product (mapOf n) (inverse (mapOf n))) identity
-      (and-left (sameMap (product (mapOf n) (inverse (mapOf n))) identity) (isFlips (inverse (mapOf n))) (and-right (sameMap (product (inverse (mapOf n)) (mapOf n)) identity) _ is-undone))
 
   pub inverse-flips : T (isFlips (inverse (mapOf n)))
   unfolding undone

@@ -7,7 +7,8 @@ use native.Mathlib.Omega.{arith}
 use lib.Dec.{T, eqb, ltb, lt→ltb, ltb→lt}
 use lib.ListN.{length, length-map, take}
 use lib.Seq.{take-all}
-use Rattle.definitions.specs.Lists.{joined, numbered}
+use Rattle.lists.specs.Lists.{joined, numbered}
+use Rattle.lists.proofs.TestLaws.{eqb-of, is-false, is-true}
 use Rattle.definitions.specs.Placements.{compile}
 use Rattle.definitions.specs.Orders.{listed}
 use Rattle.definitions.specs.Answers.{answer}
@@ -16,7 +17,6 @@ use Rattle.definitions.specs.Outcomes.{Outcome, answersOf, outcome}
 use Rattle.definitions.specs.Files.{callIn, entryLine, isFile, lastLine, listing, packed}
 use Rattle.definitions.specs.Printed.{PrintsListOf, printedRight}
 use Rattle.definitions.specs.Demands.{Demand1, demand1, demand2, demand3, Stretch, Pages}
-use Rattle.definitions.proofs.ListLaws.{eqb-of, is-false, is-true}
 use Rattle.definitions.proofs.RefusalLaws.{demand1-holds}
 use Rattle.definitions.proofs.DemandLaws.{demand2-holds, demand3-holds}
 

@@ -1,19 +1,19 @@
 -- A sequence of moves does what one of the 48 maps does, and each of them is done by a sequence. Assumes nothing.
-use Prim.Native.Nat.{ℕ, zero, suc, _+_, _-_, _*_, _≤_, _<_}
-use mathlib.Core.Bool.{Bool, true, false, cond, not, _&&_}
-use mathlib.Core.List.{List, [], _∷_, _++_, map, List·Memᴰ, List·Memᴰ·head, List·Memᴰ·not-nil, Memᴰ·cast, Memᴰ·of-map}
+use Prim.Native.Nat.{ℕ, zero, suc, _-_}
+use mathlib.Core.Bool.{Bool, true, false, cond, not}
+use mathlib.Core.List.{List, [], _∷_, map, List·Memᴰ, Memᴰ·of-map}
 use mathlib.Core.Path.{_≡_, refl, sym, ap, ap₂, _∙_, subst}
 use mathlib.Core.Logic.{_⊎_, inl, inr}
-use native.Mathlib.Nat.{mul-assoc}
 use native.Mathlib.Omega.{arith}
 use lib.Dec.{T, leb, eqb, le→leb, eqb→eq}
 use lib.ListN.{length, length-map}
-use Rattle.definitions.specs.Lists.{all, any, each, below, from}
-use Rattle.definitions.proofs.ListLaws.{all-at, all-of, any-at, any-of, is-true, is-false, decide, clash, eqb-of, length-below}
-use Rattle.definitions.specs.Grid.{Sides, Cell, Grid, box, volume, byteAt, gridWith, filledCells, sameCell, sameGrid, InBox}
-use Rattle.definitions.specs.Maps.{Map, side, coordinate, fromEnd, mapSides, mapCell, axisOf, flipOf, inverse, mapGrid, permutations, transform, parity, turns, mirrorings, mirror, product, identity, axisAt, flipAt}
-use Rattle.definitions.proofs.MapLaws.{Fits, box-at, byte-with, filled-at, filled-of, mapped-byte, mapped-sides, length-blocks}
-use Rattle.definitions.proofs.GroupLaws.{identity-turn, identity-cell, identity-sides, identity-grid, product-cell, product-sides, sameMap, sameMap→eq, codeOf, inMaps, in-maps, gridWith-same, sameGrid→eq, sameGrid-of}
+use Rattle.lists.specs.Lists.{all, any, each}
+use Rattle.lists.proofs.TestLaws.{is-true, is-false, decide, clash, eqb-of}
+use Rattle.lists.proofs.ListLaws.{all-at, all-of, any-at, any-of}
+use Rattle.definitions.specs.Grid.{Sides, Cell, Grid, box, volume, byteAt, gridWith, filledCells, sameCell, InBox}
+use Rattle.definitions.specs.Maps.{Map, side, coordinate, fromEnd, mapSides, mapCell, inverse, mapGrid, permutations, transform, parity, turns, mirrorings, mirror, product, identity, axisAt, flipAt}
+use Rattle.definitions.proofs.MapLaws.{Fits, filled-at, filled-of}
+use Rattle.definitions.proofs.GroupLaws.{identity-turn, identity-cell, identity-sides, identity-grid, product-cell, product-sides, sameMap, sameMap→eq, codeOf, inMaps, in-maps, gridWith-same}
 use Rattle.definitions.specs.Refusals.{areBits}
 use Rattle.definitions.proofs.GridLaws.{byte-bit, length-box}
 use Rattle.definitions.proofs.WellMadeLaws.{sameCell→eq, sameCell-refl}

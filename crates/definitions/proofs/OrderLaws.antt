@@ -1,67 +1,26 @@
 -- Fast's list goes by Fast's order. Assumes nothing.
-use Prim.Native.Nat.{ℕ, zero, suc, _+_, _-_, _≤_, _<_}
-use mathlib.Core.Bool.{Bool, true, false, cond, not, _&&_, _||_}
-use mathlib.Core.List.{List, [], _∷_, _++_, map, List·Memᴰ, List·Memᴰ·head, List·Memᴰ·tail, List·Memᴰ·not-nil, List·Memᴰ·cases-cons, List·Memᴰ·eq-of-singleton, List·Memᴰ·append-cases, Memᴰ·cast, append-assoc, head-eq-of-cons-eq}
-use mathlib.Core.Path.{_≡_, refl, sym, ap, ap₂, _∙_, subst}
+use Prim.Native.Nat.{ℕ, zero, suc, _+_, _-_, _<_}
+use mathlib.Core.Bool.{Bool, true, false, cond, _&&_}
+use mathlib.Core.List.{List, [], _∷_, _++_, List·Memᴰ, List·Memᴰ·head, List·Memᴰ·eq-of-singleton, Memᴰ·cast, head-eq-of-cons-eq}
+use mathlib.Core.Path.{_≡_, refl, sym, ap, _∙_, subst}
 use mathlib.Core.Logic.{_⊎_, inl, inr}
 use native.Mathlib.Omega.{arith}
-use lib.Dec.{T, ltb, eqb, eqb→eq, ltb→lt, lt→ltb, eqb-refl}
+use lib.Dec.{T, ltb, eqb, eqb→eq, ltb→lt}
 use lib.ListN.{length, getD, take}
-use Rattle.definitions.specs.Lists.{any, keep, each, below, from, member, less, ascending, isEmpty}
-use Rattle.definitions.proofs.ListLaws.{and-left, and-right, and-both, or-left, or-right, or-cases, any-at, keep-at, keep-of, keep-ascending, from-at, below-at, member-at, member-of, howMany-any, ascending-unique, eqb-of, holds, decide, clash, less-irrefl, ordered-each, ordered-imp, ordered-at, ordered-of}
-use Rattle.definitions.proofs.GroupLaws.{from-append}
+use Rattle.lists.specs.Lists.{keep, each, below, from, member, less, ascending, isEmpty}
+use Rattle.lists.proofs.TestLaws.{and-left, and-right, and-both, or-left, or-right, or-cases, eqb-of, holds}
+use Rattle.lists.proofs.ListLaws.{take-one, each-same-in, each-append, any-at, keep-at, keep-of, howMany-any}
+use Rattle.lists.proofs.SortLaws.{ascending-imp, each-ascending, less-after, keep-ascending, ascending-unique, less-two}
+use Rattle.lists.proofs.RangeLaws.{from-at, member-at, member-of, from-append}
 use Rattle.definitions.specs.Placements.{Placement, Compiled}
 use Rattle.definitions.specs.Packing.{rank, ahead, covering, limits, Packing}
-use Rattle.definitions.proofs.PackingLaws.{ahead-trans, ahead-irrefl, packing-once, packing-placed}
+use Rattle.definitions.proofs.PackingLaws.{ahead-trans, ahead-irrefl, packing-once}
 use Rattle.definitions.specs.Kept.{Identify}
 use Rattle.definitions.specs.Orders.{State, start, choose, search, fastChoices, fastList, kind0First, identifiesTurned, allCells, fastRank, fastAhead}
-use Rattle.definitions.proofs.SearchLaws.{WellMade, Sound, Fair, sound-start, free-at, free-of, search-sound, step, Extends, chosen-put, chosen-more}
-use Rattle.definitions.proofs.EngineLaws.{fast-fair, fast-parts, free-ascending, first-least, head-at, fastSearch, firsts, first-parts, first-sound, has-first, same-first, firsts-up}
-use Rattle.definitions.specs.Refusals.{Call, refusal}
-use Rattle.definitions.proofs.ShapeLaws.{accepted-well-made}
+use Rattle.definitions.proofs.SearchLaws.{WellMade, Sound, sound-start, free-of, search-sound, step, chosen-put, chosen-more}
+use Rattle.definitions.proofs.EngineLaws.{fast-fair, fast-parts, free-ascending, first-least, fastSearch, firsts, first-parts, first-sound, has-first, same-first, firsts-up}
 
 -- ---- lists
-less-after : (xs a b : List ℕ) → T (less a b) → T (less (xs ++ a) (xs ++ b))
-less-after [] a b t = t
-less-after (x ∷ xs) a b t = or-right (ltb x x) (eqb x x && less (xs ++ a) (xs ++ b)) (and-both (eqb x x) (less (xs ++ a) (xs ++ b)) (eqb-refl x) (less-after xs a b t))
-
--- two numbers decide
-pub less-two : (a b a′ b′ : ℕ) (r r′ : List ℕ) → T (less (a ∷ b ∷ []) (a′ ∷ b′ ∷ [])) → T (less (a ∷ b ∷ r) (a′ ∷ b′ ∷ r′))
-less-two a b a′ b′ r r′ t = go (or-cases (ltb a a′) (eqb a a′ && less (b ∷ []) (b′ ∷ [])) t)
-  where
-    inner : T (less (b ∷ []) (b′ ∷ [])) → T (less (b ∷ r) (b′ ∷ r′))
-    inner s = at (or-cases (ltb b b′) (eqb b b′ && less [] []) s)
-      where
-        at : T (ltb b b′) ⊎ T (eqb b b′ && less [] []) → T (less (b ∷ r) (b′ ∷ r′))
-        at (inl x) = or-left (ltb b b′) (eqb b b′ && less r r′) x
-        at (inr x) = absurd (and-right (eqb b b′) (less [] []) x)
-
-    go : T (ltb a a′) ⊎ T (eqb a a′ && less (b ∷ []) (b′ ∷ [])) → T (less (a ∷ b ∷ r) (a′ ∷ b′ ∷ r′))
-    go (inl x) = or-left (ltb a a′) (eqb a a′ && less (b ∷ r) (b′ ∷ r′)) x
-    go (inr x) =
-        or-right (ltb a a′) (eqb a a′ && less (b ∷ r) (b′ ∷ r′))
-        (and-both (eqb a a′) (less (b ∷ r) (b′ ∷ r′)) (and-left (eqb a a′) (less (b ∷ []) (b′ ∷ [])) x) (inner (and-right (eqb a a′) (less (b ∷ []) (b′ ∷ [])) x)))
-
-each-append : {A B : Type 0} (xs ys : List A) (f : A → List B) → each (xs ++ ys) f ≡ each xs f ++ each ys f
-each-append [] ys f = refl
-each-append (x ∷ xs) ys f = ap (λ (l : List _). f x ++ l) (each-append xs ys f) ∙ sym (append-assoc (f x) (each xs f) (each ys f))
-
-pub each-same-in : {A B : Type 0} (f g : A → List B) (xs : List A) → ((x : A) → List·Memᴰ x xs → f x ≡ g x) → each xs f ≡ each xs g
-each-same-in f g [] h = refl
-each-same-in f g (x ∷ xs) h = ap₂ (λ (a b : List _). a ++ b) (h x (List·Memᴰ·head refl)) (each-same-in f g xs (λ z m. h z (List·Memᴰ·tail m)))
-
-pub each-ascending : {A B : Type 0} (first : A → A → Bool) (rel : B → B → Bool) (f : A → List B) (xs : List A) → T (ascending first xs) → ((x : A) → List·Memᴰ x xs → T (ascending rel (f x)))
-    → ((x y : A) → List·Memᴰ x xs → List·Memᴰ y xs → T (first x y) → (z w : B) → List·Memᴰ z (f x) → List·Memᴰ w (f y) → T (rel z w)) → T (ascending rel (each xs f))
-each-ascending first rel f xs t g h =
-    ordered-of rel (each xs f) (ordered-each (λ x y. T (first x y)) (λ z w. T (rel z w)) f xs (ordered-at first xs t) (λ x m. ordered-at rel (f x) (g x m)) h)
-
-ascending-imp : {A : Type 0} (r s : A → A → Bool) (xs : List A) → ((x y : A) → List·Memᴰ x xs → List·Memᴰ y xs → T (r x y) → T (s x y)) → T (ascending r xs) → T (ascending s xs)
-ascending-imp r s xs h t = ordered-of s xs (ordered-imp (λ x y. T (r x y)) (λ x y. T (s x y)) xs h (ordered-at r xs t))
-
-take-one : {A : Type 0} (xs : List A) (x : A) → List·Memᴰ x (take 1 xs) → take 1 xs ≡ x ∷ []
-take-one [] x m = absurd (List·Memᴰ·not-nil m)
-take-one (y ∷ ys) x m = ap (λ (z : _). z ∷ []) (sym (List·Memᴰ·eq-of-singleton m))
-
 -- ranks that agree before n and differ at n
 split-less : (N n : ℕ) → n < N → (f g : ℕ → List ℕ) → ((m : ℕ) → m < n → m < N → f m ≡ g m) → (a b a′ b′ : ℕ) → f n ≡ a ∷ b ∷ [] → g n ≡ a′ ∷ b′ ∷ [] → T (less (a ∷ b ∷ []) (a′ ∷ b′ ∷ []))
     → T (less (each (below N) f) (each (below N) g))
@@ -178,9 +137,6 @@ module _ (c : Compiled) (w : WellMade c) where
         (single P (x .0) (q .p) (w .onBoard q qp (q .p) (w .coversP q qp)) q (ex .1) (w .coversP q qp))
         (single Q (y .0) (q .p) (w .onBoard q qp (q .p) (w .coversP q qp)) r (ey .1) (Memᴰ·cast e (w .coversP r rp)))
         (two-of q r e t)
-
-    search-part : (P : List Placement) → List·Memᴰ P [] → ⊥
-    search-part P m = List·Memᴰ·not-nil m
 
   search-ascending : (fuel : ℕ) (s : State) → Sound c s → T (ascending bodyAhead (search ch fuel s))
   unfolding search

@@ -1,14 +1,16 @@
 -- Laws of packings: the order of placements, the test and the record, and when two packings are the same. Assumes nothing.
-use Prim.Native.Nat.{ℕ, zero, suc, _+_, _≤_, _<_}
-use mathlib.Core.Bool.{Bool, true, false, cond, not, _&&_}
-use mathlib.Core.List.{List, [], _∷_, List·Memᴰ, List·Memᴰ·head, List·Memᴰ·tail, List·Memᴰ·not-nil, head-eq-of-cons-eq, tail-eq-of-cons-eq}
-use mathlib.Core.Path.{_≡_, refl, sym, ap, _∙_, subst}
-use mathlib.Core.Logic.{_⊎_, inl, inr}
+use Prim.Native.Nat.{ℕ, _≤_, _<_}
+use mathlib.Core.Bool.{_&&_}
+use mathlib.Core.List.{List, [], _∷_, List·Memᴰ, head-eq-of-cons-eq, tail-eq-of-cons-eq}
+use mathlib.Core.Path.{_≡_, sym, subst}
 use native.Mathlib.Omega.{arith}
-use lib.Dec.{T, ltb, leb, eqb, leb→le, eqb→eq}
+use lib.Dec.{T, leb, eqb, leb→le, eqb→eq}
 use lib.ListN.{length, getD}
-use Rattle.definitions.specs.Lists.{all, any, howMany, below, member, same, less, ascending}
-use Rattle.definitions.proofs.ListLaws.{and-left, and-right, and-both, all-at, all-of, any-at, any-of, same→eq, same-refl, less-irrefl, less-trans, below-of, member-of, member-at, howMany-one, howMany-zero, howMany-any, ascending-unique, decide, clash, eqb-of}
+use Rattle.lists.specs.Lists.{any, below, member, same, ascending}
+use Rattle.lists.proofs.TestLaws.{and-left, and-right, and-both}
+use Rattle.lists.proofs.ListLaws.{all-at, any-at, howMany-one, howMany-any}
+use Rattle.lists.proofs.SortLaws.{same→eq, same-refl, less-irrefl, less-trans}
+use Rattle.lists.proofs.RangeLaws.{below-of, member-of, member-at}
 use Rattle.definitions.specs.Placements.{Placement, Compiled}
 use Rattle.definitions.specs.Packing.{rank, ahead, samePlacement, covering, used, limits, placed, coversOnce, withinCopies, Packing, isPacking}
 

@@ -1,28 +1,28 @@
 -- Turned grids have the same variants, so a mirror partner's partner is the kind itself; and what an accepted call's tray has. Assumes nothing.
-use Prim.Native.Nat.{ℕ, zero, suc}
-use mathlib.Core.Bool.{Bool, true, false, cond, not, _&&_, _||_}
-use mathlib.Core.List.{List, [], _∷_, map, List·Memᴰ, List·Memᴰ·not-nil, Memᴰ·cast, Memᴰ·map, Memᴰ·of-map}
+use Prim.Native.Nat.{ℕ}
+use mathlib.Core.Bool.{Bool, true, false, not, _&&_, _||_}
+use mathlib.Core.List.{List, [], _∷_, map, List·Memᴰ, List·Memᴰ·not-nil, Memᴰ·cast, Memᴰ·map, Memᴰ·of-map, map-map}
 use mathlib.Core.Path.{_≡_, refl, sym, ap, _∙_, subst}
 use mathlib.Core.Logic.{_⊎_, inl, inr, _↔_}
 use native.Mathlib.Omega.{arith}
 use lib.Dec.{T, eqb, ltb, eqb→eq, nltb→le}
 use lib.ListN.{length}
-use Rattle.definitions.specs.Lists.{same, before, ascending, headOr, less}
-use Rattle.definitions.proofs.ListLaws.{and-left, and-right, and-both, or-left, or-right, or-cases, ltb-trans, ltb-irrefl, eqb-of, ascending-unique, sort-ascending, less-total, same-refl, decide, clash}
+use Rattle.lists.specs.Lists.{same, before, ascending, headOr, less}
+use Rattle.lists.proofs.TestLaws.{and-left, and-right, and-both, or-left, or-right, or-cases, ltb-trans, ltb-irrefl, eqb-of, decide, clash}
+use Rattle.lists.proofs.SortLaws.{ascending-unique, sort-ascending, less-total, same-refl, sort-of}
+use Rattle.lists.proofs.NthLaws.{nth-map, before-nth, Nth, nth-mem, nth-getD, getD-nth}
+use Rattle.lists.proofs.NameLaws.{StrictOrder, before-entry, names-up}
 use Rattle.definitions.specs.Grid.{Grid, volume, sameGrid, gridAhead, sidesThenCells}
 use Rattle.definitions.specs.Maps.{Map, mapGrid, turns, mirror, product}
-use Rattle.definitions.proofs.MapLaws.{map-map-of}
 use Rattle.definitions.proofs.GroupLaws.{identity-grid, sameGrid→eq, sameGrid-of}
 use Rattle.definitions.specs.Kinds.{Tray, Piece, Form, sameForm, formAhead, Sorted, Kind, sorted, forms, variants, smallest, mirroredForm, partnerOf, kindsOf, formOf}
 use Rattle.definitions.specs.Placements.{Placement, compile}
 use Rattle.definitions.specs.Kept.{kindAfter}
 use Rattle.definitions.proofs.SearchLaws.{WellMade}
-use Rattle.definitions.proofs.WellMadeLaws.{Nth, nth-mem, nth-getD, getD-nth}
-use Rattle.definitions.proofs.ShapeLaws.{sort-of, variant-at, smallest-at, kind-at}
+use Rattle.definitions.proofs.ShapeLaws.{variant-at, smallest-at, kind-at}
 use Rattle.definitions.proofs.ActLaws.{product-in, product-on, back-in}
 use Rattle.definitions.proofs.MoveLaws.{mapped-whole, mirror-in}
 use Rattle.definitions.proofs.CellLaws.{grid-trans, grid-irrefl}
-use Rattle.definitions.proofs.NameLaws.{StrictOrder, before-entry, names-up}
 
 -- ---- variants
 pub grids-tied : (g h : Grid) → T (not (gridAhead g h)) → T (not (gridAhead h g)) → g ≡ h
@@ -83,14 +83,6 @@ mirror-twice s e =
     ∙ smallest-turned (product mirror (product (r .0) mirror)) (product-in true true mirror (product (r .0) mirror) mirror-in a) s e
 
 -- ---- partners
-pub before-holds : {A : Type 0} (p : A → Bool) (xs : List A) (x : A) → Nth xs (before p xs) x → T (p x)
-before-holds p [] x h = absurd h
-before-holds p (y ∷ ys) x h = go (p y) refl h (λ (k : Nth ys (before p ys) x). before-holds p ys x k)
-  where
-    go : (b : Bool) → p y ≡ b → Nth (y ∷ ys) (cond b 0 (suc (before p ys))) x → (Nth ys (before p ys) x → T (p x)) → T (p x)
-    go true e k f = subst T (sym (ap p k ∙ e)) tt
-    go false e k f = f k
-
 -- grids by their order
 pub grids-ordered : StrictOrder Grid gridAhead sameGrid
 grids-ordered = record { trans = grid-trans; irrefl = grid-irrefl; tied = grids-tied; equal = sameGrid→eq; alike = λ g h e. sameGrid-of e }
@@ -174,11 +166,6 @@ forms-ordered = record { trans = form-trans; irrefl = form-irrefl; tied = forms-
 pub before-form : (xs : List Form) → T (ascending formAhead xs) → (n : ℕ) (f : Form) → Nth xs n f → before (sameForm f) xs ≡ n
 before-form xs t n f h = before-entry formAhead sameForm forms-ordered xs t n f h
 
-nth-map : {A B : Type 0} (f : A → B) (xs : List A) (n : ℕ) (x : A) → Nth xs n x → Nth (map f xs) n (f x)
-nth-map f [] n x h = absurd h
-nth-map f (y ∷ ys) zero x h = ap f h
-nth-map f (y ∷ ys) (suc n) x h = nth-map f ys n x h
-
 module _ (t : Tray) (wholes : (q : Piece) → List·Memᴰ q (t .pieces) → length (q .grid .cells) ≡ volume (q .grid .sides)) where
   unfoldable pub fs : List Form
   fs = forms (sorted t)
@@ -189,7 +176,7 @@ module _ (t : Tray) (wholes : (q : Piece) → List·Memᴰ q (t .pieces) → len
 
   pub forms-are : map formOf (kindsOf t) ≡ fs
   unfolding kindsOf fs formOf
-  forms-are = map-map-of formOf _ (forms (sorted t)) ∙ map-id (forms (sorted t))
+  forms-are = map-map formOf _ (forms (sorted t)) ∙ map-id (forms (sorted t))
     where
       map-id : (xs : List Form) → map (λ f. f) xs ≡ xs
       map-id [] = refl
@@ -213,7 +200,7 @@ module _ (t : Tray) (wholes : (q : Piece) → List·Memᴰ q (t .pieces) → len
 
   -- a kind's mirror partner has its mirrored grids and its wood
   pub partner-form : (k l : ℕ) (d e : Kind) → Nth (kindsOf t) k d → Nth (kindsOf t) l e → l ≡ d .partner → mirroredForm (formOf d) ≡ formOf e
-  partner-form k l d e a b h = sameForm→eq (mirroredForm (formOf d)) (formOf e) (before-holds (sameForm (mirroredForm (formOf d))) fs (formOf e) at-l)
+  partner-form k l d e a b h = sameForm→eq (mirroredForm (formOf d)) (formOf e) (before-nth (sameForm (mirroredForm (formOf d))) fs (formOf e) at-l)
     where
       at-l : Nth fs (before (sameForm (mirroredForm (formOf d))) fs) (formOf e)
       at-l = subst (λ (n : ℕ). Nth fs n (formOf e)) (h ∙ partner-is d (nth-mem (kindsOf t) k a)) (form-nth l e b)

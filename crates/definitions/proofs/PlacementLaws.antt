@@ -3,10 +3,10 @@ use Prim.Native.Nat.{ℕ, _<_}
 use mathlib.Core.List.{List, List·Memᴰ}
 use mathlib.Core.Path.{_≡_, sym, ap, _∙_}
 use lib.ListN.{length}
+use Rattle.lists.proofs.NthLaws.{nth-mem}
 use Rattle.definitions.specs.Placements.{Placement, compile}
 use Rattle.definitions.specs.Refusals.{Call, trayOf, refusal}
 use Rattle.definitions.specs.PlacementsRight.{pieceAt, kindAt, SetDown, placementsRight}
-use Rattle.definitions.proofs.WellMadeLaws.{nth-mem}
 use Rattle.definitions.proofs.ShapeLaws.{bits, tight}
 use Rattle.definitions.proofs.GeometryLaws.{piece-whole}
 use Rattle.definitions.proofs.KindLaws.{kindNumber, cells-filled, cells-in-order, is-kind, some-lent, one-kind-turns, shape-turned, shape-smallest, kinds-in-order, partner-mirrors, copies-lent, copies-in-order, kind-shape, kind-wood, piece-nth}

@@ -6,7 +6,9 @@ use mathlib.Core.Path.{_≡_, _∙_, subst}
 use native.Mathlib.Omega.{arith}
 use lib.Dec.{T}
 use lib.ListN.{length}
-use Rattle.definitions.specs.Lists.{keep, ascending}
+use Rattle.lists.specs.Lists.{keep, ascending}
+use Rattle.lists.proofs.SortLaws.{keep-ascending}
+use Rattle.lists.proofs.NthLaws.{Nth, nth-mem, nth-below, getD-nth, nth-up, nth-ahead, nth-unique}
 use Rattle.definitions.specs.Grid.{Cell, Grid, gridAhead}
 use Rattle.definitions.specs.Scan.{axes, scan}
 use Rattle.definitions.specs.Kinds.{Tray, kindsOf, variants}
@@ -14,10 +16,9 @@ use Rattle.definitions.specs.Placements.{fits, Placement, Compiled, comp
 use Rattle.definitions.specs.Moves.{gridAfter}
 use Rattle.definitions.specs.Refusals.{Call, trayOf, refusal}
 use Rattle.definitions.specs.PlacementsRight.{SetDown, pieceAt}
-use Rattle.definitions.proofs.ListLaws.{keep-ascending}
-use Rattle.definitions.proofs.WellMadeLaws.{Nth, nth-mem, nth-below, getD-nth, nth-up, nth-ahead, from-made}
+use Rattle.definitions.proofs.WellMadeLaws.{from-made}
 use Rattle.definitions.proofs.ShapeLaws.{tight, shape-facts}
-use Rattle.definitions.proofs.CellLaws.{nth-unique, grid-trans, grid-irrefl}
+use Rattle.definitions.proofs.CellLaws.{grid-trans, grid-irrefl}
 use Rattle.definitions.proofs.PartnerLaws.{variants-up}
 use Rattle.definitions.proofs.KindLaws.{kindNumber, piece-nth, grid-bits, grid-all, is-kind, kind-shape}
 use Rattle.definitions.proofs.SetDownLaws.{fitting, Stands, placed-nth, placement-stands, placement-once}

@@ -1,14 +1,18 @@
 -- Branches that a search may leave early: what is listed stays as it is. Assumes nothing.
 use Prim.Native.Nat.{ℕ, zero, suc, _≤_, _<_}
 use mathlib.Core.Bool.{Bool, true, false, cond, not, _&&_}
-use mathlib.Core.List.{List, [], _∷_, _++_, List·Memᴰ, List·Memᴰ·head, List·Memᴰ·tail, List·Memᴰ·eq-of-singleton, Memᴰ·cast}
+use mathlib.Core.List.{List, [], _∷_, _++_, List·Memᴰ, List·Memᴰ·head, List·Memᴰ·eq-of-singleton, Memᴰ·cast}
 use mathlib.Core.Path.{_≡_, refl, sym, ap, _∙_, subst}
 use mathlib.Core.Logic.{_⊎_, inl, inr}
 use native.Mathlib.Omega.{arith}
 use lib.Dec.{T, ltb, eqb, eqb→eq, ltb→lt}
 use lib.ListN.{length, getD}
-use Rattle.definitions.specs.Lists.{any, consIf, keep, each, below, from, member, less, isEmpty}
-use Rattle.definitions.proofs.ListLaws.{and-left, and-right, and-both, or-cases, all-at, any-at, any-of, keep-at, keep-of, keep-keep, keep-each, keep-ascending, each-at, member-of, ascending-unique, clash, eqb-of, holds}
+use Rattle.lists.specs.Lists.{any, keep, each, below, from, member, less, isEmpty}
+use Rattle.lists.proofs.TestLaws.{and-left, and-right, and-both, or-cases, clash, eqb-of, holds}
+use Rattle.lists.proofs.ListLaws.{each-keep, nothing-in, all-at, any-at, any-of, keep-at, keep-of, keep-keep, keep-each, each-at, each-same-in}
+use Rattle.lists.proofs.SortLaws.{keep-ascending, ascending-unique, less-two}
+use Rattle.lists.proofs.RangeLaws.{member-of}
+use Rattle.lists.proofs.NthLaws.{nth-mem, nth-getD, getD-nth}
 use Rattle.definitions.specs.Maps.{Map, turns, mirrorings, mapCell}
 use Rattle.definitions.specs.Kinds.{Kind}
 use Rattle.definitions.specs.Placements.{Placement, Compiled, compile}
@@ -22,27 +26,11 @@ use Rattle.definitions.specs.declared.SolverKind.the-variants.{Fast, Knu
 use Rattle.definitions.specs.Pruning.{unless, hasDeadCell, knuthPruned, movedAhead, alwaysMirrorable, isPruned, fastPruned, pruning}
 use Rattle.definitions.proofs.SearchLaws.{WellMade, Sound, Fair, Extends, sound-start, free-at, still-possible, step, chosen-more, search-sound}
 use Rattle.definitions.proofs.EngineLaws.{knuth-fair, fastSearch, firsts, first-parts, has-first, same-first}
-use Rattle.definitions.proofs.WellMadeLaws.{nth-mem, nth-getD, getD-nth}
-use Rattle.definitions.proofs.OrderLaws.{each-same-in, less-two, pj-of}
+use Rattle.definitions.proofs.OrderLaws.{pj-of}
 use Rattle.definitions.proofs.ImageLaws.{Onto-placement, image-at, image-of}
 use Rattle.definitions.proofs.ActLaws.{mapsOf, may, symmetry-at, images-of}
 use Rattle.definitions.proofs.GeometryLaws.{W, numbered-cells, to-filled, of-filled, whole}
 use Rattle.definitions.proofs.CarryLaws.{KindsAfter, allowed-packing, turned-enough}
-
--- ---- lists
-module _ {A : Type 0} where
-  nothing-in : (xs : List A) → ((x : A) → List·Memᴰ x xs → ⊥) → xs ≡ []
-  nothing-in [] f = refl
-  nothing-in (x ∷ xs) f = absurd (f x (List·Memᴰ·head refl))
-
--- entries that give nothing may be left out
-each-keep : {A B : Type 0} (p : A → Bool) (f : A → List B) (xs : List A) → ((x : A) → List·Memᴰ x xs → T (not (p x)) → f x ≡ []) → each (keep p xs) f ≡ each xs f
-each-keep p f [] h = refl
-each-keep p f (x ∷ xs) h = go (p x) (h x (List·Memᴰ·head refl)) (each-keep p f xs (λ z m t. h z (List·Memᴰ·tail m) t))
-  where
-    go : (b : Bool) → (T (not b) → f x ≡ []) → each (keep p xs) f ≡ each xs f → each (consIf b x (keep p xs)) f ≡ f x ++ each xs f
-    go true g e = ap (λ (l : List _). f x ++ l) e
-    go false g e = e ∙ ap (λ (l : List _). l ++ each xs f) (sym (g tt))
 
 -- ---- dead states
 -- A search that makes no choice at a state that no packing extends lists the same.

@@ -9,13 +9,13 @@ use native.Mathlib.Omega.{arith}
 use borrow.Author.Tests.{ltb-false, not-false}
 use lib.Dec.{T, ltb, leb, eqb, eqb→eq, ltb→lt, leb→le, eqb-refl}
 use lib.ListN.{length}
-use Rattle.definitions.specs.Lists.{all, any}
+use Rattle.lists.specs.Lists.{all, any}
+use Rattle.lists.proofs.TestLaws.{and-left, and-right, and-both, or-left, or-right, or-cases, eqb-of, is-true, is-false, holds}
+use Rattle.lists.proofs.ListLaws.{all-at}
 use Rattle.definitions.specs.Grid.{volume}
 use Rattle.definitions.specs.Kinds.{Tray}
 use Rattle.definitions.specs.Placements.{compile}
-use Rattle.definitions.proofs.ListLaws.{and-left, and-right, and-both, or-left, or-right, or-cases, eqb-of, is-true, is-false, holds, all-at}
-use Rattle.definitions.specs.Refusals.{Call, Row, table, applies, firstThatApplies, refusal, sidesOf, lentOf, trayOf, isSide, sidesFit, cellsLie, areBits, someFilled}
-use Rattle.definitions.specs.Refusals.{copyCount, boardCellCount, isPorted, isKnuth, placementCount, linkCount}
+use Rattle.definitions.specs.Refusals.{Call, Row, table, applies, firstThatApplies, refusal, sidesOf, lentOf, trayOf, isSide, sidesFit, cellsLie, areBits, someFilled, copyCount, boardCellCount, isPorted, isKnuth, placementCount, linkCount}
 use Rattle.definitions.specs.declared.Record.{Record}
 use Rattle.definitions.specs.Outcomes.{Outcome, accepted, refused, outcome}
 use Rattle.definitions.specs.Demands.{Demand1, demand1}

@@ -1,19 +1,22 @@
 -- Laws of the search: for any engine whose choices are fair, it lists packings, all of them, and none twice. Assumes nothing.
 use Prim.Native.Nat.{ℕ, zero, suc, _+_, _-_, _≤_, _<_}
 use mathlib.Core.Bool.{Bool, true, false, cond, not, _&&_, and-true}
-use mathlib.Core.List.{List, [], _∷_, _++_, List·Memᴰ, List·Memᴰ·head, List·Memᴰ·tail, List·Memᴰ·not-nil, List·Memᴰ·cases-cons, List·Memᴰ·eq-of-singleton, Memᴰ·cast}
-use mathlib.Core.Path.{_≡_, refl, sym, ap, ap₂, _∙_, subst}
+use mathlib.Core.List.{List, [], _∷_, List·Memᴰ, List·Memᴰ·head, List·Memᴰ·not-nil, List·Memᴰ·eq-of-singleton, Memᴰ·cast}
+use mathlib.Core.Path.{_≡_, refl, sym, ap, _∙_, subst}
 use mathlib.Core.Logic.{_⊎_, inl, inr}
 use native.Mathlib.Nat.{le-of-eq}
 use native.Mathlib.Omega.{arith}
-use lib.Dec.{T, ltb, leb, eqb, leb→le, le→leb, eqb→eq, ltb→lt, lt→ltb, eqb-refl}
-use lib.ListN.{length, getD, set, List·getD-eq-default}
+use lib.Dec.{T, ltb, leb, eqb, le→leb, eqb→eq, ltb→lt, lt→ltb, eqb-refl}
+use lib.ListN.{length, getD, set}
 use lib.Seq.{getD-set-same, getD-set-other}
-use Rattle.definitions.specs.Lists.{all, any, howMany, keep, each, below, member, ascending, put, isEmpty, Apart}
-use Rattle.definitions.proofs.ListLaws.{and-left, and-right, and-both, all-at, all-of, any-at, any-of, keep-at, keep-of, keep-same, keep-keep, each-at, each-of, below-at, below-of, member-of, member-at, howMany-pos, howMany-any, howMany-mono, put-at, put-tail, put-head, put-howMany, put-ascending, ascending-apart, ascending-unique, Fresh, decide, clash, eqb-of, is-true, is-false, not-T, holds, keep-shorter, length-below, apart-each, apart-ascending}
+use Rattle.lists.specs.Lists.{all, any, keep, each, below, member, ascending, put, isEmpty, Apart}
+use Rattle.lists.proofs.TestLaws.{and-no, and-left, and-right, and-both, decide, clash, eqb-of, is-true, is-false, not-T, holds}
+use Rattle.lists.proofs.ListLaws.{getD-pos, all-at, all-of, any-at, any-of, keep-at, keep-of, keep-same, keep-keep, each-at, each-of, howMany-pos, howMany-any, keep-shorter, apart-each}
+use Rattle.lists.proofs.SortLaws.{howMany-mono, put-at, put-tail, put-head, put-howMany, put-ascending, ascending-apart, ascending-unique, Fresh, apart-ascending}
+use Rattle.lists.proofs.RangeLaws.{below-at, below-of, member-of, member-at, length-below}
 use Rattle.definitions.specs.Placements.{Placement, Compiled}
-use Rattle.definitions.specs.Packing.{rank, ahead, samePlacement, covering, used, limits, placed, coversOnce, withinCopies, Packing}
-use Rattle.definitions.proofs.PackingLaws.{ahead-trans, ahead-irrefl, samePlacement-refl, packing-placed, packing-covers, packing-once, packing-at, packing-within}
+use Rattle.definitions.specs.Packing.{ahead, samePlacement, covering, used, limits, placed, coversOnce, withinCopies, Packing}
+use Rattle.definitions.proofs.PackingLaws.{ahead-trans, ahead-irrefl, samePlacement-refl, packing-placed, packing-once, packing-at, packing-within}
 use Rattle.definitions.specs.Orders.{State, start, possible, choose, search, sizes}
 
 -- What a compiled tray brings to a search: placements ascend, their cells are cells of the board, and each covers its own p, the first of its cells.
@@ -51,15 +54,6 @@ sound-start c =
     all-kept : (xs : List ℕ) → xs ≡ keep (λ n. true) xs
     all-kept [] = refl
     all-kept (x ∷ xs) = ap (λ (l : List ℕ). x ∷ l) (all-kept xs)
-
-and-no : (b : Bool) → (b && false) ≡ false
-and-no true = refl
-and-no false = refl
-
-pub getD-pos : (xs : List ℕ) (k : ℕ) → 0 < getD xs k 0 → k < length xs
-getD-pos [] k h = absurd (omega arith)
-getD-pos (x ∷ xs) zero h = omega arith
-getD-pos (x ∷ xs) (suc k) h = let r = getD-pos xs k h in omega arith
 
 module _ (c : Compiled) (w : WellMade c) (s : State) (h : Sound c s) where
   -- an uncovered cell is one of the board that nothing chosen covers

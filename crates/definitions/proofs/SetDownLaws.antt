@@ -1,17 +1,19 @@
 -- The placements are the pieces' grids after quarter turns, set down on filled board cells, all of them, each once and in order. Assumes nothing.
 use Prim.Native.Nat.{ℕ, _+_, _-_, _<_}
 use mathlib.Core.Bool.{Bool, false, _&&_}
-use mathlib.Core.List.{List, [], _∷_, map, List·Memᴰ, List·Memᴰ·head, List·Memᴰ·not-nil, Memᴰ·cast, Memᴰ·map, Memᴰ·of-map}
+use mathlib.Core.List.{List, [], _∷_, map, List·Memᴰ, List·Memᴰ·head, List·Memᴰ·not-nil, Memᴰ·cast}
 use mathlib.Core.Path.{_≡_, refl, sym, ap, _∙_, subst}
 use native.Mathlib.Omega.{arith}
 use lib.Dec.{T, ltb, leb, le→leb}
 use lib.ListN.{length}
-use Rattle.definitions.specs.Lists.{all, any, keep, sort, ascending, numbered, joined}
-use Rattle.definitions.proofs.ListLaws.{and-both, all-at, all-of, any-at, any-of, keep-of, ltb-trans, ltb-irrefl, sort-ascending, ascending-unique}
+use Rattle.lists.specs.Lists.{all, any, keep, sort, ascending, numbered, joined}
+use Rattle.lists.proofs.TestLaws.{and-both}
+use Rattle.lists.proofs.ListLaws.{all-at, all-of, any-at, any-of, keep-of, map-same, joined-of}
+use Rattle.lists.proofs.SortLaws.{sorted-of, sort-at, sort-of}
+use Rattle.lists.proofs.NthLaws.{Nth, nth-kept, getD-nth, nth-value, numbered-of, mem-nth-of}
 use Rattle.definitions.specs.Grid.{setDown, Sides, Cell, Grid, volume, filledCells, sameCell}
 use Rattle.definitions.specs.Maps.{Map, mapGrid, turns}
 use Rattle.definitions.proofs.MapLaws.{cell-path, turn-fits}
-use Rattle.definitions.proofs.GroupLaws.{map-same}
 use Rattle.definitions.specs.Scan.{axes, cellAhead, scan, scanNumber}
 use Rattle.definitions.specs.Kinds.{Tray, Kind, kindsOf, variants, smallest}
 use Rattle.definitions.specs.Placements.{origin, lies, reaches, fits, Placement, placementsAt, placementsOf, Compiled, compile}
@@ -20,26 +22,15 @@ use Rattle.definitions.specs.Moves.{Move, areTurns, isOdd, gridAfter}
 use Rattle.definitions.specs.Moves.Move.{turn, mirroring}
 use Rattle.definitions.specs.Refusals.{Call, trayOf, refusal, areBits, isTight}
 use Rattle.definitions.specs.PlacementsRight.{SetDown, kindAt}
-use Rattle.definitions.proofs.EngineLaws.{sort-at}
-use Rattle.definitions.proofs.WellMadeLaws.{Nth, nth-kept, getD-nth, Made, from-made, the-variant, some-cells, up-variant, up-board, lies-on, mem-nth, sameCell→eq, sameCell-refl}
-use Rattle.definitions.proofs.ShapeLaws.{sort-of, cells-tied, variant-at, smallest-at, shape-facts}
-use Rattle.definitions.proofs.ImageLaws.{ltb-tied}
+use Rattle.definitions.proofs.WellMadeLaws.{Made, from-made, the-variant, some-cells, up-variant, up-board, lies-on, mem-nth, sameCell→eq, sameCell-refl}
+use Rattle.definitions.proofs.ShapeLaws.{cells-tied, variant-at, smallest-at, shape-facts}
 use Rattle.definitions.proofs.ActLaws.{mapsOf}
 use Rattle.definitions.proofs.MoveLaws.{movesMap, moves-in, moves-grid, turn-moves, turns-alone}
-use Rattle.definitions.proofs.CellLaws.{Tight, tight-of, tight-mapped, nth-value}
+use Rattle.definitions.proofs.CellLaws.{Tight, tight-of, tight-mapped}
 use Rattle.definitions.proofs.PartnerLaws.{variant-of, variants-turned}
 use Rattle.definitions.proofs.GeometryLaws.{W, numbered-cells}
-use Rattle.definitions.proofs.AnswerLaws.{joined-of, numbered-of, mem-nth-of}
 
 -- ---- lists
--- numbers that ascend along a list are, sorted, those of any list with the same entries
-sorted-of : {A : Type 0} (f : A → ℕ) (xs ys : List A) → T (ascending ltb (map f xs))
-    → ((x : A) → List·Memᴰ x xs → List·Memᴰ x ys) → ((x : A) → List·Memᴰ x ys → List·Memᴰ x xs) → map f xs ≡ sort ltb (map f ys)
-sorted-of f xs ys up there back =
-    ascending-unique ltb ltb-trans ltb-irrefl (map f xs) (sort ltb (map f ys)) up (sort-ascending ltb ltb-trans (map f ys))
-    (λ n k. let r = Memᴰ·of-map f xs k in sort-of ltb ltb-tied (map f ys) (Memᴰ·cast (sym (r .2)) (Memᴰ·map f (there (r .0) (r .1)))))
-    (λ n k. let r = Memᴰ·of-map f ys (sort-at ltb (map f ys) k) in Memᴰ·cast (sym (r .2)) (Memᴰ·map f (back (r .0) (r .1))))
-
 origin-of : (us : List Cell) {u : Cell} → List·Memᴰ u us → List·Memᴰ (origin us) us
 unfolding origin
 origin-of [] k = absurd (List·Memᴰ·not-nil k)

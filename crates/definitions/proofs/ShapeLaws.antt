@@ -1,7 +1,7 @@
 -- The variants of a kind have as many filled cells as its shape, so the tray of an accepted call is well made. Assumes nothing.
 use Prim.Native.Nat.{ℕ, zero, suc, _+_, _≤_, _<_}
 use mathlib.Core.Bool.{Bool, true, false, cond, not, _&&_, _||_}
-use mathlib.Core.List.{List, [], _∷_, map, List·Memᴰ, List·Memᴰ·head, List·Memᴰ·tail, List·Memᴰ·not-nil, List·Memᴰ·cases-cons, Memᴰ·cast, Memᴰ·of-map, head-eq-of-cons-eq, tail-eq-of-cons-eq}
+use mathlib.Core.List.{List, [], _∷_, map, List·Memᴰ, List·Memᴰ·head, List·Memᴰ·tail, Memᴰ·of-map}
 use mathlib.Core.Path.{_≡_, refl, sym, ap, _∙_, subst}
 use mathlib.Core.Logic.{_⊎_, inl, inr}
 use native.Mathlib.Nat.{le-antisymm}
@@ -9,9 +9,12 @@ use native.Mathlib.Omega.{arith}
 use lib.Dec.{T, ltb, eqb, leb→le, nltb→le}
 use lib.ListN.{length, drop, length-drop}
 use lib.Seq.{length-take-le}
-use Rattle.definitions.specs.Lists.{any, put, sort, headOr, less, sum, isEmpty, Apart}
-use Rattle.definitions.proofs.ListLaws.{and-left, all-at, decide, clash, eqb-of, put-tail, less-total, apart-ascending, apart-length, sort-ascending}
-use Rattle.definitions.proofs.CountLaws.{total-same, howMany-total, howMany-length, sum-map}
+use Rattle.lists.specs.Lists.{any, put, sort, headOr, less, sum, isEmpty}
+use Rattle.lists.proofs.TestLaws.{and-left, decide, clash, eqb-of}
+use Rattle.lists.proofs.ListLaws.{map-same-at, all-at}
+use Rattle.lists.proofs.SortLaws.{sort-length, sort-of, less-total, sort-at}
+use Rattle.lists.proofs.CountLaws.{total-same, howMany-total, howMany-length, sum-map}
+use Rattle.lists.proofs.NthLaws.{numbered-at, nth-mem}
 use Rattle.definitions.specs.Grid.{Sides, Cell, Grid, box, volume, byteAt, gridWith, filledCells, gridAhead, InBox}
 use Rattle.definitions.specs.Maps.{Map, side, coordinate, mapSides, mapCell, inverse, mapGrid, turns, transform, permutations, parity}
 use Rattle.definitions.proofs.MapLaws.{box-at, cell-path, turn-fits, filled-apart, filled-length, mapped-byte}
@@ -19,8 +22,7 @@ use Rattle.definitions.specs.Scan.{axisAhead, axes, cellAhead, scan}
 use Rattle.definitions.specs.Kinds.{Piece, Tray, variants, smallest, Form, formAhead, Sorted, sortPiece, sorted, forms, Kind, kindsOf}
 use Rattle.definitions.specs.Placements.{compile}
 use Rattle.definitions.proofs.SearchLaws.{WellMade}
-use Rattle.definitions.proofs.EngineLaws.{sort-at}
-use Rattle.definitions.proofs.WellMadeLaws.{ShapeFacts, well-made, cell-trans, cell-irrefl, numbered-at, nth-mem}
+use Rattle.definitions.proofs.WellMadeLaws.{ShapeFacts, well-made, cell-trans, cell-irrefl}
 use Rattle.definitions.specs.Refusals.{Call, sidesOf, gridOf, pieceOf, lentOf, stripPiece, stripTray, trayOf, cellsLie, areBits, someFilled, filledWhere, isTight, refusal}
 use Rattle.definitions.specs.declared.Record.{Record}
 use Rattle.definitions.specs.Stripping.{corner, strip}
@@ -28,31 +30,6 @@ use Rattle.definitions.specs.EmptyLayers.{Stripped}
 use Rattle.definitions.proofs.GridLaws.{byte-bit}
 use Rattle.definitions.proofs.StrippingLaws.{strip-right}
 use Rattle.definitions.proofs.RefusalLaws.{PassedLent, passed}
-
--- ---- a sorted list has the entries of the list, where only equals are tied
-module _ {A : Type 0} (ahead : A → A → Bool) (tied : (x y : A) → T (not (ahead x y)) → T (not (ahead y x)) → x ≡ y) where
-  put-in : (x : A) (ys : List A) → List·Memᴰ x (put ahead x ys)
-  put-in x [] = List·Memᴰ·head refl
-  put-in x (y ∷ ys) = go (ahead x y) (ahead y x) (λ t. t) (λ t. t) (put-in x ys)
-    where
-      go : (b c : Bool) → (T (not b) → T (not (ahead x y))) → (T (not c) → T (not (ahead y x))) → List·Memᴰ x (put ahead x ys)
-          → List·Memᴰ x (cond b (x ∷ y ∷ ys) (cond c (y ∷ put ahead x ys) (y ∷ ys)))
-      go true c f g m = List·Memᴰ·head refl
-      go false true f g m = List·Memᴰ·tail m
-      go false false f g m = List·Memᴰ·head (tied x y (f tt) (g tt))
-
-  pub sort-of : (xs : List A) {x : A} → List·Memᴰ x xs → List·Memᴰ x (sort ahead xs)
-  sort-of [] m = m
-  sort-of (y ∷ ys) {x} m = go (List·Memᴰ·cases-cons m) (λ (k : List·Memᴰ x ys). sort-of ys k)
-    where
-      go : (x ≡ y) ⊎ List·Memᴰ x ys → (List·Memᴰ x ys → List·Memᴰ x (sort ahead ys)) → List·Memᴰ x (put ahead y (sort ahead ys))
-      go (inl e) f = Memᴰ·cast e (put-in y (sort ahead ys))
-      go (inr k) f = put-tail ahead y (sort ahead ys) (f k)
-
-  sort-length : ((x y z : A) → T (ahead x y) → T (ahead y z) → T (ahead x z)) → ((x : A) → T (ahead x x) → ⊥) → (xs : List A) → Apart xs → length (sort ahead xs) ≡ length xs
-  sort-length trans irrefl xs h =
-      le-antisymm (apart-length (sort ahead xs) xs (apart-ascending ahead irrefl (sort ahead xs) (sort-ascending ahead trans xs)) (λ z m. sort-at ahead xs m))
-      (apart-length xs (sort ahead xs) h (λ z m. sort-of xs m))
 
 -- ---- scan order compares all three axes
 axes-tied : (s : Sides) (i j : ℕ) → T (not (axisAhead s i j)) → T (not (axisAhead s j i)) → i ≡ j
@@ -91,20 +68,12 @@ axes-has : (s : Sides) (i : ℕ) → List·Memᴰ i (0 ∷ 1 ∷ 2 ∷ []) → L
 unfolding axes
 axes-has s i m = sort-of (axisAhead s) (axes-tied s) (0 ∷ 1 ∷ 2 ∷ []) m
 
-map-at : {A : Type 0} (f g : A → ℕ) (xs : List A) → map f xs ≡ map g xs → (x : A) → List·Memᴰ x xs → f x ≡ g x
-map-at f g [] e x m = absurd (List·Memᴰ·not-nil m)
-map-at f g (y ∷ ys) e x m = go (List·Memᴰ·cases-cons m) (λ (k : List·Memᴰ x ys). map-at f g ys (tail-eq-of-cons-eq e) x k)
-  where
-    go : (x ≡ y) ⊎ List·Memᴰ x ys → (List·Memᴰ x ys → f x ≡ g x) → f x ≡ g x
-    go (inl i) r = ap f i ∙ head-eq-of-cons-eq e ∙ ap g (sym i)
-    go (inr k) r = r k
-
 pub cells-tied : (s : Sides) (u v : Cell) → T (not (cellAhead (axes s) u v)) → T (not (cellAhead (axes s) v u)) → u ≡ v
 unfolding cellAhead coordinate
 cells-tied s u v a b = go (less-total (map (coordinate u) (axes s)) (map (coordinate v) (axes s)))
   where
     same-at : map (coordinate u) (axes s) ≡ map (coordinate v) (axes s) → (i : ℕ) → List·Memᴰ i (0 ∷ 1 ∷ 2 ∷ []) → coordinate u i ≡ coordinate v i
-    same-at e i m = map-at (coordinate u) (coordinate v) (axes s) e i (axes-has s i m)
+    same-at e i m = map-same-at (coordinate u) (coordinate v) (axes s) e i (axes-has s i m)
 
     go : T (less (map (coordinate u) (axes s)) (map (coordinate v) (axes s))) ⊎ ((map (coordinate u) (axes s) ≡ map (coordinate v) (axes s)) ⊎ T (less (map (coordinate v) (axes s)) (map (coordinate u) (axes s)))) → u ≡ v
     go (inl t) = absurd (clash (less (map (coordinate u) (axes s)) (map (coordinate v) (axes s))) t a)

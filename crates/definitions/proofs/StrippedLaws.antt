@@ -9,8 +9,9 @@ use native.Mathlib.Nat.{le-antisymm}
 use native.Mathlib.Omega.{arith}
 use lib.Dec.{T, eqb}
 use lib.ListN.{length}
-use Rattle.definitions.specs.Lists.{isEmpty}
-use Rattle.definitions.proofs.ListLaws.{any-of, eqb-of}
+use Rattle.lists.specs.Lists.{isEmpty}
+use Rattle.lists.proofs.TestLaws.{eqb-of}
+use Rattle.lists.proofs.ListLaws.{any-of}
 use Rattle.definitions.specs.Grid.{setDown, Sides, Cell, Grid, volume, byteAt, gridWith, filledCells}
 use Rattle.definitions.specs.Maps.{side, coordinate}
 use Rattle.definitions.proofs.MapLaws.{cell-path, box-of, filled-at}

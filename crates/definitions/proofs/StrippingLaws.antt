@@ -2,24 +2,25 @@
 -- cells stay. Assumes nothing.
 use Prim.Native.Nat.{ℕ, zero, suc, _+_, _≤_, _<_, min, max}
 use mathlib.Core.Bool.{Bool, true, false, cond, not, _&&_}
-use mathlib.Core.List.{List, [], _∷_, _++_, map, List·Memᴰ, List·Memᴰ·head, List·Memᴰ·tail, List·Memᴰ·not-nil, List·Memᴰ·cases-cons, Memᴰ·cast, Memᴰ·map, Memᴰ·of-map}
-use mathlib.Core.Path.{_≡_, refl, sym, ap, ap₂, _∙_, subst}
+use mathlib.Core.List.{List, [], _∷_, map, List·Memᴰ, List·Memᴰ·head, List·Memᴰ·tail, List·Memᴰ·not-nil, List·Memᴰ·cases-cons, Memᴰ·cast, Memᴰ·map, Memᴰ·of-map}
+use mathlib.Core.Path.{_≡_, refl, sym, ap, _∙_, subst}
 use mathlib.Core.Logic.{_⊎_, inl, inr}
 use native.Mathlib.Omega.{arith}
 use lib.Dec.{T, leb, ltb, eqb, eqb→eq, leb→le, le→leb, ltb→lt, lt→ltb}
 use lib.ListN.{length, length-map}
-use Rattle.definitions.specs.Lists.{consIf, keep, each, below, isEmpty, sum}
-use Rattle.definitions.proofs.ListLaws.{and-left, and-right, and-both, keep-same, keep-each, all-of, any-of, any-at, is-false, eqb-of, decide, clash}
-use Rattle.definitions.proofs.CountLaws.{total-same, howMany-total, howMany-length, sum-map}
+use Rattle.lists.specs.Lists.{consIf, keep, each, below, isEmpty, sum}
+use Rattle.lists.proofs.TestLaws.{and-left, and-right, and-both, is-false, eqb-of, decide, clash}
+use Rattle.lists.proofs.ListLaws.{each-empty, keep-one-each, keep-same, keep-each, all-of, any-of, any-at, map-each, each-same}
+use Rattle.lists.proofs.RangeLaws.{each-window}
+use Rattle.lists.proofs.CountLaws.{total-same, howMany-total, howMany-length, sum-map}
 use Rattle.definitions.specs.Grid.{setDown, Sides, Cell, Grid, box, volume, byteAt, gridWith, filledCells, InBox}
 use Rattle.definitions.specs.Maps.{coordinate}
-use Rattle.definitions.proofs.MapLaws.{box-at, byte-with, filled-at, filled-of, map-each, each-same}
+use Rattle.definitions.proofs.MapLaws.{box-at, byte-with, filled-at, filled-of}
 use Rattle.definitions.proofs.GroupLaws.{bytes-whole}
 use Rattle.definitions.proofs.GridLaws.{length-box, byte-bit}
 use Rattle.definitions.specs.Refusals.{areBits, someFilled, filledWhere, isTight}
 use Rattle.definitions.specs.EmptyLayers.{Stripped}
 use Rattle.definitions.specs.Stripping.{leastOf, largestOf, along, corner, span, spanned, strip, FitsIn, frameOf}
-use Rattle.definitions.proofs.WindowLaws.{each-window}
 
 -- ---- the least and the largest of some numbers
 pub least-in : (xs : List ℕ) → T (not (isEmpty xs)) → List·Memᴰ (leastOf xs) xs
@@ -102,18 +103,6 @@ module _ (f : Cell → ℕ) (us : List Cell) (some : T (not (isEmpty us))) where
 -- ---- the filled cells of a grid, axis by axis
 cellOf : ℕ → ℕ → ℕ → Cell
 cellOf i j k = record { x = i; y = j; z = k }
-
-keep-one-each : {A B : Type 0} (p : B → Bool) (f : A → B) (xs : List A) → keep p (map f xs) ≡ each xs (λ x. consIf (p (f x)) (f x) [])
-keep-one-each p f [] = refl
-keep-one-each p f (x ∷ xs) = go (p (f x)) (keep-one-each p f xs)
-  where
-    go : (b : Bool) → keep p (map f xs) ≡ each xs (λ y. consIf (p (f y)) (f y) []) → consIf b (f x) (keep p (map f xs)) ≡ consIf b (f x) [] ++ each xs (λ y. consIf (p (f y)) (f y) [])
-    go true e = ap (λ (l : List _). f x ∷ l) e
-    go false e = e
-
-each-empty : {A B : Type 0} (f : A → List B) (xs : List A) → ((x : A) → f x ≡ []) → each xs f ≡ []
-each-empty f [] h = refl
-each-empty f (x ∷ xs) h = ap₂ (λ (a b : List _). a ++ b) (h x) (each-empty f xs h)
 
 -- the cells of a box that pass a test
 module _ (p : Cell → Bool) where

@@ -2,17 +2,16 @@
 -- is refused by 7. Assumes nothing.
 use Prim.Native.Nat.{ℕ, _<_}
 use mathlib.Core.Bool.{not}
-use mathlib.Core.List.{List, [], map, _∷_, List·Memᴰ, List·Memᴰ·head, List·Memᴰ·tail, List·Memᴰ·not-nil, Memᴰ·cast}
+use mathlib.Core.List.{List, [], map, _∷_, List·Memᴰ, List·Memᴰ·head, List·Memᴰ·tail, List·Memᴰ·not-nil, Memᴰ·cast, map-map}
 use mathlib.Core.Path.{_≡_, refl, sym, ap, ap₂, _∙_, subst}
 use mathlib.Core.Logic.{_⊎_, inl, inr}
 use native.Mathlib.Omega.{arith}
 use lib.Dec.{T}
 use lib.ListN.{length, length-map}
-use Rattle.definitions.specs.Lists.{all, isEmpty}
-use Rattle.definitions.proofs.ListLaws.{all-at}
+use Rattle.lists.specs.Lists.{all, isEmpty}
+use Rattle.lists.proofs.ListLaws.{all-at, map-same}
+use Rattle.lists.proofs.NthLaws.{nth-mem, getD-nth, nth-getD, nth-value}
 use Rattle.definitions.specs.Grid.{Cell, Grid, filledCells}
-use Rattle.definitions.proofs.MapLaws.{map-map-of}
-use Rattle.definitions.proofs.GroupLaws.{map-same}
 use Rattle.definitions.specs.Stripping.{corner, strip, frameOf, ownFrame}
 use Rattle.definitions.specs.EmptyLayers.{Stripped, StrippedTray, strippedTray, putBack, asLent, never7}
 use Rattle.definitions.specs.Kinds.{Piece, Tray, sorted, kindsOf}
@@ -31,8 +30,6 @@ use Rattle.definitions.specs.Framing.{inFrame, unframed, ownAnswer}
 use Rattle.definitions.specs.declared.SolverKind.{SolverKind}
 use Rattle.definitions.specs.declared.SolverKind.the-variants.{Auto, Naive, Fast, KnuthAlgorithm}
 use Rattle.definitions.proofs.ShapeLaws.{lent-board-whole, lent-board-bits, lent-bits, lent-whole, lent-filled}
-use Rattle.definitions.proofs.WellMadeLaws.{nth-mem, getD-nth, nth-getD}
-use Rattle.definitions.proofs.CellLaws.{nth-value}
 use Rattle.definitions.proofs.StrippingLaws.{some-or-none, stripped-of, strip-empty, strip-right, corner-none}
 use Rattle.definitions.proofs.StrippedLaws.{strip-tight}
 use Rattle.definitions.proofs.GeometryLaws.{W, in-box}
@@ -97,7 +94,7 @@ module _ (l : Call) (ok : refusal l ≡ 0) where
   unfolding answersOf listed packings isPorted
   put-back i e =
       map-same (answer C) (λ P. inFrame (trayOf l .frame) (trayOf l .board .sides) (answer (compile (unframed (trayOf l))) P)) (listed C i e) (λ P m. one P (packed e P m))
-      ∙ sym (map-map-of (inFrame (trayOf l .frame) (trayOf l .board .sides)) (answer (compile (unframed (trayOf l)))) (listed C i e))
+      ∙ sym (map-map (inFrame (trayOf l .frame) (trayOf l .board .sides)) (answer (compile (unframed (trayOf l)))) (listed C i e))
       ∙ ap (λ (L : List (List Placement)). map (inFrame (trayOf l .frame) (trayOf l .board .sides)) (map (answer (compile (unframed (trayOf l)))) L)) (sym (unframed-list (trayOf l) i e))
     where
       C : Compiled

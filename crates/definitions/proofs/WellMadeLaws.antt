@@ -1,136 +1,25 @@
 -- A compiled tray is well made, given that each variant of a kind has as many filled cells as the kind's shape, and some. Assumes nothing.
 use Prim.Native.Nat.{ℕ, zero, suc, _+_, _-_, _≤_, _<_}
-use mathlib.Core.Bool.{Bool, true, false, cond, not, _&&_, _||_}
-use mathlib.Core.List.{List, [], _∷_, _++_, map, List·Memᴰ, List·Memᴰ·head, List·Memᴰ·tail, List·Memᴰ·not-nil, List·Memᴰ·cases-cons, List·Memᴰ·append-cases, Memᴰ·cast, Memᴰ·map, Memᴰ·of-map}
-use mathlib.Core.Path.{_≡_, refl, sym, ap, ap₂, _∙_, subst, subst₂}
+use mathlib.Core.Bool.{Bool, true, false, cond, _&&_, _||_}
+use mathlib.Core.List.{List, [], _∷_, map, List·Memᴰ, List·Memᴰ·head, List·Memᴰ·not-nil, List·Memᴰ·cases-cons, Memᴰ·cast, Memᴰ·map, Memᴰ·of-map}
+use mathlib.Core.Path.{_≡_, refl, sym, ap, _∙_, subst}
 use mathlib.Core.Logic.{_⊎_, inl, inr}
 use native.Mathlib.Omega.{arith}
 use lib.Dec.{T, ltb, leb, eqb, eqb→eq, ltb→lt, lt→ltb, leb→le, eqb-refl}
 use lib.ListN.{length, getD, length-map}
-use Rattle.definitions.specs.Lists.{consIf, all, any, keep, howMany, before, ascending, sort, joined, numbered, numberedFrom, headOr, less, sum}
-use Rattle.definitions.proofs.ListLaws.{and-left, and-right, and-both, or-left, or-right, or-cases, all-at, all-of, any-at, any-of, keep-at, keep-none, less-irrefl, less-trans, sort-ascending, eqb-of, is-true, is-false, first-ahead, not-again, ordered-append, ordered-at, ordered-of}
-use Rattle.definitions.proofs.CountLaws.{howMany-length}
+use Rattle.lists.specs.Lists.{all, any, keep, before, ascending, joined, numbered, headOr, less, sum}
+use Rattle.lists.proofs.TestLaws.{and-left, and-right, and-both, or-left, or-right, or-cases, eqb-of, is-true, is-false}
+use Rattle.lists.proofs.ListLaws.{joined-at, all-at, any-at, keep-at}
+use Rattle.lists.proofs.SortLaws.{less-irrefl, less-trans, sort-ascending, first-ahead, not-again, map-ascending}
+use Rattle.lists.proofs.NthLaws.{nth-ahead, joined-ascending, numbered-ascending, numbered-at, getD-nth, nth-getD, nth-below, nth-mem, Nth}
 use Rattle.definitions.specs.Grid.{Grid, Cell, sameCell, filledCells}
 use Rattle.definitions.specs.Maps.{coordinate}
 use Rattle.definitions.specs.Scan.{axes, cellAhead, scan, scanNumber}
 use Rattle.definitions.specs.Kinds.{Tray, Kind, kindsOf, variants}
-use Rattle.definitions.specs.Placements.{origin, lies, reaches, fits, Placement, placementsAt, placementsOf, Compiled, compile}
+use Rattle.definitions.specs.Placements.{origin, lies, reaches, fits, Placement, placementsAt, placementsOf, compile}
 use Rattle.definitions.specs.Packing.{rank, ahead}
 use Rattle.definitions.specs.Orders.{sizes}
 use Rattle.definitions.proofs.SearchLaws.{WellMade}
-
--- ---- entries by their number
-abbrev pub Nth : {A : Type 0} → List A → ℕ → A → Type 0
-Nth [] n x = ⊥
-Nth (y ∷ ys) zero x = x ≡ y
-Nth (y ∷ ys) (suc n) x = Nth ys n x
-
-module _ {A : Type 0} where
-  pub nth-mem : (xs : List A) (n : ℕ) {x : A} → Nth xs n x → List·Memᴰ x xs
-  nth-mem [] n h = absurd h
-  nth-mem (y ∷ ys) zero h = List·Memᴰ·head h
-  nth-mem (y ∷ ys) (suc n) h = List·Memᴰ·tail (nth-mem ys n h)
-
-  pub nth-below : (xs : List A) (n : ℕ) (x : A) → Nth xs n x → n < length xs
-  nth-below [] n x h = absurd h
-  nth-below (y ∷ ys) zero x h = omega arith
-  nth-below (y ∷ ys) (suc n) x h = let r = nth-below ys n x h in omega arith
-
-  pub nth-getD : {B : Type 0} (f : A → B) (b : B) (xs : List A) (n : ℕ) {x : A} → Nth xs n x → getD (map f xs) n b ≡ f x
-  nth-getD f b [] n h = absurd h
-  nth-getD f b (y ∷ ys) zero h = ap f (sym h)
-  nth-getD f b (y ∷ ys) (suc n) h = nth-getD f b ys n h
-
-  pub getD-nth : (xs : List A) (n : ℕ) → n < length xs → (x : A) × Nth xs n x
-  getD-nth [] n h = absurd (omega arith)
-  getD-nth (y ∷ ys) zero h = (y, refl)
-  getD-nth (y ∷ ys) (suc n) h = getD-nth ys n (omega arith)
-
-  -- as many entries of an ascending list stand ahead of the n-th as its number says
-  pub nth-howMany : (first : A → A → Bool) → ((x y z : A) → T (first x y) → T (first y z) → T (first x z)) → ((x : A) → T (first x x) → ⊥)
-      → (xs : List A) → T (ascending first xs) → (n : ℕ) (x : A) → Nth xs n x → howMany (λ y. first y x) xs ≡ n
-  nth-howMany first trans irrefl [] t n x h = absurd h
-  nth-howMany first trans irrefl (y ∷ ys) t zero x h = howMany-length (λ z. first z x) (y ∷ ys) ∙ ap length (keep-none (λ z. first z x) (y ∷ ys) (λ z m a. go (List·Memᴰ·cases-cons m) a))
-    where
-      go : {z : A} → (z ≡ y) ⊎ List·Memᴰ z ys → T (first z x) → ⊥
-      go (inl e) a = irrefl y (subst₂ (λ (v w : A). T (first v w)) e h a)
-      go {z} (inr m) a = irrefl y (trans y z y (first-ahead first trans irrefl y ys t m) (subst (λ (w : A). T (first z w)) h a))
-  nth-howMany first trans irrefl (y ∷ ys) t (suc n) x h =
-      let a : _≡_ {A = ℕ} (cond (first y x) 1 0) 1 = ap {B = ℕ} (λ (b : Bool). cond b 1 0) (is-true (first y x) (first-ahead first trans irrefl y ys t (nth-mem ys n h))) in
-      let r = nth-howMany first trans irrefl ys (and-right (all (first y) ys) (ascending first ys) t) n x h in
-      omega arith
-
-  pub joined-at : (xss : List (List A)) {z : A} → List·Memᴰ z (joined xss) → (xs : List A) × List·Memᴰ xs xss × List·Memᴰ z xs
-  joined-at [] m = absurd (List·Memᴰ·not-nil m)
-  joined-at (xs ∷ xss) {z} m = go (List·Memᴰ·append-cases xs m) (λ (k : List·Memᴰ z (joined xss)). joined-at xss k)
-    where
-      go : List·Memᴰ z xs ⊎ List·Memᴰ z (joined xss) → (List·Memᴰ z (joined xss) → (ys : List A) × List·Memᴰ ys xss × List·Memᴰ z ys) → (ys : List A) × List·Memᴰ ys (xs ∷ xss) × List·Memᴰ z ys
-      go (inl k) f = (xs, List·Memᴰ·head refl, k)
-      go (inr k) f = let r = f k in (r .0, List·Memᴰ·tail (r .1), r .2)
-
-  pub append-ascending : (ahead : A → A → Bool) (xs ys : List A) → T (ascending ahead xs) → T (ascending ahead ys)
-      → ((x y : A) → List·Memᴰ x xs → List·Memᴰ y ys → T (ahead x y)) → T (ascending ahead (xs ++ ys))
-  append-ascending ahead xs ys s t f = ordered-of ahead (xs ++ ys) (ordered-append (λ x y. T (ahead x y)) xs ys (ordered-at ahead xs s) (ordered-at ahead ys t) f)
-
-module _ {A B : Type 0} (f : ℕ → A → B) where
-  pub numbered-at : (i : ℕ) (xs : List A) {z : B} → List·Memᴰ z (numberedFrom i xs f) → (n : ℕ) × (x : A) × Nth xs n x × (z ≡ f (n + i) x)
-  numbered-at i [] m = absurd (List·Memᴰ·not-nil m)
-  numbered-at i (x ∷ xs) {z} m = go (List·Memᴰ·cases-cons m) (λ (k : List·Memᴰ z (numberedFrom (suc i) xs f)). numbered-at (suc i) xs k)
-    where
-      go : (z ≡ f i x) ⊎ List·Memᴰ z (numberedFrom (suc i) xs f) → (List·Memᴰ z (numberedFrom (suc i) xs f) → (n : ℕ) × (y : A) × Nth xs n y × (z ≡ f (n + suc i) y))
-          → (n : ℕ) × (y : A) × Nth (x ∷ xs) n y × (z ≡ f (n + i) y)
-      go (inl e) g = (zero, x, refl, e ∙ ap (λ (k : ℕ). f k x) (omega arith))
-      go (inr k) g = let r = g k in (suc (r .0), r .1, r .2, r .3 ∙ ap (λ (k : ℕ). f k (r .1)) (omega arith))
-
-  -- a list made by number ascends where later numbers stand behind
-  pub numbered-ascending : (ahead : B → B → Bool) → ((n m : ℕ) (x y : A) → n < m → T (ahead (f n x) (f m y))) → (i : ℕ) (xs : List A) → T (ascending ahead (numberedFrom i xs f))
-  numbered-ascending ahead h i [] = tt
-  numbered-ascending ahead h i (x ∷ xs) =
-      and-both (all (ahead (f i x)) (numberedFrom (suc i) xs f)) (ascending ahead (numberedFrom (suc i) xs f))
-      (all-of (ahead (f i x)) (numberedFrom (suc i) xs f) (λ z m. at z (numbered-at (suc i) xs m))) (numbered-ascending ahead h (suc i) xs)
-    where
-      at : (z : B) → (n : ℕ) × (y : A) × Nth xs n y × (z ≡ f (n + suc i) y) → T (ahead (f i x) z)
-      at z r = subst (λ (w : B). T (ahead (f i x) w)) (sym (r .3)) (h i (r .0 + suc i) x (r .1) (omega arith))
-
-module _ {A B : Type 0} (f : ℕ → A → List B) where
-  joined-ascending : (ahead : B → B → Bool) → ((n : ℕ) (x : A) → T (ascending ahead (f n x)))
-      → ((n m : ℕ) (x y : A) → n < m → (z w : B) → List·Memᴰ z (f n x) → List·Memᴰ w (f m y) → T (ahead z w)) → (i : ℕ) (xs : List A) → T (ascending ahead (joined (numberedFrom i xs f)))
-  joined-ascending ahead g h i [] = tt
-  joined-ascending ahead g h i (x ∷ xs) =
-      append-ascending ahead (f i x) (joined (numberedFrom (suc i) xs f)) (g i x) (joined-ascending ahead g h (suc i) xs) (λ z w m k. at z w m (joined-at (numberedFrom (suc i) xs f) k))
-    where
-      at : (z w : B) → List·Memᴰ z (f i x) → (ys : List B) × List·Memᴰ ys (numberedFrom (suc i) xs f) × List·Memᴰ w ys → T (ahead z w)
-      at z w m r =
-          let q = numbered-at f (suc i) xs (r .1) in
-          h i (q .0 + suc i) x (q .1) (omega arith) z w m (subst (λ (l : List B). List·Memᴰ w l) (q .3) (r .2))
-
--- an entry that is kept for its value under f has the number that its value has among the values kept
-pub nth-kept : {A B : Type 0} (f : A → B) (p : B → Bool) (xs : List A) (n : ℕ) (x : A) → Nth (keep (λ z. p (f z)) xs) n x → Nth (keep p (map f xs)) n (f x)
-nth-kept f p [] n x h = absurd h
-nth-kept f p (y ∷ ys) n x h = go (p (f y)) n h (λ (i : ℕ) (k : Nth (keep (λ z. p (f z)) ys) i x). nth-kept f p ys i x k)
-  where
-    go : (b : Bool) (i : ℕ) → Nth (consIf b y (keep (λ z. p (f z)) ys)) i x → ((j : ℕ) → Nth (keep (λ z. p (f z)) ys) j x → Nth (keep p (map f ys)) j (f x))
-        → Nth (consIf b (f y) (keep p (map f ys))) i (f x)
-    go true zero k r = ap f k
-    go true (suc i) k r = r i k
-    go false i k r = r i k
-
--- the numbers of an ascending list's entries go by their order
-module _ {A : Type 0} (ahead : A → A → Bool) where
-  pub nth-up : (xs : List A) → T (ascending ahead xs) → (n m : ℕ) (x y : A) → Nth xs n x → Nth xs m y → n < m → T (ahead x y)
-  nth-up [] s n m x y k l h = absurd k
-  nth-up (z ∷ zs) s n zero x y k l h = absurd (omega arith)
-  nth-up (z ∷ zs) s zero (suc m) x y k l h = subst (λ (w : A). T (ahead w y)) (sym k) (all-at (ahead z) zs (and-left (all (ahead z) zs) (ascending ahead zs) s) (nth-mem zs m l))
-  nth-up (z ∷ zs) s (suc n) (suc m) x y k l h = nth-up zs (and-right (all (ahead z) zs) (ascending ahead zs) s) n m x y k l (omega arith)
-
-  module _ (trans : (x y z : A) → T (ahead x y) → T (ahead y z) → T (ahead x z)) (irrefl : (x : A) → T (ahead x x) → ⊥) where
-    pub nth-ahead : (xs : List A) → T (ascending ahead xs) → (n m : ℕ) (x y : A) → Nth xs n x → Nth xs m y → T (ahead x y) → n < m
-    nth-ahead [] s n m x y k l t = absurd k
-    nth-ahead (z ∷ zs) s zero zero x y k l t = absurd (irrefl x (subst (λ (w : A). T (ahead x w)) (l ∙ sym k) t))
-    nth-ahead (z ∷ zs) s zero (suc m) x y k l t = omega arith
-    nth-ahead (z ∷ zs) s (suc n) zero x y k l t =
-        absurd (irrefl x (trans x y x t (subst (λ (w : A). T (ahead w x)) (sym l) (first-ahead ahead trans irrefl z zs s (nth-mem zs n k)))))
-    nth-ahead (z ∷ zs) s (suc n) (suc m) x y k l t = let r = nth-ahead zs (and-right (all (ahead z) zs) (ascending ahead zs) s) n m x y k l t in omega arith
 
 -- ---- the order of placements
 ahead-kind : (q r : Placement) → q .kind < r .kind → T (ahead q r)
@@ -345,17 +234,6 @@ lies-ahead (i ∷ is) v o u w t = go (or-cases (ltb (coordinate u i) (coordinate
         or-right (ltb A B) (eqb A B && less (map (coordinate (lies v o u)) is) (map (coordinate (lies v o w)) is))
         (and-both (eqb A B) (less (map (coordinate (lies v o u)) is) (map (coordinate (lies v o w)) is)) (eqb-of e) (f (and-right (eqb (coordinate u i) (coordinate w i)) (less (map (coordinate u) is) (map (coordinate w) is)) s)))
 
-map-ascending : {A : Type 0} (before : A → A → Bool) (f : A → ℕ) (xs : List A) → ((x y : A) → List·Memᴰ x xs → List·Memᴰ y xs → T (before x y) → f x < f y)
-    → T (ascending before xs) → T (ascending ltb (map f xs))
-map-ascending before f [] h t = tt
-map-ascending before f (x ∷ xs) h t =
-    and-both (all (ltb (f x)) (map f xs)) (ascending ltb (map f xs))
-    (all-of (ltb (f x)) (map f xs) (λ z m. at z (Memᴰ·of-map f xs m)))
-    (map-ascending before f xs (λ a b m k. h a b (List·Memᴰ·tail m) (List·Memᴰ·tail k)) (and-right (all (before x) xs) (ascending before xs) t))
-  where
-    at : (z : ℕ) → (y : _) × List·Memᴰ y xs × (f y ≡ z) → T (ltb (f x) z)
-    at z r = subst (λ (w : ℕ). T (ltb (f x) w)) (r .2) (lt→ltb (f x) (f (r .0)) (h x (r .0) (List·Memᴰ·head refl) (List·Memᴰ·tail (r .1)) (all-at (before x) xs (and-left (all (before x) xs) (ascending before xs) t) (r .1))))
-
 -- ---- a placement's cells
 module _ (order : List ℕ) (board : List Cell) (asc : T (ascending (cellAhead order) board)) (ks : List Kind) (q : Placement) (m : Made order board ks q)
     (some : 0 < length (m .variant)) (up : T (ascending (cellAhead order) (m .variant))) where
@@ -417,7 +295,7 @@ module _ (order : List ℕ) (board : List Cell) (asc : T (ascending (cellAhead o
   to-ahead u w a b t = number-ahead order board asc (lies-on u a) (lies-on w b) (lies-ahead order (m .on) o u w t)
 
   made-ascends : T (ascending ltb (q .cells))
-  made-ascends = subst (λ (l : List ℕ). T (ascending ltb l)) (sym (m .cellsAre)) (map-ascending (cellAhead order) to us to-ahead up)
+  made-ascends = subst (λ (l : List ℕ). T (ascending ltb l)) (sym (m .cellsAre)) (map-ascending (cellAhead order) ltb to us up (λ x y a b s. lt→ltb (to x) (to y) (to-ahead x y a b s)))
 
   -- the origin comes first
   origin-first : (u : Cell) → List·Memᴰ u us → (u ≡ o) ⊎ T (cellAhead order o u)

@@ -1,13 +1,16 @@
 -- What woods forbid, and what they leave as it was. Assumes nothing.
 use Prim.Native.Nat.{ℕ, zero, suc, _+_, _*_, _<_}
 use mathlib.Core.Bool.{Bool, true, false, cond, not, _&&_, _||_}
-use mathlib.Core.List.{List, [], _∷_, _++_, map, List·Memᴰ, List·Memᴰ·not-nil, Memᴰ·of-map}
+use mathlib.Core.List.{List, [], _∷_, _++_, map, List·Memᴰ, List·Memᴰ·not-nil, Memᴰ·of-map, map-map}
 use mathlib.Core.Path.{_≡_, refl, sym, ap, ap₂, _∙_, subst, fun-ext}
 use native.Mathlib.Omega.{arith}
 use lib.Dec.{T, ltb, leb, eqb, eqb-refl}
 use lib.ListN.{length, getD, length-map}
-use Rattle.definitions.specs.Lists.{all, any, keep, each, before, below, sort, sum, less, same, joined, numbered, numberedFrom, ascending}
-use Rattle.definitions.proofs.ListLaws.{is-true, is-false, ltb-irrefl, keep-same, all-map, keep-map, each-map, numbered-map}
+use Rattle.lists.specs.Lists.{all, any, keep, each, before, below, sort, sum, less, same, joined, numbered, numberedFrom, ascending}
+use Rattle.lists.proofs.TestLaws.{is-true, is-false, ltb-irrefl}
+use Rattle.lists.proofs.ListLaws.{getD-inside, keep-same, all-map, keep-map, each-map, numbered-map, map-same, before-map}
+use Rattle.lists.proofs.SortLaws.{sort-map}
+use Rattle.lists.proofs.NthLaws.{nth-mem, nth-getD, getD-nth, numbered-at, nth-value}
 use Rattle.definitions.specs.Grid.{Cell, Grid, box, sameGrid, gridAhead}
 use Rattle.definitions.specs.Stripping.{strip, frameOf, ownFrame}
 use Rattle.definitions.specs.Maps.{mapGrid, mapCell, mirror, turns, mirrorings}
@@ -29,23 +32,13 @@ use Rattle.definitions.specs.Woods.{woodCarried, woodLentCarried, woodle
 use Rattle.definitions.specs.declared.Record.{Record}
 use Rattle.definitions.specs.declared.SolverKind.{SolverKind}
 use Rattle.definitions.specs.declared.SolverKind.the-variants.{Auto, Naive, Fast, KnuthAlgorithm}
-use Rattle.definitions.proofs.MapLaws.{map-map-of}
-use Rattle.definitions.proofs.GroupLaws.{map-same}
 use Rattle.definitions.proofs.PackingLaws.{packing-placed}
-use Rattle.definitions.proofs.WellMadeLaws.{nth-mem, nth-getD, getD-nth, numbered-at}
-use Rattle.definitions.proofs.CellLaws.{nth-value}
-use Rattle.definitions.proofs.NameLaws.{sort-map, before-map}
 use Rattle.definitions.proofs.PartnerLaws.{partner-form}
 use Rattle.definitions.proofs.GeometryLaws.{piece-whole}
 use Rattle.definitions.proofs.SetDownLaws.{of-kind}
 use Rattle.definitions.proofs.KindLaws.{kind-wood, copies-lent}
 
 -- ---- lists
-inside : {A : Type 0} (xs : List A) (k : ℕ) (d : A) → (getD xs k d ≡ d → ⊥) → k < length xs
-inside [] k d h = absurd (h refl)
-inside (x ∷ xs) zero d h = omega arith
-inside (x ∷ xs) (suc k) d h = let i = inside xs k d h in omega arith
-
 -- what has a copy is a kind
 copy-kind : (c : Compiled) (k : ℕ) (x : Copy) → List·Memᴰ x (kindAt c k .copies) → k < length (c .kinds)
 unfolding kindAt
@@ -64,7 +57,7 @@ module _ (l : Call) (ok : refusal l ≡ 0) where
   unfolding kindAfter kindAt compile mirroredForm formOf
   wood-after false k h = refl
   wood-after true k h =
-      let k-is : k < length ks = subst (λ (n : ℕ). k < n) (length-map ks (λ d. d .partner)) (inside (map (λ d. d .partner) ks) k (length ks) (λ e. let i : getD (map (λ d. d .partner) ks) k (length ks) ≡ length ks = e in omega (arith, h))) in
+      let k-is : k < length ks = subst (λ (n : ℕ). k < n) (length-map ks (λ d. d .partner)) (getD-inside (map (λ d. d .partner) ks) k (length ks) (λ e. let i : getD (map (λ d. d .partner) ks) k (length ks) ≡ length ks = e in omega (arith, h))) in
       let x = getD-nth ks k k-is in
       let y = getD-nth ks j h in
       let e = partner-form (trayOf l) (piece-whole l ok) k j (x .0) (y .0) (x .1) (y .1) (nth-getD (λ (d : Kind). d .partner) (length ks) ks k (x .1)) in
@@ -113,16 +106,16 @@ module _ (c : Compiled) where
 
   limits-same : limits (unwoodCompiled c) ≡ limits c
   unfolding limits unwoodCompiled unwood
-  limits-same = map-map-of (λ (d : Kind). length (d .copies)) unwood (c .kinds)
+  limits-same = map-map (λ (d : Kind). length (d .copies)) unwood (c .kinds)
 
   sizes-same : sizes (unwoodCompiled c) ≡ sizes c
   unfolding sizes unwoodCompiled unwood
-  sizes-same = map-map-of (λ (d : Kind). sum (d .shape .cells)) unwood (c .kinds)
+  sizes-same = map-map (λ (d : Kind). sum (d .shape .cells)) unwood (c .kinds)
 
   after-same : (odd : Bool) (k : ℕ) → kindAfter (unwoodCompiled c) odd k ≡ kindAfter c odd k
   unfolding kindAfter unwoodCompiled unwood
   after-same false k = refl
-  after-same true k = ap₂ {C = ℕ} (λ (ps : List ℕ) (n : ℕ). getD ps k n) (map-map-of (λ (d : Kind). d .partner) unwood (c .kinds)) (length-map (c .kinds) unwood)
+  after-same true k = ap₂ {C = ℕ} (λ (ps : List ℕ) (n : ℕ). getD ps k n) (map-map (λ (d : Kind). d .partner) unwood (c .kinds)) (length-map (c .kinds) unwood)
 
   smaller-same : (P Q : List Placement) → smaller (unwoodCompiled c) P Q ≡ smaller c P Q
   unfolding smaller compared
@@ -243,7 +236,7 @@ module _ (t : Tray) (w : ℕ) (one : (q : Piece) → List·Memᴰ q (t .pieces) 
   forms-of-one =
       ap (sort formAhead)
       (forms-sorted 0 (t .pieces) ∙ map-same pieceForm (λ (q : Piece). ofWood w (smallest (q .grid))) (t .pieces) (λ q m i. record { grid = smallest (q .grid); wood = one q m i })
-      ∙ sym (map-map-of (ofWood w) (λ (q : Piece). smallest (q .grid)) (t .pieces)))
+      ∙ sym (map-map (ofWood w) (λ (q : Piece). smallest (q .grid)) (t .pieces)))
       ∙ sort-map (ofWood w) gridAhead formAhead (ahead-same w) (map (λ (q : Piece). smallest (q .grid)) (t .pieces))
 
   -- each piece sorted has the wood
@@ -266,7 +259,7 @@ module _ (t : Tray) (w : ℕ) (one : (q : Piece) → List·Memᴰ q (t .pieces) 
   unfolding kindsOf kindOfShape ofWood
   kinds-are =
       ap (λ (fs : List Form). map (kindNamed (sorted t) fs) fs) forms-of-one
-      ∙ map-map-of (kindNamed (sorted t) (map (ofWood w) (smallestOf t))) (ofWood w) (smallestOf t)
+      ∙ map-map (kindNamed (sorted t) (map (ofWood w) (smallestOf t))) (ofWood w) (smallestOf t)
       ∙ map-same _ (kindOfShape w t) (smallestOf t) (λ g m i. record { shape = g; wood = w; partner = partner-are g i; copies = copies-are g i })
 
 -- the same tray without woods has the same shapes and copies
@@ -281,7 +274,7 @@ sorted-bare i (q ∷ qs) = ap (λ (l : List Sorted). unwoodSorted (sortPiece i q
 module _ (t : Tray) where
   shapes-bare : smallestOf (unwooded t) ≡ smallestOf t
   unfolding smallestOf unwooded woodless
-  shapes-bare = ap (sort gridAhead) (map-map-of (λ (q : Piece). smallest (q .grid)) woodless (t .pieces))
+  shapes-bare = ap (sort gridAhead) (map-map (λ (q : Piece). smallest (q .grid)) woodless (t .pieces))
 
   copies-bare : (g : Grid) → each (keep (λ q. sameGrid (q .form .grid) g) (sorted (unwooded t))) copiesOfPiece ≡ each (keep (λ q. sameGrid (q .form .grid) g) (sorted t)) copiesOfPiece
   unfolding sorted unwooded unwoodSorted
@@ -300,7 +293,7 @@ module _ (t : Tray) where
     kinds-bare =
         kinds-are (unwooded t) 0 bare-woods ∙ ap (map (kindOfShape 0 (unwooded t))) shapes-bare
         ∙ map-same (kindOfShape 0 (unwooded t)) (λ g. unwood (kindOfShape w t g)) (smallestOf t) (λ g m i. record { shape = g; wood = 0; partner = before (sameGrid (smallest (mapGrid mirror g))) (shapes-bare i); copies = copies-bare g i })
-        ∙ sym (map-map-of unwood (kindOfShape w t) (smallestOf t)) ∙ ap (map unwood) (sym (kinds-are t w one))
+        ∙ sym (map-map unwood (kindOfShape w t) (smallestOf t)) ∙ ap (map unwood) (sym (kinds-are t w one))
 
     compile-bare : compile (unwooded t) ≡ unwoodCompiled (compile t)
     unfolding compile unwoodCompiled unwooded unwood placementsOf
@@ -329,7 +322,7 @@ module _ (l : Call) where
   lent-bare = λ i. record { board = gridOf (l .bytes) (l .board); pieces = pieces-bare i; frame = ownFrame (gridOf (l .bytes) (l .board)) }
     where
       pieces-bare : map (pieceOf (l .bytes)) (map (withWood 0) (l .pieces)) ≡ map woodless (map (pieceOf (l .bytes)) (l .pieces))
-      pieces-bare = map-map-of (pieceOf (l .bytes)) (withWood 0) (l .pieces) ∙ sym (map-map-of woodless (pieceOf (l .bytes)) (l .pieces))
+      pieces-bare = map-map (pieceOf (l .bytes)) (withWood 0) (l .pieces) ∙ sym (map-map woodless (pieceOf (l .bytes)) (l .pieces))
 
   -- (stripping reads no wood)
   tray-bare : trayOf (withoutWoods l) ≡ unwooded (trayOf l)
@@ -339,7 +332,7 @@ module _ (l : Call) where
       ∙ (λ i. record { board = strip (lentOf l .board); pieces = same i; frame = frameOf (lentOf l .board) })
     where
       same : map stripPiece (map woodless (lentOf l .pieces)) ≡ map woodless (map stripPiece (lentOf l .pieces))
-      same = map-map-of stripPiece woodless (lentOf l .pieces) ∙ sym (map-map-of woodless stripPiece (lentOf l .pieces))
+      same = map-map stripPiece woodless (lentOf l .pieces) ∙ sym (map-map woodless stripPiece (lentOf l .pieces))
 
   all-bare : (p : Grid → Bool) → all (λ q. p (q .grid)) (lentOf (withoutWoods l) .pieces) ≡ all (λ q. p (q .grid)) (lentOf l .pieces)
   unfolding unwooded woodless
@@ -359,7 +352,7 @@ module _ (l : Call) where
 
   copies-counted : copyCount (lentOf (withoutWoods l)) ≡ copyCount (lentOf l)
   unfolding copyCount unwooded woodless
-  copies-counted = ap copyCount lent-bare ∙ ap sum (map-map-of (λ (q : Piece). q .count) woodless (lentOf l .pieces))
+  copies-counted = ap copyCount lent-bare ∙ ap sum (map-map (λ (q : Piece). q .count) woodless (lentOf l .pieces))
 
   module _ (w : ℕ) (one : (r : Record) → List·Memᴰ r (l .pieces) → r .wood ≡ w) where
     one-lent : (q : Piece) → List·Memᴰ q (trayOf l .pieces) → q .wood ≡ w

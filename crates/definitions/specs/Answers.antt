@@ -3,7 +3,7 @@
 use Prim.Native.Nat.{ℕ}
 use mathlib.Core.List.{List, [], _∷_, map}
 use lib.Dec.{eqb}
-use Rattle.definitions.specs.Lists.{each, keep, headOr, member, numbered, joined}
+use Rattle.lists.specs.Lists.{each, keep, headOr, member, numbered, joined}
 use Rattle.definitions.specs.Grid.{Cell, setDown, box}
 use Rattle.definitions.specs.Scan.{scanNumber}
 use Rattle.definitions.specs.Kinds.{Copy}

@@ -6,7 +6,7 @@ use mathlib.Core.List.{List, [], _∷_, map, List·Memᴰ}
 use mathlib.Core.Path.{_≡_}
 use lib.Dec.{eqb}
 use lib.ListN.{length, take, drop, getD}
-use Rattle.definitions.specs.Lists.{howMany}
+use Rattle.lists.specs.Lists.{howMany}
 use Rattle.definitions.specs.Grid.{Cell, InBox, setDown, filledCells, placeOf, volume}
 use Rattle.definitions.specs.Scan.{scanNumber}
 use Rattle.definitions.specs.Kinds.{Copy}

@@ -1,5 +1,5 @@
 -- What the marked lines leave open, as tables that antt computes (proofs/BoundaryLaws): each refusal and its boundary; pairs of refusals that apply at
--- once; the slices afterwards; the counts of 14 and 15 (trays at their limits are too large to compute here); pages; files. More lists and pages, of trays
+-- once; the slices afterwards; the counts of 14 and 15 (trays at their limits are too large to compute here); pages, also from behind an entry; files. More lists and pages, of trays
 -- that take longer, are in the crate corners.
 use Prim.Native.Nat.{ℕ, zero, suc, _+_, _*_, _/_, _%_}
 use Prim.Native.String.{String}
@@ -7,15 +7,17 @@ use mathlib.Core.Bool.{Bool, true, false, _&&_}
 use mathlib.Core.List.{List, [], _∷_, _++_}
 use lib.Dec.{eqb}
 use lib.ListN.{replicate}
-use Rattle.definitions.specs.Lists.{same}
+use Rattle.lists.specs.Lists.{same}
 use Rattle.definitions.specs.Placements.{compile}
 use Rattle.definitions.specs.Refusals.{Call, trayOf, placementCount, linkCount, refusal}
-use Rattle.definitions.specs.Outcomes.{outcome}
+use Rattle.definitions.specs.Outcomes.{Outcome, outcome}
+use Rattle.definitions.specs.Starts.{outcomeFrom}
 use Rattle.definitions.specs.Texts.{text}
-use Rattle.definitions.specs.Fillings.{Line, piece, inWood, board, M, D, none, turned, mirrored, lists}
+use Rattle.definitions.specs.Fillings.{Line, piece, inWood, board, M, D, none, turned, mirrored, lists, shows}
 use Rattle.definitions.specs.Files.{Written, callOn, packed}
 use Rattle.definitions.specs.declared.SolverKind.{SolverKind}
 use Rattle.definitions.specs.declared.SolverKind.the-variants.{Auto, Naive, Fast, KnuthAlgorithm}
+use Rattle.definitions.specs.declared.Start.the-variants.{Behind}
 use Rattle.definitions.specs.declared.Record.{Record}
 
 -- n cells, written as the digits of a number
@@ -208,10 +210,22 @@ afterwards =
     leaves (roomy KnuthAlgorithm bare) 0 (255 ∷ 255 ∷ 7 ∷ []) (replicate 8192 0 ++ 7 ∷ 7 ∷ []) (replicate 32768 0 ++ 7 ∷ []) ∷
     []
 
+abbrev pub leftBy : Left → Outcome → Bool
+leftBy x o = eqb (o .number) (x .number) && (same (o .answers) (x .answers) && (same (o .work) (x .work) && same (o .links) (x .links)))
+
 unfoldable pub isLeft : Left → Bool
-isLeft x =
-    let o = outcome (x .call) in
-    eqb (o .number) (x .number) && (same (o .answers) (x .answers) && (same (o .work) (x .work) && same (o .links) (x .links)))
+isLeft x = leftBy x (outcome (x .call))
+
+-- behind the last entry of a list, and behind what is none: the search has run, and nothing is written
+unfoldable pub afterwardsBehind : List Left
+afterwardsBehind =
+    leaves (roomy Fast plain) 0 (7 ∷ 7 ∷ 7 ∷ []) (replicate 8192 0 ++ 7 ∷ 7 ∷ []) (replicate 32769 7) ∷
+    leaves (roomy KnuthAlgorithm plain) 0 (7 ∷ 7 ∷ 7 ∷ []) (replicate 8192 0 ++ 7 ∷ 7 ∷ []) (replicate 32768 0 ++ 7 ∷ []) ∷
+    leaves (roomy Auto plain) 11 (7 ∷ 7 ∷ 7 ∷ []) (replicate 8194 7) (replicate 32769 7) ∷
+    []
+
+unfoldable pub isLeftBehind : List ℕ → Left → Bool
+isLeftBehind last x = leftBy x (outcomeFrom Behind last (x .call))
 
 -- ---- the counts of 14 and 15
 -- a tray, its placements and its links
@@ -281,6 +295,43 @@ pages =
 -- the buffer has five bytes more than fit whole answers
 unfoldable pub isPaged : SolverKind → Paged → Bool
 isPaged e x = lists (x .answers) (x .further) (callOn (board 1 1 3 (cells 3 111)) (M 1 ∷ D 1 ∷ []) false false e (x .skip) (x .room * 6 + 5))
+
+-- ---- pages from behind an entry of document 01's listing
+-- the entry that is lent, answers that fit, the answers written, whether a further one follows, whether the entry is missing
+pub record Resumed : Type 0 where
+  pub last : List ℕ
+  pub room : ℕ
+  pub answers : List (List ℕ)
+  pub further : Bool
+  pub missing : Bool
+
+abbrev pub goesOn : List ℕ → ℕ → List (List ℕ) → Bool → Resumed
+goesOn last room answers further = record { last = last; room = room; answers = answers; further = further; missing = false }
+
+abbrev pub isNone : List ℕ → Resumed
+isNone last = record { last = last; room = 2; answers = []; further = false; missing = true }
+
+unfoldable pub resumed : List Resumed
+resumed =
+    goesOn entry₀ 0 [] true ∷
+    goesOn entry₀ 1 (entry₁ ∷ []) false ∷
+    goesOn entry₀ 2 (entry₁ ∷ []) false ∷
+    -- the last entry: the list ends, and the entry was there
+    goesOn entry₁ 0 [] false ∷
+    goesOn entry₁ 2 [] false ∷
+    -- one byte changed, the first or the last; a byte too few, a byte too many; nothing
+    isNone (1 ∷ 0 ∷ 1 ∷ 0 ∷ 1 ∷ 0 ∷ []) ∷
+    isNone (1 ∷ 0 ∷ 1 ∷ 0 ∷ 0 ∷ 1 ∷ []) ∷
+    isNone (0 ∷ 0 ∷ 1 ∷ 0 ∷ 1 ∷ []) ∷
+    isNone (0 ∷ 0 ∷ 1 ∷ 0 ∷ 1 ∷ 0 ∷ 0 ∷ []) ∷
+    isNone [] ∷
+    []
+
+-- the skip that the call lends is not read
+unfoldable pub isResumed : SolverKind → Resumed → Bool
+isResumed e x =
+    let l = callOn (board 1 1 3 (cells 3 111)) (M 1 ∷ D 1 ∷ []) false false e 1 (x .room * 6 + 5) in
+    shows (x .answers) (x .further) (x .missing) (l .answers) (outcomeFrom Behind (x .last) l)
 
 -- ---- files
 -- the bytes read, and the bytes printed

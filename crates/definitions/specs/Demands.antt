@@ -7,7 +7,7 @@ use mathlib.Core.Path.{_≡_}
 use mathlib.Core.Logic.{_↔_, _≢_}
 use lib.Dec.{T, ltb, eqb}
 use lib.ListN.{length, take, drop, getD, replicate}
-use Rattle.definitions.specs.Lists.{all, below, howMany, joined, member, ascending, Apart, Ordered}
+use Rattle.lists.specs.Lists.{all, below, howMany, joined, member, ascending, Apart, Ordered}
 use Rattle.definitions.specs.Kinds.{Tray}
 use Rattle.definitions.specs.Placements.{Placement, Compiled, compile}
 use Rattle.definitions.specs.Packing.{Packing, withinCopies}

@@ -9,7 +9,7 @@ use lib.Dec.{ltb}
 use lib.ListN.{length}
 use lib.Seq.{paste}
 use mathlib.Core.Path.{_≡_}
-use Rattle.definitions.specs.Lists.{joined, same}
+use Rattle.lists.specs.Lists.{joined, same}
 use Rattle.definitions.specs.Page.{page}
 use Rattle.definitions.specs.Outcomes.{overStart}
 

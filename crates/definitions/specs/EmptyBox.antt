@@ -7,7 +7,7 @@ use mathlib.Core.Path.{_≡_}
 use mathlib.Core.Logic.{_↔_, _≢_}
 use lib.Dec.{T}
 use lib.ListN.{replicate}
-use Rattle.definitions.specs.Lists.{isEmpty, member}
+use Rattle.lists.specs.Lists.{isEmpty, member}
 use Rattle.definitions.specs.Grid.{Grid, filledCells}
 use Rattle.definitions.specs.Placements.{Placement, compile}
 use Rattle.definitions.specs.Packing.{Packing}

@@ -8,7 +8,7 @@ use mathlib.Core.Logic.{_⊎_, _≢_}
 use mathlib.Core.Path.{_≡_}
 use lib.Dec.{T}
 use lib.ListN.{length}
-use Rattle.definitions.specs.Lists.{all}
+use Rattle.lists.specs.Lists.{all}
 use Rattle.definitions.specs.Grid.{Cell, Grid, setDown, volume, filledCells}
 use Rattle.definitions.specs.Stripping.{ownFrame}
 use Rattle.definitions.specs.Kinds.{Tray}

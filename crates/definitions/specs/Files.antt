@@ -4,7 +4,7 @@ use mathlib.Core.Bool.{Bool, cond, not, _&&_, _||_}
 use mathlib.Core.List.{List, [], _∷_, _++_, map}
 use lib.Dec.{ltb, leb, eqb}
 use lib.ListN.{length, getD, take, drop, replicate}
-use Rattle.definitions.specs.Lists.{all, same, isEmpty, joined, numbered}
+use Rattle.lists.specs.Lists.{all, same, isEmpty, joined, numbered}
 use Rattle.definitions.specs.Texts.{text}
 use Rattle.definitions.specs.Refusals.{Call, trayOf, identifyOf, refusal}
 use Rattle.definitions.specs.Outcomes.{answersOf}

@@ -5,10 +5,10 @@ use mathlib.Core.Bool.{Bool, true, false, not, _&&_}
 use mathlib.Core.List.{List, [], _∷_, _++_}
 use lib.Dec.{eqb}
 use lib.ListN.{length, drop}
-use Rattle.definitions.specs.Lists.{same, joined}
+use Rattle.lists.specs.Lists.{same, joined}
 use Rattle.definitions.specs.Refusals.{Call}
 use Rattle.definitions.specs.Files.{Written, callOn}
-use Rattle.definitions.specs.Outcomes.{outcome}
+use Rattle.definitions.specs.Outcomes.{Outcome, outcome}
 use Rattle.definitions.specs.declared.SolverKind.{SolverKind}
 
 abbrev pub piece : ℕ → ℕ → ℕ → ℕ → List ℕ → Written
@@ -87,12 +87,17 @@ abbrev pub sameTest : Bool → Bool → Bool
 sameTest true b = b
 sameTest false b = not b
 
--- the outcome of an accepted call that lists these answers and no further one: the buffer holds them, and behind them what it held
-unfoldable pub lists : List (List ℕ) → Bool → Call → Bool
-lists answers further l =
-    let o = outcome l in
+-- An outcome of an accepted call that lists these answers: the buffer holds them, and behind them what it held; whether a further one follows, and whether the
+-- entry to begin behind is missing.
+abbrev pub shows : List (List ℕ) → Bool → Bool → List ℕ → Outcome → Bool
+shows answers further missing old o =
     let bytes = joined answers in
-    eqb (o .number) 0 && (eqb (o .written) (length answers) && (sameTest (o .further) further && same (o .answers) (bytes ++ drop (length bytes) (l .answers))))
+    eqb (o .number) 0
+    && (eqb (o .written) (length answers)
+    && (sameTest (o .further) further && (sameTest (o .missing) missing && same (o .answers) (bytes ++ drop (length bytes) old))))
+
+unfoldable pub lists : List (List ℕ) → Bool → Call → Bool
+lists answers further l = shows answers further false (l .answers) (outcome l)
 
 unfoldable pub holds : SolverKind → Line → Bool
 holds e l = lists (l .answers) false (callOn (l .board) (l .pieces) (l .turned) (l .mirrored) e 0 64)

@@ -4,7 +4,7 @@ use mathlib.Core.Bool.{Bool, cond, _&&_}
 use mathlib.Core.List.{List, [], _∷_}
 use lib.Dec.{leb, ltb}
 use lib.ListN.{getD}
-use Rattle.definitions.specs.Lists.{each}
+use Rattle.lists.specs.Lists.{each}
 use Rattle.definitions.specs.Grid.{Sides, Cell, setDown, box, placeOf}
 use Rattle.definitions.specs.Stripping.{Frame, ownFrame}
 use Rattle.definitions.specs.Kinds.{Tray}

@@ -4,7 +4,7 @@ use mathlib.Core.Bool.{Bool, true, false, _&&_}
 use mathlib.Core.List.{List, [], _∷_, map}
 use lib.Dec.{ltb, eqb}
 use lib.ListN.{getD}
-use Rattle.definitions.specs.Lists.{each, below, keep, same, less}
+use Rattle.lists.specs.Lists.{each, below, keep, same, less}
 
 pub record Sides : Type 0 where
   pub a : ℕ

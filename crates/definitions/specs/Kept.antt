@@ -4,7 +4,7 @@ use mathlib.Core.Bool.{Bool, true, false, cond, not, _&&_}
 use mathlib.Core.List.{List, [], _∷_, _++_, map}
 use lib.Dec.{ltb, eqb}
 use lib.ListN.{length, getD}
-use Rattle.definitions.specs.Lists.{all, any, keep, each, below, same, less, sort}
+use Rattle.lists.specs.Lists.{all, any, keep, each, below, same, less, sort}
 use Rattle.definitions.specs.Grid.{Grid, Cell, sameGrid}
 use Rattle.definitions.specs.Maps.{Map, turns, mirrorings, mapGrid, mapCell}
 use Rattle.definitions.specs.Scan.{scanNumber}

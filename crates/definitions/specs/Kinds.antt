@@ -3,7 +3,7 @@ use Prim.Native.Nat.{ℕ}
 use mathlib.Core.Bool.{Bool, _&&_, _||_}
 use mathlib.Core.List.{List, map}
 use lib.Dec.{ltb, eqb}
-use Rattle.definitions.specs.Lists.{each, below, headOr, sort, numbered, before, keep}
+use Rattle.lists.specs.Lists.{each, below, headOr, sort, numbered, before, keep}
 use Rattle.definitions.specs.Grid.{Grid, sameGrid, gridAhead}
 use Rattle.definitions.specs.Maps.{turns, mirror, mapGrid}
 use Rattle.definitions.specs.Stripping.{Frame}

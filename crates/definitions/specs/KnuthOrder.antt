@@ -6,7 +6,7 @@ use mathlib.Core.List.{List, _∷_, List·Memᴰ}
 use mathlib.Core.Path.{_≡_}
 use lib.Dec.{T, ltb, eqb}
 use lib.ListN.{length, getD}
-use Rattle.definitions.specs.Lists.{all, howMany, member}
+use Rattle.lists.specs.Lists.{all, howMany, member}
 use Rattle.definitions.specs.Placements.{Placement, Compiled}
 use Rattle.definitions.specs.Packing.{ahead, covering, used, limits}
 

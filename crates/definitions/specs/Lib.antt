@@ -1,4 +1,3 @@
-pub mod Lists
 pub mod Grid
 pub mod Maps
 pub mod Stripping
@@ -22,6 +21,7 @@ pub mod AnswersRight
 pub mod Woods
 pub mod EmptyLayers
 pub mod Emission
+pub mod Starts
 pub mod Pruning
 pub mod Texts
 pub mod Files

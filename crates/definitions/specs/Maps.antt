@@ -4,7 +4,7 @@ use mathlib.Core.Bool.{Bool, true, false, cond, _&&_}
 use mathlib.Core.List.{List, [], _∷_, _++_, map}
 use lib.Dec.{eqb, leb, ltb}
 use lib.ListN.{getD}
-use Rattle.definitions.specs.Lists.{below, keep}
+use Rattle.lists.specs.Lists.{below, keep}
 use Rattle.definitions.specs.Grid.{Sides, Cell, Grid, gridWith, byteAt}
 
 -- An entry has three axis numbers (x is 0, y is 1, z is 2) and three flips, 0 or 1: the x of where a cell goes is its coordinate axisX, counted from the

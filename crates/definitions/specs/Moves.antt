@@ -4,7 +4,7 @@ use mathlib.Core.Bool.{Bool, true, false, cond, not}
 use mathlib.Core.List.{List, [], _∷_, map, List·Memᴰ}
 use mathlib.Core.Path.{_≡_}
 use lib.Dec.{T, ltb}
-use Rattle.definitions.specs.Lists.{any, isEmpty, sort}
+use Rattle.lists.specs.Lists.{any, isEmpty, sort}
 use Rattle.definitions.specs.Grid.{Grid, Sides, Cell, filledCells, gridWith, sameGrid, sameCell}
 use Rattle.definitions.specs.Placements.{Placement, Compiled}
 use Rattle.definitions.specs.Packing.{Packing}

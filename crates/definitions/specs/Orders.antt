@@ -4,7 +4,7 @@ use mathlib.Core.Bool.{Bool, true, false, cond, not, _&&_}
 use mathlib.Core.List.{List, [], _∷_, _++_, map}
 use lib.Dec.{ltb, eqb}
 use lib.ListN.{length, getD, set, take}
-use Rattle.definitions.specs.Lists.{all, any, howMany, keep, each, below, member, less, put, sort, sum, isEmpty}
+use Rattle.lists.specs.Lists.{all, any, howMany, keep, each, below, member, less, put, sort, sum, isEmpty}
 use Rattle.definitions.specs.Placements.{Placement, Compiled}
 use Rattle.definitions.specs.Packing.{ahead, limits}
 use Rattle.definitions.specs.Kept.{Identify, kept}

@@ -1,10 +1,10 @@
 -- Document 01, "Page" and what follows the table: what a call returns, and every slice lent to it afterwards.
 use Prim.Native.Nat.{ℕ, _*_, _/_}
-use mathlib.Core.Bool.{Bool, false, cond}
+use mathlib.Core.Bool.{Bool, false, true, cond}
 use mathlib.Core.List.{List, _++_, map}
 use lib.Dec.{eqb}
 use lib.ListN.{length, drop, replicate}
-use Rattle.definitions.specs.Lists.{joined}
+use Rattle.lists.specs.Lists.{joined}
 use Rattle.definitions.specs.Grid.{Sides, volume}
 use Rattle.definitions.specs.Kinds.{Tray}
 use Rattle.definitions.specs.Placements.{compile}
@@ -35,18 +35,20 @@ capacity l = length (l .answers) / answerSize (sidesOf (l .board))
 unfoldable pub pageOf : Call → Page
 pageOf l = page (answersOf (trayOf l) (identifyOf (l .config)) (l .config .solver)) (l .skip) (capacity l)
 
--- What a call returns (number 0: it is accepted), and the three slices afterwards.
+-- What a call returns (number 0: it is accepted; missing: no entry of the list equals the one that was lent, to begin behind it), and the three slices
+-- afterwards.
 pub record Outcome : Type 0 where
   pub number : ℕ
   pub written : ℕ
   pub further : Bool
+  pub missing : Bool
   pub answers : List ℕ
   pub work : List ℕ
   pub links : List ℕ
 
 -- "A refusal writes 0 answers, says none follows, and changes no lent slice."
 unfoldable pub refused : ℕ → Call → Outcome
-refused n l = record { number = n; written = 0; further = false; answers = l .answers; work = l .work; links = l .links }
+refused n l = record { number = n; written = 0; further = false; missing = false; answers = l .answers; work = l .work; links = l .links }
 
 -- bytes put over the start of a slice, and its first n numbers made 0; what lies behind keeps its values
 unfoldable pub overStart : List ℕ → List ℕ → List ℕ
@@ -57,15 +59,22 @@ cleared n old = replicate n 0 ++ drop n old
 
 -- "After an accepted call the first 8,192 work words are 0; so are the first 32,768 links for `KnuthAlgorithm`, and Fast does not touch links. What lies
 -- behind these words and links keeps its values. Bytes behind the last whole answer written keep their values."
+abbrev pub workAfter : Call → List ℕ
+workAfter l = cleared 8192 (l .work)
+
+abbrev pub linksAfter : Call → List ℕ
+linksAfter l = cond (isKnuth (l .config .solver)) (cleared 32768 (l .links)) (l .links)
+
 abbrev pub acceptedWith : Page → Call → Outcome
 acceptedWith g l =
     record {
       number = 0;
       written = g .written;
       further = g .further;
+      missing = false;
       answers = overStart (joined (g .entries)) (l .answers);
-      work = cleared 8192 (l .work);
-      links = cond (isKnuth (l .config .solver)) (cleared 32768 (l .links)) (l .links);
+      work = workAfter l;
+      links = linksAfter l;
     }
 
 unfoldable pub accepted : Call → Outcome
@@ -98,5 +107,9 @@ numberOf TooManyLinks = 15
 
 -- what an answer of the code says, with the slices that it leaves
 unfoldable pub outcomeOf : Listing → List ℕ → List ℕ → List ℕ → Outcome
-outcomeOf (listing.Page written further) answers work links = record { number = 0; written = written; further = further; answers = answers; work = work; links = links }
-outcomeOf (listing.Refused why) answers work links = record { number = numberOf why; written = 0; further = false; answers = answers; work = work; links = links }
+outcomeOf (listing.Page written further) answers work links =
+    record { number = 0; written = written; further = further; missing = false; answers = answers; work = work; links = links }
+outcomeOf (listing.Refused why) answers work links =
+    record { number = numberOf why; written = 0; further = false; missing = false; answers = answers; work = work; links = links }
+outcomeOf listing.NoEntry answers work links =
+    record { number = 0; written = 0; further = false; missing = true; answers = answers; work = work; links = links }

@@ -5,7 +5,7 @@ use mathlib.Core.Bool.{Bool, true, false, _&&_}
 use mathlib.Core.List.{List, [], _∷_, map}
 use lib.Dec.{T, leb, eqb}
 use lib.ListN.{length, getD}
-use Rattle.definitions.specs.Lists.{all, any, howMany, below, member, same, less, ascending}
+use Rattle.lists.specs.Lists.{all, any, howMany, below, member, same, less, ascending}
 use Rattle.definitions.specs.Placements.{Placement, Compiled}
 
 -- Placements are ordered by kind, then (p, j). A set of placements is an ascending list.

@@ -3,7 +3,7 @@ use Prim.Native.Nat.{ℕ, _+_, _-_}
 use mathlib.Core.Bool.{Bool, _&&_}
 use mathlib.Core.List.{List, map}
 use lib.Dec.{leb}
-use Rattle.definitions.specs.Lists.{keep, all, any, headOr, numbered, joined}
+use Rattle.lists.specs.Lists.{keep, all, any, headOr, numbered, joined}
 use Rattle.definitions.specs.Grid.{Grid, Cell, sameCell}
 use Rattle.definitions.specs.Stripping.{Frame}
 use Rattle.definitions.specs.Scan.{axes, scan, scanNumber}

@@ -8,7 +8,7 @@ use mathlib.Core.Path.{_≡_}
 use mathlib.Core.Logic.{_↔_}
 use lib.Dec.{T, ltb}
 use lib.ListN.{length, getD}
-use Rattle.definitions.specs.Lists.{all, any, ascending, less, sort}
+use Rattle.lists.specs.Lists.{all, any, ascending, less, sort}
 use Rattle.definitions.specs.Grid.{Cell, Grid, setDown, filledCells, sameCell, sameGrid, gridAhead}
 use Rattle.definitions.specs.Scan.{axes, cellAhead, scanNumber}
 use Rattle.definitions.specs.Kinds.{Piece, Tray, Kind, Copy}

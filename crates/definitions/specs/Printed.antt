@@ -5,7 +5,7 @@ use mathlib.Core.List.{List, _++_, map}
 use mathlib.Core.Path.{_≡_}
 use lib.Dec.{T}
 use lib.ListN.{length, take}
-use Rattle.definitions.specs.Lists.{joined, numbered}
+use Rattle.lists.specs.Lists.{joined, numbered}
 use Rattle.definitions.specs.Kinds.{Tray}
 use Rattle.definitions.specs.Placements.{Placement, compile}
 use Rattle.definitions.specs.Kept.{Identify}

@@ -6,13 +6,13 @@ use mathlib.Core.List.{List, [], _∷_, map}
 use mathlib.Core.Path.{_≡_}
 use lib.Dec.{ltb, eqb}
 use lib.ListN.{length, getD}
-use Rattle.definitions.specs.Lists.{all, any, keep, each, member}
+use Rattle.lists.specs.Lists.{all, any, keep, each, member}
 use Rattle.definitions.specs.Maps.{Map, turns, mirrorings, mapCell}
 use Rattle.definitions.specs.Placements.{Placement, Compiled, compile}
 use Rattle.definitions.specs.Packing.{ahead, limits}
 use Rattle.definitions.specs.Kept.{Identify, kindAfter, image, symmetries, kept}
 use Rattle.definitions.specs.Kept.Identify.{None, Turned, Mirrored}
-use Rattle.definitions.specs.Orders.{State, start, possible, choose, search, fastChoices, kind0First, fastList, knuthChoices, knuthList, listed}
+use Rattle.definitions.specs.Orders.{State, start, possible, choose, search, fastChoices, kind0First, knuthChoices, listed}
 use Rattle.definitions.specs.Refusals.{Call, trayOf, refusal}
 use Rattle.definitions.specs.declared.SolverKind.the-variants.{Fast, KnuthAlgorithm}
 

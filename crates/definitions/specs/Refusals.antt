@@ -5,7 +5,7 @@ use mathlib.Core.Bool.{Bool, true, false, cond, not, _&&_}
 use mathlib.Core.List.{List, [], _∷_, map}
 use lib.Dec.{ltb, leb, eqb}
 use lib.ListN.{length, getD, take, drop}
-use Rattle.definitions.specs.Lists.{any, all, keep, sum}
+use Rattle.lists.specs.Lists.{any, all, keep, sum}
 use Rattle.definitions.specs.Grid.{Sides, Cell, Grid, volume, filledCells}
 use Rattle.definitions.specs.Stripping.{strip, frameOf, ownFrame}
 use Rattle.definitions.specs.Kinds.{Piece, Tray}

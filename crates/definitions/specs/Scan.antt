@@ -3,7 +3,7 @@ use Prim.Native.Nat.{ℕ}
 use mathlib.Core.Bool.{Bool, true, false, _&&_, _||_}
 use mathlib.Core.List.{List, [], _∷_, map}
 use lib.Dec.{ltb, eqb}
-use Rattle.definitions.specs.Lists.{sort, less, before}
+use Rattle.lists.specs.Lists.{sort, less, before}
 use Rattle.definitions.specs.Grid.{Grid, Sides, Cell, sameCell, filledCells}
 use Rattle.definitions.specs.Maps.{side, coordinate}
 

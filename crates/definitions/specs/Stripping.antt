@@ -3,7 +3,7 @@
 use Prim.Native.Nat.{ℕ, suc, _+_, _-_, _≤_, min, max}
 use mathlib.Core.Bool.{cond}
 use mathlib.Core.List.{List, [], _∷_, map}
-use Rattle.definitions.specs.Lists.{isEmpty}
+use Rattle.lists.specs.Lists.{isEmpty}
 use Rattle.definitions.specs.Grid.{Sides, Cell, Grid, setDown, byteAt, gridWith, filledCells}
 use Rattle.definitions.specs.Maps.{coordinate}
 

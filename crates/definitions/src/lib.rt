@@ -45,10 +45,19 @@ pub enum Refusal {
     TooManyLinks,
 }
 
-// What a call hands back beside the slices: how many answers were written and whether a further one follows, or the refusal.
+// Where a page starts: at an entry of the list, by its number, or behind the entry that is lent.
+pub enum Start {
+    Entry(u64),
+    Behind,
+}
+
+// What a call hands back beside the slices: how many answers were written and whether a further one follows; or the refusal; or,
+// of a call for what lies behind an entry, that no entry of the list equals the one that was lent (no refusal: the search has run
+// and found none, and nothing is written).
 pub enum Listing {
     Page(usize, bool),
     Refused(Refusal),
+    NoEntry,
 }
 
 // The number that document 01's table gives a refusal.

@@ -1,30 +1,26 @@
 -- An answer as numbers says what the enum says, and so does an engine as a number. Assumes nothing.
 use Prim.Native.Nat.{ℕ}
-use mathlib.Core.Bool.{Bool, false}
+use mathlib.Core.Bool.{false}
 use mathlib.Core.List.{List}
 use mathlib.Core.Path.{_≡_, sym, ap, _∙_}
 use borrow.Author.Tests.{eq-eqb, ne-eqb}
 use Rattle.definitions.specs.Outcomes.{outcomeOf, numberOf}
 use Rattle.definitions.specs.declared.Refusal.{Refusal}
-use Rattle.definitions.specs.declared.Record.{Record}
-use Rattle.definitions.specs.declared.SolverKind.{SolverKind}
 use Rattle.definitions.specs.declared.SolverKind.the-variants.{Auto, Naive, Fast, KnuthAlgorithm}
 use Rattle.definitions.specs.declared.Listing.{Listing}
 use Rattle.definitions.specs.declared.Listing.the-variants as listing
-use Rattle.solver.specs.Lent.{callWith}
 use Rattle.exports.specs.declared.Answer.{Answer}
-use Rattle.exports.specs.Numbers.{configOf, engineOf, numbersOf, outcomeBy}
+use Rattle.exports.specs.Numbers.{engineOf, numbersOf, outcomeBy}
 
-pub refused-numbers : (r : Listing) (why : Refusal) → r ≡ listing.Refused why → (n : ℕ) → n ≡ numberOf why → _≡_ {A = Answer} (record { number = n; written = 0; further = false }) (numbersOf r)
-refused-numbers r why e n f = (λ i. record { number = f i; written = 0; further = false }) ∙ sym (ap numbersOf e)
-
-pub page-numbers : (r : Listing) (written : ℕ) (further : Bool) → r ≡ listing.Page written further → _≡_ {A = Answer} (record { number = 0; written = written; further = further }) (numbersOf r)
-page-numbers r written further e = sym (ap numbersOf e)
+pub refused-numbers : (r : Listing) (why : Refusal) → r ≡ listing.Refused why → (n : ℕ) → n ≡ numberOf why
+    → _≡_ {A = Answer} (record { number = n; written = 0; further = false; missing = false }) (numbersOf r)
+refused-numbers r why e n f = (λ i. record { number = f i; written = 0; further = false; missing = false }) ∙ sym (ap numbersOf e)
 
 pub outcome-numbers : (r : Listing) (a : Answer) (answers work links : List ℕ) → a ≡ numbersOf r → outcomeBy a answers work links ≡ outcomeOf r answers work links
 unfolding outcomeOf
 outcome-numbers (listing.Page written further) a answers work links e = ap (λ (b : Answer). outcomeBy b answers work links) e
 outcome-numbers (listing.Refused why) a answers work links e = ap (λ (b : Answer). outcomeBy b answers work links) e
+outcome-numbers listing.NoEntry a answers work links e = ap (λ (b : Answer). outcomeBy b answers work links) e
 
 -- the engine that a number stands for, test by test
 pub engine-auto : (n : ℕ) → n ≡ 0 → Auto ≡ engineOf n
@@ -42,10 +38,3 @@ engine-knuth n a b e = simp (ne-eqb n 0 a, ne-eqb n 2 b, eq-eqb n 3 e)
 pub engine-other : (n : ℕ) → (n ≡ 0 → ⊥) → (n ≡ 2 → ⊥) → (n ≡ 3 → ⊥) → Naive ≡ engineOf n
 unfolding engineOf
 engine-other n a b d = simp (ne-eqb n 0 a, ne-eqb n 2 b, ne-eqb n 3 d)
-
--- a call with the engine that a number stands for is the call with the number's configuration
-pub call-config : (ps : List Record) (board : Record) (bytes : List ℕ) (solver : SolverKind) (engine : ℕ) (turned mirrored : Bool) (skip : ℕ) (answers work links : List ℕ) → solver ≡ engineOf engine
-    → callWith ps board bytes (record { «identify_transformed_answers» = turned; «identify_mirrored_answers» = mirrored; solver = solver }) skip answers work links ≡ callWith ps board bytes (configOf engine turned mirrored) skip answers work links
-unfolding configOf
-call-config ps board bytes solver engine turned mirrored skip answers work links e =
-    ap (λ (s : SolverKind). callWith ps board bytes (record { «identify_transformed_answers» = turned; «identify_mirrored_answers» = mirrored; solver = s }) skip answers work links) e

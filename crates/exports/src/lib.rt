@@ -1,27 +1,23 @@
-// The page calls for C and Rust, with what they answer as numbers (docs/INTERFACE.md).
+// The page call for C and Rust, with what it answers as numbers (docs/INTERFACE.md). Nothing is assumed of what is lent; promised is document 01's outcome.
 ghost use mathlib.Core.Path.{_≡_};
-ghost use Rattle.exports.specs.Numbers.{AnswersInNumbers, configOf, engineOf, numbersOf, outcomeBy};
-ghost use Rattle.definitions.specs.Outcomes.{outcome};
-ghost use Rattle.definitions.specs.declared.SolverKind.the-variants.{Fast, KnuthAlgorithm};
-ghost use Rattle.kept.specs.Calls.{callOf, outcomeBehind};
-ghost use Rattle.placements.specs.Tables.{recordsOf};
+ghost use Rattle.definitions.specs.Starts.{Meets, outcomeFrom};
 ghost use Rattle.solver.specs.Lent.{callWith};
+ghost use Rattle.exports.specs.Numbers.{configOf, engineOf, numbersOf, outcomeBy, startOf};
 use definitions::Config;
 use definitions::Listing;
 use definitions::Record;
 use definitions::SolverKind;
-use fast::page as fast_page;
-use knuth::page as knuth_page;
-use placements::Table;
+use definitions::Start;
 use solver::records;
-use solver::tables;
 
-// What a call answers: the refusal's number in document 01's table, 0 where it is accepted; how many answers were written; whether a further one follows.
+// What a call answers: the refusal's number in document 01's table, 0 where it is accepted; how many answers were written; whether a further one follows;
+// and whether no entry of the list equals the one that was lent, to begin behind it.
 #[repr(C)]
 pub struct Answer {
     pub number: u32,
     pub written: usize,
     pub further: bool,
+    pub missing: bool,
 }
 
 fn in_numbers(r: Listing) -> Answer
@@ -32,56 +28,21 @@ fn in_numbers(r: Listing) -> Answer
             number: definitions::refusal_number(why) as u32,
             written: 0,
             further: false,
+            missing: false,
         },
         Listing::Page(written, further) => Answer {
             number: 0,
             written,
             further,
+            missing: false,
+        },
+        Listing::NoEntry => Answer {
+            number: 0,
+            written: 0,
+            further: false,
+            missing: true,
         },
     }
-}
-
-#[no_mangle]
-pub extern "C" fn ferghuul_fast_page(
-    t: Table,
-    board: Record,
-    bytes: &[u8],
-    turned: bool,
-    mirrored: bool,
-    skip: u64,
-    answers: &mut [u8],
-    work: &mut [u64],
-) -> Answer
-    ensures { λ r. ⌜ AnswersInNumbers (callOf Fast t board (now (bytes .entry)) turned mirrored skip (now (answers .entry)) (now (work .entry))) r (now (answers .exit)) (now (work .exit)) ⌝ }
-{
-    in_numbers(fast_page::page(t, board, bytes, turned, mirrored, skip, answers, work))
-}
-
-#[no_mangle]
-pub extern "C" fn ferghuul_knuth_page(
-    t: Table,
-    board: Record,
-    bytes: &[u8],
-    turned: bool,
-    mirrored: bool,
-    skip: u64,
-    answers: &mut [u8],
-    work: &mut [u64],
-    links: &mut [u16],
-) -> Answer
-    ensures { λ r. ⌜ outcomeBy r (now (answers .exit)) (now (work .exit)) (now (links .exit)) ≡ outcome (callOf KnuthAlgorithm t board (now (bytes .entry)) turned mirrored skip (now (answers .entry)) (now (work .entry)) (now (links .entry))) ⌝ }
-{
-    in_numbers(knuth_page::page(
-        t,
-        board,
-        bytes,
-        turned,
-        mirrored,
-        skip,
-        answers,
-        work,
-        links,
-    ))
 }
 
 // The engine that a number stands for: 2 Fast, 3 KnuthAlgorithm; the others are refused.
@@ -99,29 +60,28 @@ fn engine_of(engine: u8) -> SolverKind
     }
 }
 
-// The entry point over a table of records, in numbers.
-fn page_in_numbers(
-    t: Table,
-    board: Record,
-    bytes: &[u8],
-    engine: u8,
-    turned: bool,
-    mirrored: bool,
-    skip: u64,
-    answers: &mut [u8],
-    work: &mut [u64],
-    links: &mut [u16],
-) -> Answer
-    ensures { λ r. ⌜ outcomeBy r (now (answers .exit)) (now (work .exit)) (now (links .exit)) ≡ outcome (callWith (recordsOf t) board (now (bytes .entry)) (configOf engine turned mirrored) skip (now (answers .entry)) (now (work .entry)) (now (links .entry))) ⌝ }
+fn config_of(engine: u8, turned: bool, mirrored: bool) -> Config
+    ensures { λ r. ⌜ r ≡ configOf engine turned mirrored ⌝ }
 {
-    let config = Config {
+    Config {
         identify_transformed_answers: turned,
         identify_mirrored_answers: mirrored,
         solver: engine_of(engine),
-    };
-    in_numbers(tables::page(t, board, bytes, config, skip, answers, work, links))
+    }
 }
 
+// Where a page starts: behind the entry that is lent, or at entry `skip`.
+fn start_of(behind: bool, skip: u64) -> Start
+    ensures { λ r. ⌜ r ≡ startOf behind skip ⌝ }
+{
+    if behind {
+        Start::Behind
+    } else {
+        Start::Entry(skip)
+    }
+}
+
+// A call, whatever is lent: `solver::records::page` in numbers.
 #[no_mangle]
 pub extern "C" fn ferghuul_page(
     pieces: &[Record],
@@ -130,76 +90,33 @@ pub extern "C" fn ferghuul_page(
     engine: u8,
     turned: bool,
     mirrored: bool,
+    behind: bool,
     skip: u64,
-    answers: &mut [u8],
-    work: &mut [u64],
-    links: &mut [u16],
-) -> Answer
-    ensures { λ r. ⌜ outcomeBy r (now (answers .exit)) (now (work .exit)) (now (links .exit)) ≡ outcome (callWith (now (pieces .entry)) board (now (bytes .entry)) (configOf engine turned mirrored) skip (now (answers .entry)) (now (work .entry)) (now (links .entry))) ⌝ }
-{
-    page_in_numbers(
-        records::taken(pieces),
-        board,
-        bytes,
-        engine,
-        turned,
-        mirrored,
-        skip,
-        answers,
-        work,
-        links,
-    )
-}
-
-// The same for what lies behind an entry.
-fn behind_in_numbers(
-    t: Table,
-    board: Record,
-    bytes: &[u8],
-    engine: u8,
-    turned: bool,
-    mirrored: bool,
     last: &[u8],
     answers: &mut [u8],
     work: &mut [u64],
     links: &mut [u16],
 ) -> Answer
-    ensures { λ r. ⌜ outcomeBy r (now (answers .exit)) (now (work .exit)) (now (links .exit)) ≡ outcomeBehind (now (last .entry)) (callWith (recordsOf t) board (now (bytes .entry)) (configOf engine turned mirrored) 0 (now (answers .entry)) (now (work .entry)) (now (links .entry))) ⌝ }
+    ensures outcome { λ r. do
+      let config = configOf engine turned mirrored
+      let call = callWith (now (pieces .entry)) board (now (bytes .entry)) config (now (answers .entry)) (now (work .entry)) (now (links .entry))
+      ⌜ outcomeBy r (now (answers .exit)) (now (work .exit)) (now (links .exit)) ≡ outcomeFrom (startOf behind skip) (now (last .entry)) call ⌝ }
+    ensures meets { λ r. do
+      let config = configOf engine turned mirrored
+      let call = callWith (now (pieces .entry)) board (now (bytes .entry)) config (now (answers .entry)) (now (work .entry)) (now (links .entry))
+      ⌜ Meets (startOf behind skip) (now (last .entry)) call (outcomeBy r (now (answers .exit)) (now (work .exit)) (now (links .exit))) ⌝ }
 {
-    let config = Config {
-        identify_transformed_answers: turned,
-        identify_mirrored_answers: mirrored,
-        solver: engine_of(engine),
-    };
-    in_numbers(tables::page_behind(t, board, bytes, config, last, answers, work, links))
-}
-
-// A call for what lies behind the entry `last` of the engine's list, over a slice of records.
-#[no_mangle]
-pub extern "C" fn ferghuul_page_behind(
-    pieces: &[Record],
-    board: Record,
-    bytes: &[u8],
-    engine: u8,
-    turned: bool,
-    mirrored: bool,
-    last: &[u8],
-    answers: &mut [u8],
-    work: &mut [u64],
-    links: &mut [u16],
-) -> Answer
-    ensures { λ r. ⌜ outcomeBy r (now (answers .exit)) (now (work .exit)) (now (links .exit)) ≡ outcomeBehind (now (last .entry)) (callWith (now (pieces .entry)) board (now (bytes .entry)) (configOf engine turned mirrored) 0 (now (answers .entry)) (now (work .entry)) (now (links .entry))) ⌝ }
-{
-    behind_in_numbers(
-        records::taken(pieces),
+    let config = config_of(engine, turned, mirrored);
+    let start = start_of(behind, skip);
+    in_numbers(records::page(
+        pieces,
         board,
         bytes,
-        engine,
-        turned,
-        mirrored,
+        config,
+        start,
         last,
         answers,
         work,
         links,
-    )
+    ))
 }

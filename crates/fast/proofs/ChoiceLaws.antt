@@ -2,19 +2,19 @@
 -- the choices are met row by row along the chain of the first uncovered cell. Assumes nothing.
 use Prim.Native.Nat.{ℕ, zero, suc, _+_, _≤_, _<_}
 use mathlib.Core.Bool.{Bool, true, false, cond, not, _&&_, _||_}
-use mathlib.Core.List.{List, [], _∷_, _++_, map, List·Memᴰ, List·Memᴰ·eq-of-singleton, Memᴰ·cast}
+use mathlib.Core.List.{List, [], _∷_, _++_, map, List·Memᴰ, List·Memᴰ·eq-of-singleton, Memᴰ·cast, map-append}
 use mathlib.Core.Path.{_≡_, refl, sym, ap, _∙_, subst}
 use native.Mathlib.Omega.{arith}
 use lib.Dec.{T, eqb, eqb→eq}
 use lib.ListN.{length, getD, take, drop, length-drop, drop-of-length-le}
 use lib.Seq.{drop-drop, getD-drop, drop-cons}
-use Rattle.definitions.specs.Lists.{consIf, keep, any, before, each, member, isEmpty}
+use Rattle.lists.specs.Lists.{consIf, keep, any, before, each, member, isEmpty}
+use Rattle.lists.proofs.TestLaws.{not-not, and-left, is-true, is-false, eqb-of}
+use Rattle.lists.proofs.ListLaws.{before-at, any-at, keep-at, keep-append, keep-shorter, each-same-in, take-in}
+use Rattle.lists.proofs.RangeLaws.{member-of}
 use Rattle.definitions.specs.Placements.{Placement}
 use Rattle.definitions.specs.Kept.{Identify}
 use Rattle.definitions.specs.Orders.{State, possible, choose, search, fastChoices}
-use Rattle.definitions.proofs.ListLaws.{and-left, any-at, is-true, is-false, eqb-of, keep-at, keep-append, keep-shorter, member-of}
-use Rattle.definitions.proofs.OrderLaws.{each-same-in}
-use Rattle.definitions.proofs.DemandLaws.{take-in}
 use Rattle.rows.specs.Systems.{System}
 use Rattle.rows.specs.Answering.{answerBy}
 use Rattle.rows.specs.Chains.{nextAt}
@@ -24,14 +24,6 @@ use Rattle.kept.specs.Entries.{numbersOf, entries}
 use Rattle.fast.specs.Searching.{fastBelow}
 
 -- ---- lists
-pub map-append : {A B : Type 0} (f : A → B) (xs ys : List A) → map f (xs ++ ys) ≡ map f xs ++ map f ys
-map-append f [] ys = refl
-map-append {B = B} f (x ∷ xs) ys = ap (λ (l : List B). f x ∷ l) (map-append f xs ys)
-
-pub not-not : (b : Bool) → T b → T (not (not b))
-not-not true t = tt
-not-not false t = t
-
 some-length : (xs : List ℕ) → isEmpty xs ≡ false → 0 < length xs
 some-length [] e = absurd (subst T e tt)
 some-length (x ∷ xs) e = omega arith
@@ -40,18 +32,8 @@ empty-same : {B : Type 0} (xs : List ℕ) (a b c : B) → length xs ≤ 0 → co
 empty-same [] a b c h = refl
 empty-same (x ∷ xs) a b c h = absurd (omega arith)
 
--- the entry at `before` passes
-before-at : {A : Type 0} (p : A → Bool) (d : A) (xs : List A) → before p xs < length xs → T (p (getD xs (before p xs) d))
-before-at p d [] h = absurd (omega arith)
-before-at {A} p d (x ∷ xs) h = go (p x) refl h (λ (k : before p xs < length xs). before-at p d xs k)
-  where
-    go : (b : Bool) → p x ≡ b → cond b 0 (suc (before p xs)) < suc (length xs) → (before p xs < length xs → T (p (getD xs (before p xs) d)))
-        → T (p (getD (x ∷ xs) (cond b 0 (suc (before p xs))) d))
-    go true e k f = subst T (sym e) tt
-    go false e k f = f (omega arith)
-
 -- ---- the entries of joined lists
-entries-append : (s : System) (i : Identify) (L M : List (List Placement)) → entries s i (L ++ M) ≡ entries s i L ++ entries s i M
+pub entries-append : (s : System) (i : Identify) (L M : List (List Placement)) → entries s i (L ++ M) ≡ entries s i L ++ entries s i M
 unfolding entries
 entries-append s i L M =
     ap (λ (K : List (List Placement)). map (answerBy s) K) (keep-append (λ P. normal s i (numbersOf s P)) L M)

@@ -1,57 +1,46 @@
 -- The list that Fast walks through is document 01's: rows in the table's order are the placements in order, so a row's number tells which is ahead. Assumes nothing.
-use Prim.Native.Nat.{ℕ, suc, _+_, _*_, _<_}
+use Prim.Native.Nat.{ℕ, suc, _+_, _<_}
 use mathlib.Core.Bool.{Bool, true, false, cond, not, _&&_, _||_}
-use mathlib.Core.List.{List, [], _∷_, map, List·Memᴰ, List·Memᴰ·head, List·Memᴰ·tail, List·Memᴰ·not-nil, List·Memᴰ·cases-cons, Memᴰ·map}
+use mathlib.Core.List.{List, [], _∷_, map, List·Memᴰ}
 use mathlib.Core.Path.{_≡_, refl, sym, ap, ap₂, _∙_, subst}
 use mathlib.Core.Logic.{_⊎_, inl, inr}
-use native.Mathlib.Nat.{add-mul, zero-mul}
 use native.Mathlib.Omega.{arith}
 use lib.Dec.{T, ltb, eqb, eqb→eq, ltb→lt, lt→ltb}
-use lib.ListN.{length, getD, take, length-map}
-use Rattle.definitions.specs.Lists.{consIf, all, any, keep, each, below, from, before, numberedFrom, same, less, sort, ascending, sum}
-use Rattle.definitions.specs.Grid.{Grid}
-use Rattle.definitions.specs.Maps.{Map, mapCell, identity, turns, mirrorings}
-use Rattle.definitions.specs.Kinds.{Tray, Piece, Form, sameForm, formAhead, Sorted, sortPiece, Kind, smallest, sorted, forms, copiesOf, kindNamed, kindsOf}
+use lib.ListN.{length, getD, length-map}
+use Rattle.lists.specs.Lists.{consIf, all, any, keep, each, below, from, before, same, less, sort, ascending}
+use Rattle.lists.proofs.TestLaws.{or-no, and-left, and-right, and-both, eqb-of, holds, or-cases, tests-same}
+use Rattle.lists.proofs.ListLaws.{any-at, any-of, keep-at, keep-of, keep-same, each-at, map-same, each-map, any-same, any-map, before-at, before-most, getD-mem, mem-getD}
+use Rattle.lists.proofs.SortLaws.{ahead-number, getD-ahead}
+use Rattle.lists.proofs.RangeLaws.{below-at, map-below}
+use Rattle.lists.proofs.NthLaws.{Nth, nth-getD}
+use Rattle.definitions.specs.Maps.{Map, mapCell, turns, mirrorings}
+use Rattle.definitions.specs.Kinds.{Kind}
 use Rattle.definitions.specs.Placements.{Placement, Compiled, compile}
 use Rattle.definitions.specs.Packing.{rank, ahead, limits, Packing}
 use Rattle.definitions.specs.Kept.{Identify, cellAfter, moved, image, symmetries, kept}
 use Rattle.definitions.specs.Kept.Identify.{None, Turned, Mirrored}
-use Rattle.definitions.specs.Orders.{State, start, choose, search, fastChoices, identifiesTurned, sizes, allCells, kind0First, fastList, packings, listed}
+use Rattle.definitions.specs.Orders.{State, start, choose, search, fastChoices, identifiesTurned, allCells, kind0First, fastList, packings, listed}
 use Rattle.definitions.specs.Pruning.{movedAhead, alwaysMirrorable, isPruned, fastPruned}
 use Rattle.definitions.specs.Answers.{answer}
+use Rattle.definitions.specs.Outcomes.{answersOf}
 use Rattle.definitions.specs.Refusals.{Call, trayOf, refusal}
 use Rattle.definitions.specs.declared.SolverKind.the-variants.{Fast}
-use Rattle.definitions.proofs.ListLaws.{not-again, sort-ascending, and-left, and-right, and-both, any-at, any-of, keep-at, keep-of, keep-same, each-at, below-at, is-true, is-false, eqb-of, holds, or-cases}
 use Rattle.definitions.proofs.PackingLaws.{ahead-trans, ahead-irrefl}
-use Rattle.definitions.proofs.GroupLaws.{map-same, identity-turn, identity-grid}
-use Rattle.definitions.proofs.MapLaws.{map-map-of, turn-fits, filled-length}
-use Rattle.definitions.proofs.CountLaws.{total, total-same, total-add, total-zero, sum-map}
-use Rattle.definitions.proofs.ShapeLaws.{bits, sum-filled, smallest-at, sort-of}
-use Rattle.definitions.proofs.PartnerLaws.{sameForm→eq, sameForm-of, form-trans, form-irrefl, forms-tied}
-use Rattle.definitions.proofs.WellMadeLaws.{Nth, nth-getD, getD-nth}
 use Rattle.definitions.proofs.SearchLaws.{from-start-sound}
 use Rattle.definitions.proofs.EngineLaws.{fast-fair, fastSearch, firsts, has-first}
 use Rattle.definitions.proofs.PruningLaws.{fast-unchanged}
-use Rattle.definitions.proofs.GeometryLaws.{W, piece-whole}
-use Rattle.placements.proofs.FittingLaws.{both-ways}
-use Rattle.masks.specs.Masks.{has, nothing}
-use Rattle.masks.specs.declared.Mask.{Mask}
+use Rattle.definitions.proofs.GeometryLaws.{W}
 use Rattle.rows.specs.Systems.{System, cellImages, systemOf, kindBy, cellsBy, movedBy, rowWith}
 use Rattle.kept.specs.Normal.{noRow, rowOf, imageOf}
-use Rattle.kept.specs.Entries.{entries}
-use Rattle.fast.specs.Searching.{uncovered, stateBy, fastBelow}
-use Rattle.fast.specs.Pruned.{movedBefore, alwaysMirrorableBy, prunedBy, firstRows, fastFirst, cellsOfAll}
-use Rattle.rows.proofs.PairLaws.{map-below}
-use Rattle.rows.proofs.AnswerLaws.{each-of-map}
+use Rattle.kept.specs.Entries.{entries, startBy}
+use Rattle.fast.specs.Searching.{fastBelow}
+use Rattle.fast.specs.Pruned.{movedBefore, alwaysMirrorableBy, prunedBy, firstRows, fastFirst}
+use Rattle.fast.specs.Listing.{firstBy, fastAnswers}
 use Rattle.rows.proofs.SystemMapLaws.{takes-to, kind-is}
-use Rattle.rows.proofs.SystemLaws.{copies-more}
-use Rattle.kept.proofs.EntryLaws.{getD-mem, number-of, before-most, before-passes, number-ahead, ahead-number, entries-same}
+use Rattle.kept.proofs.EntryLaws.{entries-same}
+use Rattle.fast.proofs.ListingLaws.{first-same}
 
 -- ---- lists
-keep-all : {A : Type 0} (xs : List A) → keep (λ x. true) xs ≡ xs
-keep-all [] = refl
-keep-all {A} (x ∷ xs) = ap (λ (l : List A). x ∷ l) (keep-all xs)
-
 map-keep : {A B : Type 0} (f : A → B) (p : B → Bool) (xs : List A) → map f (keep (λ x. p (f x)) xs) ≡ keep p (map f xs)
 map-keep f p [] = refl
 map-keep {B = B} f p (x ∷ xs) = go (p (f x)) (map-keep f p xs)
@@ -60,23 +49,11 @@ map-keep {B = B} f p (x ∷ xs) = go (p (f x)) (map-keep f p xs)
     go true e = ap (λ (l : List B). f x ∷ l) e
     go false e = e
 
-any-of-map : {A B : Type 0} (f : A → B) (p : B → Bool) (xs : List A) → any p (map f xs) ≡ any (λ x. p (f x)) xs
-any-of-map f p [] = refl
-any-of-map f p (x ∷ xs) = ap (λ (b : Bool). p (f x) || b) (any-of-map f p xs)
-
-any-same : {A : Type 0} (p q : A → Bool) (xs : List A) → ((x : A) → List·Memᴰ x xs → p x ≡ q x) → any p xs ≡ any q xs
-any-same p q [] h = refl
-any-same p q (x ∷ xs) h = ap₂ (λ (a b : Bool). a || b) (h x (List·Memᴰ·head refl)) (any-same p q xs (λ z m. h z (List·Memᴰ·tail m)))
-
 all-numbers : {A : Type 0} (p : ℕ → Bool) (q : A → Bool) (i : ℕ) (xs : List A) → ((n : ℕ) (x : A) → Nth xs n x → p (n + i) ≡ q x) → all p (from i (length xs)) ≡ all q xs
 all-numbers p q i [] h = refl
 all-numbers p q i (x ∷ xs) h =
     ap₂ (λ (a b : Bool). a && b) (ap p {x = i} {y = 0 + i} (omega arith) ∙ h 0 x refl)
     (all-numbers p q (suc i) xs (λ n z m. ap p {x = n + suc i} {y = suc n + i} (omega arith) ∙ h (suc n) z m))
-
-or-false : (b : Bool) → (b || false) ≡ b
-or-false true = refl
-or-false false = refl
 
 -- ---- what is ahead of a placement of kind 0 is of kind 0
 ahead-zero : (x q : Placement) → q .kind ≡ 0 → T (ahead x q) → x .kind ≡ 0
@@ -90,7 +67,7 @@ ahead-zero x q z t = go (or-cases (ltb (x .kind) (q .kind)) (eqb (x .kind) (q .k
 -- so the first row that passes has a smaller number where one that passes is ahead
 module _ (xs : List Placement) (up : T (ascending ahead xs)) (r : ℕ) (h : r < length xs) (z : getD xs r noRow .kind ≡ 0) (test : Placement → Bool) where
   first-smaller : ltb (before test xs) r ≡ any (λ x. eqb (x .kind) (getD xs r noRow .kind) && ahead x (getD xs r noRow)) (keep test xs)
-  first-smaller = both-ways (ltb (before test xs) r) (any is-ahead (keep test xs)) there back
+  first-smaller = tests-same (ltb (before test xs) r) (any is-ahead (keep test xs)) there back
     where
       q : Placement
       q = getD xs r noRow
@@ -103,105 +80,19 @@ module _ (xs : List Placement) (up : T (ascending ahead xs)) (r : ℕ) (h : r < 
           let k = ltb→lt (before test xs) r t in
           let n = before test xs in
           let x = getD xs n noRow in
-          let a = number-ahead ahead ahead-trans ahead-irrefl xs noRow up n r k h in
-          any-of is-ahead (keep test xs) (keep-of test xs (getD-mem xs n noRow (omega arith)) (before-passes test xs noRow (omega arith)))
+          let a = getD-ahead noRow ahead xs up n r k h in
+          any-of is-ahead (keep test xs) (keep-of test xs (getD-mem noRow xs n (omega arith)) (before-at test noRow xs (omega arith)))
           (and-both (eqb (x .kind) (q .kind)) (ahead x q) (eqb-of (ahead-zero x q z a ∙ sym z)) a)
 
       back : T (any is-ahead (keep test xs)) → T (ltb (before test xs) r)
       back t =
           let x = any-at is-ahead (keep test xs) t in
           let k = keep-at test xs (x .1) in
-          let n = number-of xs noRow (k .0) in
+          let n = mem-getD noRow xs (k .0) in
           let a = and-right (eqb (x .0 .kind) (q .kind)) (ahead (x .0) q) (x .2) in
-          let b = before-most test xs (n .0) noRow (n .1) (subst (λ (y : Placement). T (test y)) (sym (n .2)) (k .1)) in
+          let b = before-most test noRow xs (n .0) (n .1) (subst (λ (y : Placement). T (test y)) (sym (n .2)) (k .1)) in
           let c = ahead-number ahead ahead-trans ahead-irrefl xs noRow up (n .0) r (n .1) h (subst (λ (y : Placement). T (ahead y q)) (sym (n .2)) a) in
           lt→ltb (before test xs) r (omega arith)
-
--- ---- cells of all copies
-abbrev size : Grid → ℕ
-size g = sum (g .cells)
-
-abbrev formSize : Form → ℕ
-formSize f = size (f .grid)
-
--- of forms that ascend one is a given one of them
-form-once : (s : Form) (n : ℕ) (hs : List Form) → T (ascending formAhead hs) → List·Memᴰ s hs → total (λ g. cond (sameForm s g) n 0 * formSize g) hs ≡ n * formSize s
-form-once s n [] t m = absurd (List·Memᴰ·not-nil m)
-form-once s n (g ∷ hs) t m = go (List·Memᴰ·cases-cons m) (λ (k : List·Memᴰ s hs). form-once s n hs (and-right (all (formAhead g) hs) (ascending formAhead hs) t) k)
-  where
-    other : (h : Form) → (s ≡ h → ⊥) → cond (sameForm s h) n 0 * formSize h ≡ 0
-    other h d = ap {B = ℕ} (λ (b : Bool). cond b n 0 * formSize h) (is-false (sameForm s h) (λ b. d (sameForm→eq s h b))) ∙ zero-mul (formSize h)
-
-    go : (s ≡ g) ⊎ List·Memᴰ s hs → (List·Memᴰ s hs → total (λ h. cond (sameForm s h) n 0 * formSize h) hs ≡ n * formSize s)
-        → cond (sameForm s g) n 0 * formSize g + total (λ h. cond (sameForm s h) n 0 * formSize h) hs ≡ n * formSize s
-    go (inl e) f =
-        let a : cond (sameForm s g) n 0 * formSize g ≡ n * formSize g = ap {B = ℕ} (λ (b : Bool). cond b n 0 * formSize g) (is-true (sameForm s g) (sameForm-of e)) in
-        let b : n * formSize g ≡ n * formSize s = ap (λ (h : Form). n * formSize h) (sym e) in
-        let c : total (λ h. cond (sameForm s h) n 0 * formSize h) hs ≡ 0 =
-        total-same (λ h. cond (sameForm s h) n 0 * formSize h) (λ h. 0) hs (λ h k. other h (λ i. not-again formAhead form-trans form-irrefl g hs t k (sym i ∙ e))) ∙ total-zero hs in
-        omega arith
-    go (inr k) f =
-        let a = other g (λ e. not-again formAhead form-trans form-irrefl g hs t k e) in
-        let b = f k in
-        omega arith
-
-by-forms : (hs : List Form) → T (ascending formAhead hs) → (qs : List Sorted) → ((q : Sorted) → List·Memᴰ q qs → List·Memᴰ (q .form) hs)
-    → total (λ g. length (copiesOf qs g) * formSize g) hs ≡ total (λ q. q .count * formSize (q .form)) qs
-by-forms hs t [] h = unfold copiesOf in total-same (λ g. 0 * formSize g) (λ g. 0) hs (λ g m. zero-mul (formSize g)) ∙ total-zero hs
-by-forms hs t (q ∷ qs) h =
-    total-same (λ g. length (copiesOf (q ∷ qs) g) * formSize g) (λ g. cond (sameForm (q .form) g) (q .count) 0 * formSize g + length (copiesOf qs g) * formSize g) hs
-    (λ g m. ap (λ (n : ℕ). n * formSize g) (copies-more q qs g) ∙ add-mul (cond (sameForm (q .form) g) (q .count) 0) (length (copiesOf qs g)) (formSize g))
-    ∙ total-add (λ g. cond (sameForm (q .form) g) (q .count) 0 * formSize g) (λ g. length (copiesOf qs g) * formSize g) hs
-    ∙ ap₂ (λ (a b : ℕ). a + b) (form-once (q .form) (q .count) hs t (h q (List·Memᴰ·head refl))) (by-forms hs t qs (λ z m. h z (List·Memᴰ·tail m)))
-
-by-pieces : (i : ℕ) (ps : List Piece) → ((q : Piece) → List·Memᴰ q ps → size (smallest (q .grid)) ≡ size (q .grid))
-    → total (λ (q : Sorted). q .count * formSize (q .form)) (numberedFrom {B = Sorted} i ps sortPiece)
-    ≡ sum (map (λ q. q .count * size (q .grid)) ps)
-by-pieces i [] h = refl
-by-pieces i (p ∷ ps) h = ap₂ (λ (a b : ℕ). p .count * a + b) (h p (List·Memᴰ·head refl)) (by-pieces (suc i) ps (λ z m. h z (List·Memᴰ·tail m)))
-
--- by kinds and by forms
-by-kinds : (t : Tray) → allCells (compile t) ≡ total (λ g. length (copiesOf (sorted t) g) * formSize g) (forms (sorted t))
-unfolding allCells compile limits sizes kindsOf
-by-kinds t =
-    ap sum (map-below (λ k. getD (limits c) k 0 * getD (sizes c) k 0) (length ks) 0 (map cells ks) (length-map ks cells) each-kind)
-    ∙ ap sum (map-map-of cells made (forms (sorted t))) ∙ sum-map (λ g. length (copiesOf (sorted t) g) * formSize g) (forms (sorted t))
-  where
-    c : Compiled
-    c = compile t
-
-    ks : List Kind
-    ks = kindsOf t
-
-    made : Form → Kind
-    made = kindNamed (sorted t) (forms (sorted t))
-
-    cells : Kind → ℕ
-    cells d = length (d .copies) * size (d .shape)
-
-    each-kind : (k : ℕ) → k < length ks → getD (limits c) k 0 * getD (sizes c) k 0 ≡ getD (map cells ks) k 0
-    each-kind k h =
-        let r = getD-nth ks k h in
-        ap₂ (λ (a b : ℕ). a * b) (nth-getD (λ (d : Kind). length (d .copies)) 0 ks k (r .1)) (nth-getD (λ (d : Kind). size (d .shape)) 0 ks k (r .1))
-        ∙ sym (nth-getD cells 0 ks k (r .1))
-
-pub all-cells-same : (l : Call) → refusal l ≡ 0 → allCells (compile (trayOf l)) ≡ cellsOfAll (trayOf l)
-unfolding cellsOfAll forms sorted
-all-cells-same l ok =
-    by-kinds (trayOf l)
-    ∙ by-forms (forms qs) (sort-ascending formAhead form-trans (map (λ q. q .form) qs)) qs
-    (λ q m. sort-of formAhead forms-tied (map (λ (x : Sorted). x .form) qs) (Memᴰ·map (λ (x : Sorted). x .form) m))
-    ∙ by-pieces 0 (trayOf l .pieces) turned
-  where
-    qs : List Sorted
-    qs = sorted (trayOf l)
-
-    turned : (q : Piece) → List·Memᴰ q (trayOf l .pieces) → size (smallest (q .grid)) ≡ size (q .grid)
-    turned q m =
-        let g = q .grid in
-        let r = smallest-at g in
-        ap size (sym (r .2)) ∙ sum-filled (r .0) g (bits l ok q m) ∙ filled-length (r .0) (turn-fits (r .0) (r .1)) g
-        ∙ sym (filled-length identity (turn-fits identity identity-turn) g) ∙ sym (sum-filled identity g (bits l ok q m)) ∙ ap size (identity-grid g (piece-whole l ok q m))
 
 module _ (l : Call) (ok : refusal l ≡ 0) where
   abbrev C : Compiled
@@ -214,15 +105,12 @@ module _ (l : Call) (ok : refusal l ≡ 0) where
   rows = compile (trayOf l) .placements
 
   -- ---- the start
-  pub start-same : (left : List ℕ) → take (length (S .copies)) left ≡ S .copies → (covered : Mask) → has covered ≡ nothing → stateBy S left covered [] ≡ start C
-  unfolding stateBy uncovered start systemOf nothing
-  start-same left e covered h = (λ i. record { left = e i; free = free i; chosen = [] })
-    where
-      free : keep (λ n. not (has covered n)) (below (length (C .cells))) ≡ below (length (C .cells))
-      free = ap (λ (f : ℕ → Bool). keep (λ n. not (f n)) (below (length (C .cells)))) h ∙ keep-all (below (length (C .cells)))
+  start-same : startBy S ≡ start C
+  unfolding startBy start systemOf
+  start-same = refl
 
   -- ---- Fast's list
-  pub fast-plain : (i : Identify) → kind0First C i ≡ false → fastBelow S i (start C) ≡ map (answer C) (listed C i Fast)
+  fast-plain : (i : Identify) → kind0First C i ≡ false → fastBelow S i (start C) ≡ map (answer C) (listed C i Fast)
   unfolding fastBelow systemOf listed packings fastList
   fast-plain i e =
       entries-same l ok i plain (from-start-sound C (W l ok) (fastChoices rows) (fast-fair C (W l ok)))
@@ -247,7 +135,7 @@ module _ (l : Call) (ok : refusal l ≡ 0) where
     moved-is odd m =
         ap₂ (λ (k : ℕ) (ns : List ℕ). k ∷ ns) (kind-is l ok odd (row r .kind))
         (ap (sort ltb) (map-same (λ n. getD (cellImages C m) n 0) (cellAfter C (mapCell m (C .board .sides))) (row r .cells)
-        (λ n a. takes-to l ok m n (W l ok .onBoard (row r) (getD-mem rows r noRow h) n a))))
+        (λ n a. takes-to l ok m n (W l ok .onBoard (row r) (getD-mem noRow rows r h) n a))))
 
     module _ (z : row r .kind ≡ 0) where
       moved-first : (odd : Bool) (m : Map) → ltb (imageOf S odd (cellImages C m) r) r ≡ any (λ x. eqb (x .kind) (row r .kind) && ahead x (row r)) (image C odd (mapCell m (C .board .sides)) (row r ∷ []))
@@ -256,7 +144,7 @@ module _ (l : Call) (ok : refusal l ≡ 0) where
           ap (λ (ns : List ℕ). ltb (before (λ x. same (x .kind ∷ x .cells) ns) rows) r) (moved-is odd m)
           ∙ first-smaller rows (W l ok .inOrder) r h z (λ x. same (x .kind ∷ x .cells) to)
           ∙ ap (any (λ (x : Placement). eqb (x .kind) (row r .kind) && ahead x (row r)))
-          (keep-same (λ (x : Placement). same (x .kind ∷ x .cells) to) (λ x. any (same (x .kind ∷ x .cells)) (to ∷ [])) rows (λ x k. sym (or-false (same (x .kind ∷ x .cells) to))))
+          (keep-same (λ (x : Placement). same (x .kind ∷ x .cells) to) (λ x. any (same (x .kind ∷ x .cells)) (to ∷ [])) rows (λ x k. sym (or-no (same (x .kind ∷ x .cells) to))))
         where
           to : List ℕ
           to = moved C odd (mapCell m (C .board .sides)) (row r)
@@ -264,7 +152,7 @@ module _ (l : Call) (ok : refusal l ≡ 0) where
       moved-same : (odd : Bool) (ms : List Map) → movedBefore S odd (map (cellImages C) (symmetries (C .board) ms)) r ≡ movedAhead C odd ms (row r)
       unfolding movedBefore movedAhead
       moved-same odd ms =
-          any-of-map (cellImages C) (λ to. ltb (imageOf S odd to r) r) (symmetries (C .board) ms)
+          any-map (λ to. ltb (imageOf S odd to r) r) (cellImages C) (symmetries (C .board) ms)
           ∙ any-same (λ m. ltb (imageOf S odd (cellImages C m) r) r) (λ m. any (λ x. eqb (x .kind) (row r .kind) && ahead x (row r)) (image C odd (mapCell m (C .board .sides)) (row r ∷ [])))
           (symmetries (C .board) ms) (λ m k. moved-first odd m)
 
@@ -301,7 +189,7 @@ module _ (l : Call) (ok : refusal l ≡ 0) where
       ap₂ (λ (a b : Bool). a || b) (moved-same r h z false turns)
       (ap₂ (λ (a b : Bool). a && b) always-same (ap₂ (λ (k : ℕ) (b : Bool). eqb k 0 && b) (kind-is l ok true 0) (moved-same r h z true mirrorings)))
 
-  pub first-rows : (i : Identify) → map (rowOf S) (firstRows S i) ≡ keep (λ q. eqb (q .kind) 0 && not (isPruned C i q)) rows
+  first-rows : (i : Identify) → map (rowOf S) (firstRows S i) ≡ keep (λ q. eqb (q .kind) 0 && not (isPruned C i q)) rows
   unfolding firstRows rowOf systemOf
   first-rows i =
       ap (map row) (keep-same (λ r. eqb (row r .kind) 0 && not (prunedBy S i r)) (λ r. stays (row r)) (below (length rows)) (λ r m.
@@ -315,10 +203,10 @@ module _ (l : Call) (ok : refusal l ≡ 0) where
       go true p q f = ap not (f tt)
       go false p q f = refl
 
-  pub fast-first : (i : Identify) → kind0First C i ≡ true → fastFirst S i (start C) ≡ map (answer C) (listed C i Fast)
+  fast-first : (i : Identify) → kind0First C i ≡ true → fastFirst S i (start C) ≡ map (answer C) (listed C i Fast)
   unfolding fastFirst systemOf fastPruned fastSearch firsts kind0First
   fast-first i e =
-      ap (entries S i) (sym (each-of-map (rowOf S) F (firstRows S i)) ∙ ap (λ (qs : List Placement). each qs F) (first-rows i))
+      ap (entries S i) (sym (each-map (rowOf S) F (firstRows S i)) ∙ ap (λ (qs : List Placement). each qs F) (first-rows i))
       ∙ entries-same l ok i after packed
       ∙ ap (λ (b : Bool). map (answer C) (keep (kept C i) (cond b after plain))) (sym e)
       ∙ ap (map (answer C)) (fast-unchanged l ok i)
@@ -350,3 +238,12 @@ module _ (l : Call) (ok : refusal l ≡ 0) where
           let k = keep-at stays rows (x .1) in
           let first = keep-of (λ (q : Placement). eqb (q .kind) 0) rows (k .0) (and-left (eqb (x .0 .kind) 0) (not (isPruned C i (x .0))) (k .1)) in
           has-first C (W l ok) one enough (x .0) first P (x .2) .0
+
+  -- ---- both: the engine's list is the document's
+  pub fast-answers : (i : Identify) → fastAnswers (systemOf (trayOf l)) i ≡ answersOf (trayOf l) i Fast
+  unfolding fastAnswers answersOf
+  fast-answers i = ap (λ (t : State). cond (firstBy S i) (fastFirst S i t) (fastBelow S i t)) start-same ∙ go (firstBy S i) (first-same (trayOf l) i)
+    where
+      go : (b : Bool) → b ≡ kind0First C i → cond b (fastFirst S i (start C)) (fastBelow S i (start C)) ≡ map (answer C) (listed C i Fast)
+      go true e = fast-first i (sym e)
+      go false e = fast-plain i (sym e)

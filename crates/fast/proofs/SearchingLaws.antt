@@ -1,22 +1,24 @@
 -- A turn of Fast's search over slices is a choice of the definition's search: the test of a row, the state below it, and what the search keeps true. Assumes nothing.
 use Prim.Native.Nat.{ℕ, zero, suc, _+_, _-_, _≤_, _<_}
 use mathlib.Core.Bool.{Bool, true, false, cond, not, _&&_, _||_}
-use mathlib.Core.List.{List, [], _∷_, _++_, map, List·Memᴰ, List·Memᴰ·head, List·Memᴰ·not-nil, List·Memᴰ·append-cases, List·Memᴰ·eq-of-singleton, Memᴰ·cast}
+use mathlib.Core.List.{List, [], _∷_, _++_, map, List·Memᴰ, List·Memᴰ·head, List·Memᴰ·not-nil, List·Memᴰ·append-cases, List·Memᴰ·eq-of-singleton, Memᴰ·cast, map-append}
 use mathlib.Core.Path.{_≡_, refl, sym, ap, ap₂, _∙_, subst}
 use mathlib.Core.Logic.{_⊎_, inl, inr}
 use native.Mathlib.Omega.{arith}
 use lib.Dec.{T, ltb, eqb, ltb→lt, eqb→eq}
 use lib.ListN.{length, getD, take, set, length-append, length-set}
 use lib.Seq.{getD-take, getD-set-same, getD-set-other, take-set-lt}
-use Rattle.definitions.specs.Lists.{consIf, keep, all, from, below, member, isEmpty, put}
+use Rattle.lists.specs.Lists.{consIf, keep, all, from, below, member, isEmpty, put}
+use Rattle.lists.proofs.TestLaws.{and-right, decide, clash, is-true, is-false, not-T, holds, eqb-of, tests-same, not-not}
+use Rattle.lists.proofs.ListLaws.{all-at, all-of, keep-at, keep-of, keep-same, keep-keep, keep-append, keep-shorter, apart-append}
+use Rattle.lists.proofs.RangeLaws.{below-at, below-of, member-at, member-of}
+use Rattle.kept.proofs.NormalRowLaws.{row-of-in}
 use Rattle.definitions.specs.Placements.{Placement}
 use Rattle.definitions.specs.Packing.{ahead}
 use Rattle.definitions.specs.Orders.{possible, choose}
-use Rattle.definitions.proofs.ListLaws.{and-right, all-at, all-of, decide, clash, is-true, is-false, not-T, holds, eqb-of, keep-at, keep-of, keep-same, keep-keep, keep-append, keep-shorter, below-at, below-of, member-at, member-of, apart-append}
 use Rattle.masks.specs.Masks.{has, either, apart, FirstOpen}
 use Rattle.masks.specs.declared.Mask.{Mask}
 use Rattle.masks.proofs.MaskLaws.{apart-of, apart-not}
-use Rattle.placements.proofs.FittingLaws.{both-ways}
 use Rattle.rows.specs.Systems.{System}
 use Rattle.rows.specs.Lawful.{Lawful, LawfulRow}
 use Rattle.rows.specs.Rows.{cellsOf}
@@ -24,8 +26,7 @@ use Rattle.kept.specs.Normal.{rowOf, ofKind}
 use Rattle.kept.specs.Ready.{Fillable}
 use Rattle.kept.specs.Entries.{putAll}
 use Rattle.fast.specs.Searching.{uncovered, stateBy, Searching, fits}
-use Rattle.fast.proofs.ChoiceLaws.{map-append, not-not}
-use Rattle.kept.proofs.LeafLaws.{row-in, put-all-last}
+use Rattle.kept.proofs.LeafLaws.{put-all-last}
 
 -- ---- the first uncovered cell
 first-from : (a : ℕ → Bool) (c i n : ℕ) → i ≤ c → c < i + n → ((k : ℕ) → i ≤ k → k < c → a k ≡ true) → a c ≡ false → take 1 (keep (λ k. not (a k)) (from i n)) ≡ c ∷ []
@@ -73,7 +74,7 @@ module _ (mask : Mask) where
 
   cells-member : (n : ℕ) → n < 128 → member n (cellsOf mask) ≡ has mask n
   cells-member n h =
-      both-ways (member n (cellsOf mask)) (has mask n) (λ t. holds (has mask n) (cells-at (member-at n (cellsOf mask) t) .1))
+      tests-same (member n (cellsOf mask)) (has mask n) (λ t. holds (has mask n) (cells-at (member-at n (cellsOf mask) t) .1))
       (λ t. member-of (cellsOf mask) (cells-of h (is-true (has mask n) t)))
 
 pub uncovered-at : (size : ℕ) (covered : Mask) {n : ℕ} → List·Memᴰ n (uncovered size covered) → (n < size) × (has covered n ≡ false)
@@ -100,7 +101,7 @@ uncovered-more size covered mask more h e =
 -- ---- a row of a search
 module _ (s : System) (law : Lawful s) (left : List ℕ) (covered mask : Mask) (rs : List ℕ) (r : ℕ) (row : r < length (s .rows)) (cells : rowOf s r .cells ≡ cellsOf mask) where
   row-lawful : LawfulRow s (rowOf s r)
-  row-lawful = law .row (rowOf s r) (row-in s r row)
+  row-lawful = law .row (rowOf s r) (row-of-in s r row)
 
   abbrev q : Placement
   q = rowOf s r
@@ -111,7 +112,7 @@ module _ (s : System) (law : Lawful s) (left : List ℕ) (covered mask : Mask) (
     left-same = getD-take (length (s .copies)) left (q .kind) 0 room
 
     free-is : all (λ n. member n (uncovered (s .size) covered)) (q .cells) ≡ apart 128 (has mask) (has covered)
-    free-is = both-ways (all (λ n. member n (uncovered (s .size) covered)) (q .cells)) (apart 128 (has mask) (has covered)) there back
+    free-is = tests-same (all (λ n. member n (uncovered (s .size) covered)) (q .cells)) (apart 128 (has mask) (has covered)) there back
       where
         there : T (all (λ n. member n (uncovered (s .size) covered)) (q .cells)) → T (apart 128 (has mask) (has covered))
         there t =

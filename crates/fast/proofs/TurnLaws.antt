@@ -1,26 +1,28 @@
 -- The laws of Fast's search over the slices of a row system: the leaf, the loop over the rows of a cell, a call, and what it puts back. Assumes nothing.
-use Prim.Native.Nat.{ℕ, zero, suc, _+_, _-_, _*_, _≤_, _<_}
+use Prim.Native.Nat.{ℕ, suc, _+_, _-_, _*_, _≤_, _<_}
 use mathlib.Core.Bool.{Bool, true, false, not, _&&_, _||_}
-use mathlib.Core.List.{List, [], _∷_, _++_, map}
+use mathlib.Core.List.{List, [], _∷_, _++_}
 use mathlib.Core.Logic.{⊎-elim}
 use mathlib.Core.Path.{_≡_, refl, sym, ap, ap₂, _∙_, subst}
-use native.Mathlib.Numerals.{add-one}
 use native.Mathlib.Omega.{arith}
 use borrow.Author.Tests.{not-true, not-false}
 use lib.Dec.{T, ltb, ltb→lt, lt→ltb}
-use lib.ListN.{length, getD, take, set, length-map, length-set}
-use lib.Seq.{length-take-le, take-suc-set, take-take, take-set-le, set-set, set-getD, getD-set-same}
-use Rattle.definitions.specs.Lists.{all, from, below, isEmpty}
+use lib.ListN.{length, getD, take, set, length-set}
+use lib.Seq.{length-take-le, take-take, take-set-le, set-set, set-getD, getD-set-same}
+use Rattle.lists.specs.Lists.{all, isEmpty}
+use Rattle.lists.proofs.TestLaws.{and-left, and-right, and-both, holds}
+use Rattle.lists.proofs.ListLaws.{take-set-next}
+use Rattle.kept.proofs.NormalRowLaws.{row-of-in}
 use Rattle.definitions.specs.Placements.{Placement}
 use Rattle.definitions.specs.Kept.{Identify}
 use Rattle.definitions.specs.Orders.{State, possible, choose}
 use Rattle.definitions.specs.Emission.{Emitted, emits}
-use Rattle.definitions.proofs.ListLaws.{and-left, and-right, and-both, holds, length-below}
 use Rattle.definitions.proofs.EmissionLaws.{emits-append}
 use Rattle.masks.specs.Masks.{has, either, apart, FirstOpen}
 use Rattle.masks.specs.declared.Mask.{Mask}
-use Rattle.rows.specs.Systems.{System, systemIn, ownedIn}
-use Rattle.rows.specs.Rows.{maskAt, rowAt, rowsIn, cellsOf}
+use Rattle.rows.specs.Charts.{scansPart, piecesPart}
+use Rattle.rows.specs.Systems.{System, systemIn, ownedIn, systemOver}
+use Rattle.rows.specs.Rows.{maskAt, rowAt, cellsOf}
 use Rattle.rows.specs.Chains.{nextAt}
 use Rattle.rows.specs.Shown.{Shown, showsRow}
 use Rattle.kept.specs.Normal.{rowOf, noRow}
@@ -29,14 +31,10 @@ use Rattle.kept.specs.Emission.{emitKept}
 use Rattle.fast.specs.Searching.{fastBelow, uncovered, stateBy, Searching, fits}
 use Rattle.rows.specs.declared.Dims.{Dims}
 use Rattle.fast.proofs.ChoiceLaws.{choicesFrom, leaf-lists, all-choices, choices-end, choices-skip, choices-take, choices-pass, chain-at, chain-after}
-use Rattle.kept.proofs.LeafLaws.{row-in, packing-emits}
+use Rattle.kept.proofs.LeafLaws.{packing-emits}
+use Rattle.kept.proofs.ReadyLaws as laws
 use Rattle.fast.proofs.SearchingLaws.{first-uncovered, none-uncovered, some-uncovered, fits-possible, child-state, child-less, child-searching, fillable}
 use Rattle.fast.proofs.UnmetLaws.{untried, unmet}
-
-getD-from : {A : Type 0} (f : ℕ → A) (d : A) (i n k : ℕ) → k < n → getD (map f (from i n)) k d ≡ f (i + k)
-getD-from f d i zero k h = absurd (omega arith)
-getD-from f d i (suc n) zero h = ap f (omega arith)
-getD-from f d i (suc n) (suc k) h = getD-from f d (suc i) n k (omega arith) ∙ ap f (omega arith)
 
 -- ---- one copy fewer, and put back
 one-more : (left left₁ : List ℕ) (k : ℕ) → left₁ ≡ set left k (getD left k 0 - 1) → k < length left → 0 < getD left k 0 → getD left₁ k 0 + 1 ≡ getD left k 0
@@ -46,9 +44,6 @@ put-back : (left left₁ : List ℕ) (k : ℕ) → left₁ ≡ set left k (getD 
 put-back left left₁ k e h l =
     ap (λ (n : ℕ). set left₁ k n) (one-more left left₁ k e h l) ∙ ap (λ (x : List ℕ). set x k (getD left k 0)) e ∙ set-set left k (getD left k 0 - 1) (getD left k 0) ∙ set-getD left k 0
 
-path-more : (path : List ℕ) (n r : ℕ) → n < length path → take (n + 1) (set path n r) ≡ take n path ++ (r ∷ [])
-path-more path n r h = ap (λ (m : ℕ). take m (set path n r)) (add-one n) ∙ take-suc-set path n r h
-
 pub path-back : (path path₁ : List ℕ) (n r : ℕ) → take (n + 1) path₁ ≡ take (n + 1) (set path n r) → take n path₁ ≡ take n path
 path-back path path₁ n r e =
     sym (take-take n (n + 1) path₁ (omega arith)) ∙ ap (λ (l : List ℕ). take n l) e ∙ take-take n (n + 1) (set path n r) (omega arith) ∙ take-set-le n path n r (omega arith)
@@ -57,28 +52,26 @@ chain-row : (s : System) (c r : ℕ) → nextAt (s .rows) c r < length (s .rows)
 unfolding rowOf
 chain-row s c r h = chain-at (s .rows) c r noRow h
 
-module _ {d : Dims} {work heads images scans kinds pieces : List ℕ} (ready : Ready d work heads images scans kinds pieces) where
+module _ {d : Dims} {work chart : List ℕ} (ready : Ready d work chart) where
   abbrev S : System
-  S = systemIn d work images scans kinds pieces
+  S = systemIn d work chart
 
   pub rows-many : length (S .rows) ≡ d .rows
-  unfolding systemIn rowsIn
-  rows-many = length-map (below (d .rows)) (rowAt work) ∙ length-below (d .rows)
+  rows-many = laws.rows-many d work chart
 
   pub size-is : S .size ≡ d .cells
-  unfolding systemIn
+  unfolding systemIn systemOver
   size-is = refl
 
   pub row-is : (r : ℕ) → r < d .rows → rowOf S r ≡ rowAt work r
-  unfolding systemIn rowsIn rowOf
-  row-is r h = getD-from (rowAt work) noRow 0 (d .rows) r h ∙ ap (rowAt work) (omega arith)
+  row-is = laws.row-is d work chart
 
-  head-is : (c : ℕ) → c < 128 → getD heads c 0 ≡ nextAt (S .rows) c 0
-  unfolding systemIn
+  head-is : (c : ℕ) → c < 128 → getD chart c 0 ≡ nextAt (S .rows) c 0
+  unfolding systemIn systemOver
   head-is c h = ready .chained .firsts c h
 
   next-is : (r : ℕ) → r < d .rows → getD work (8 * r + 5) 0 ≡ nextAt (S .rows) (rowAt work r .p) (suc r)
-  unfolding systemIn
+  unfolding systemIn systemOver
   next-is r h = ready .chained .nexts r h
 
   row-cells : (r : ℕ) → r < d .rows → rowOf S r .cells ≡ cellsOf (maskAt work r)
@@ -116,16 +109,16 @@ module _ {d : Dims} {work heads images scans kinds pieces : List ℕ} (ready : R
         sym (ap (λ (L : List (List ℕ)). emits capacity L e) (choices-end S i t r (omega arith))) ∙ g
 
 -- ---- cell c is the first that is left
-pub record Opened (d : Dims) (work heads images scans kinds pieces left path : List ℕ) (n : ℕ) (covered : Mask) (c : ℕ) : Type 0 where
-  pub ready : Ready d work heads images scans kinds pieces
+pub record Opened (d : Dims) (work chart left path : List ℕ) (n : ℕ) (covered : Mask) (c : ℕ) : Type 0 where
+  pub ready : Ready d work chart
   pub ofRows : OfRows d path n
-  pub searching : Searching (systemIn d work images scans kinds pieces) left covered (take n path)
+  pub searching : Searching (systemIn d work chart) left covered (take n path)
   pub first : FirstOpen (has covered) 0 c
   pub inside : c < d .cells
 
-module _ {d : Dims} {work heads images scans kinds pieces left path : List ℕ} {n : ℕ} {covered : Mask} {c : ℕ} (x : Opened d work heads images scans kinds pieces left path n covered c) where
+module _ {d : Dims} {work chart left path : List ℕ} {n : ℕ} {covered : Mask} {c : ℕ} (x : Opened d work chart left path n covered c) where
   abbrev the-system : System
-  the-system = systemIn d work images scans kinds pieces
+  the-system = systemIn d work chart
 
   abbrev the-state : State
   the-state = stateBy the-system left covered (take n path)
@@ -154,7 +147,7 @@ module _ {d : Dims} {work heads images scans kinds pieces left path : List ℕ} 
       let w = x .ready .lawful .fewCells in
       omega arith
 
-  pub loop-starts : (i : Identify) (capacity r : ℕ) (e : Emitted) → r ≡ getD heads c 0 → emits capacity (choicesFrom the-system i the-state r) e ≡ emits capacity (fastBelow the-system i the-state) e
+  pub loop-starts : (i : Identify) (capacity r : ℕ) (e : Emitted) → r ≡ getD chart c 0 → emits capacity (choicesFrom the-system i the-state r) e ≡ emits capacity (fastBelow the-system i the-state) e
   loop-starts i capacity r e g =
       let f = few in
       let b : length (the-state .free) ≤ the-system .size = let w = x .searching .room in let z = ap (λ (l : List ℕ). length l) (free-is (x .ready) (x .ofRows) (x .searching)) in omega arith in
@@ -162,7 +155,7 @@ module _ {d : Dims} {work heads images scans kinds pieces left path : List ℕ} 
       (ap (choicesFrom the-system i the-state) (g ∙ head-is (x .ready) c (omega arith)) ∙ sym (choices-skip the-system i the-state c first 0)
       ∙ all-choices the-system (x .ready .lawful) i the-state (some-uncovered (the-state .free) c first .0) b)
 
-  pub starts-at : (r : ℕ) → r ≡ getD heads c 0 → r < d .rows → rowAt work r .p ≡ c
+  pub starts-at : (r : ℕ) → r ≡ getD chart c 0 → r < d .rows → rowAt work r .p ≡ c
   starts-at r g l =
       let f = few in
       let m = rows-many (x .ready) in
@@ -184,7 +177,7 @@ module _ {d : Dims} {work heads images scans kinds pieces left path : List ℕ} 
     next = next-is (x .ready) r row ∙ ap (λ (k : ℕ). nextAt (the-system .rows) k (suc r)) at
 
     pub kind-in : rowAt work r .kind < length left
-    kind-in = let a = x .ready .lawful .row (rowOf the-system r) (row-in the-system r row-in-rows) .ofKind in let b = kind-is in let w = x .searching .enough in omega arith
+    kind-in = let a = x .ready .lawful .row (rowOf the-system r) (row-of-in the-system r row-in-rows) .ofKind in let b = kind-is in let w = x .searching .enough in omega arith
 
     pub first-small : rowAt work r .p < 128
     first-small = let b = cell-below in omega arith
@@ -217,25 +210,25 @@ module _ {d : Dims} {work heads images scans kinds pieces left path : List ℕ} 
         choices-take the-system i the-state c first r row-in-rows at-row (sym test-is ∙ f)
         ∙ ap (λ (k : ℕ). fastBelow the-system i (choose the-state (rowOf the-system r)) ++ choicesFrom the-system i the-state k) (sym next)
 
-    module _ (last shown : List ℕ) (sh : Shown (d .cells) (take (d .places) scans) last shown) where
-      hides : fits left covered (maskAt work r) (rowAt work r .kind) ≡ true → showsRow (ownedIn pieces (d .pieces)) shown (rowAt work r) ≡ false
+    module _ (last shown : List ℕ) (sh : Shown (d .cells) (take (d .places) (scansPart chart)) last shown) where
+      hides : fits left covered (maskAt work r) (rowAt work r .kind) ≡ true → showsRow (ownedIn (piecesPart chart) (d .pieces)) shown (rowAt work r) ≡ false
           → (i : Identify) (capacity : ℕ) (e : Emitted) → e .waiting ≡ true → e .last ≡ last
           → emits capacity (choicesFrom the-system i the-state (getD work (8 * r + 5) 0)) e ≡ emits capacity (choicesFrom the-system i the-state r) e
-      unfolding systemIn
+      unfolding systemIn systemOver
       hides f v i capacity e w is =
           let rest = choicesFrom the-system i the-state (getD work (8 * r + 5) 0) in
           let here = fastBelow the-system i (choose the-state (rowOf the-system r)) in
           ap (emits capacity rest)
           (sym (unmet the-system (x .ready .lawful) left covered (take n path) (all-rows (x .ready) (x .ofRows) (x .searching)) (x .searching) r row-in-rows (sym test-is ∙ f) last shown sh
-          (ap (λ (q : Placement). showsRow (ownedIn pieces (d .pieces)) shown q) (row-is (x .ready) r row) ∙ v) i capacity e w is))
+          (ap (λ (q : Placement). showsRow (ownedIn (piecesPart chart) (d .pieces)) shown q) (row-is (x .ready) r row) ∙ v) i capacity e w is))
           ∙ sym (emits-append capacity here rest e) ∙ ap (λ (L : List (List ℕ)). emits capacity L e) (sym (takes f i))
 
       pub turn-passes : (i : Identify) (capacity : ℕ) (e whole : Emitted) → e .last ≡ last
-          → (fits left covered (maskAt work r) (rowAt work r .kind) && (not (e .waiting) || showsRow (ownedIn pieces (d .pieces)) shown (rowAt work r))) ≡ false
+          → (fits left covered (maskAt work r) (rowAt work r .kind) && (not (e .waiting) || showsRow (ownedIn (piecesPart chart) (d .pieces)) shown (rowAt work r))) ≡ false
           → emits capacity (choicesFrom the-system i the-state r) e ≡ whole → emits capacity (choicesFrom the-system i the-state (getD work (8 * r + 5) 0)) e ≡ whole
       turn-passes i capacity e whole is f g =
           ⊎-elim (λ a. misses a i capacity e) (λ a. hides (a .0) (a .2) i capacity e (a .1) is)
-          (untried (fits left covered (maskAt work r) (rowAt work r .kind)) (e .waiting) (showsRow (ownedIn pieces (d .pieces)) shown (rowAt work r)) f) ∙ g
+          (untried (fits left covered (maskAt work r) (rowAt work r .kind)) (e .waiting) (showsRow (ownedIn (piecesPart chart) (d .pieces)) shown (rowAt work r)) f) ∙ g
 
     -- ---- it fits, and the search goes on below it
     module _ (fit : fits left covered (maskAt work r) (rowAt work r .kind) ≡ true) where
@@ -318,8 +311,8 @@ pub record Placing (d : Dims) (work left₀ path₀ left path : List ℕ) (n : �
   pub fit : fits left covered (maskAt work r) (rowAt work r .kind) ≡ true
   pub kind : k ≡ rowAt work r .kind
 
-module _ {d : Dims} {work heads images scans kinds pieces left₀ path₀ left path : List ℕ} {n : ℕ} {covered : Mask} {c r k : ℕ}
-    (x : Opened d work heads images scans kinds pieces left₀ path₀ n covered c) (y : Placing d work left₀ path₀ left path n covered c r k) where
+module _ {d : Dims} {work chart left₀ path₀ left path : List ℕ} {n : ℕ} {covered : Mask} {c r k : ℕ}
+    (x : Opened d work chart left₀ path₀ n covered c) (y : Placing d work left₀ path₀ left path n covered c r k) where
   pub place-in : k < length left
   place-in = let a = kind-in x r (y .row) (y .at) in let e = ap (λ (l : List ℕ). length l) (y .sameLeft) in let f = y .kind in omega arith
 
@@ -345,7 +338,7 @@ module _ {d : Dims} {work heads images scans kinds pieces left₀ path₀ left p
   left-is = ap₂ (λ (l : List ℕ) (j : ℕ). set l j (getD l j 0 - 1)) (y .sameLeft) (y .kind)
 
   path-is : take (n + 1) (set path n r) ≡ take n path₀ ++ (r ∷ [])
-  path-is = path-more path n r place-path ∙ ap (λ (l : List ℕ). l ++ (r ∷ [])) (y .samePath)
+  path-is = take-set-next path n r place-path ∙ ap (λ (l : List ℕ). l ++ (r ∷ [])) (y .samePath)
 
   module _ (more m : Mask) (is-mask : m ≡ maskAt work r) (union : has more ≡ either (has covered) (has m)) where
     union-is : has more ≡ either (has covered) (has (maskAt work r))
@@ -354,14 +347,14 @@ module _ {d : Dims} {work heads images scans kinds pieces left₀ path₀ left p
     pub place-falls : length (uncovered (d .cells) more) < length (uncovered (d .cells) covered)
     place-falls = call-less x r (y .row) (y .at) fit₀ more union-is
 
-    pub place-searching : Searching (systemIn d work images scans kinds pieces) (set left k (getD left k 0 - 1)) more (take (n + 1) (set path n r))
+    pub place-searching : Searching (systemIn d work chart) (set left k (getD left k 0 - 1)) more (take (n + 1) (set path n r))
     place-searching = call-searching x r (y .row) (y .at) fit₀ more union-is (set left k (getD left k 0 - 1)) (set path n r) left-is path-is
 
     pub place-rows : OfRows d (set path n r) (n + 1)
     place-rows = call-rows x r (y .row) (y .at) fit₀ more union-is (set left k (getD left k 0 - 1)) (set path n r) left-is path-is (length-set path n r ∙ y .long)
 
     pub place-turns : (i : Identify) (capacity : ℕ) (e e′ whole : Emitted)
-        → e′ ≡ emits capacity (fastBelow (systemIn d work images scans kinds pieces) i (stateBy (systemIn d work images scans kinds pieces) (set left k (getD left k 0 - 1)) more (take (n + 1) (set path n r)))) e
-        → emits capacity (choicesFrom (systemIn d work images scans kinds pieces) i (stateBy (systemIn d work images scans kinds pieces) left₀ covered (take n path₀)) r) e ≡ whole
-        → emits capacity (choicesFrom (systemIn d work images scans kinds pieces) i (stateBy (systemIn d work images scans kinds pieces) left₀ covered (take n path₀)) (getD work (8 * r + 5) 0)) e′ ≡ whole
+        → e′ ≡ emits capacity (fastBelow (systemIn d work chart) i (stateBy (systemIn d work chart) (set left k (getD left k 0 - 1)) more (take (n + 1) (set path n r)))) e
+        → emits capacity (choicesFrom (systemIn d work chart) i (stateBy (systemIn d work chart) left₀ covered (take n path₀)) r) e ≡ whole
+        → emits capacity (choicesFrom (systemIn d work chart) i (stateBy (systemIn d work chart) left₀ covered (take n path₀)) (getD work (8 * r + 5) 0)) e′ ≡ whole
     place-turns = turn x r (y .row) (y .at) fit₀ more union-is (set left k (getD left k 0 - 1)) (set path n r) left-is path-is

@@ -9,16 +9,19 @@ use native.Mathlib.Omega.{arith}
 use lib.Dec.{T, eqb, ltb, eqb→eq, ltb→lt}
 use lib.ListN.{length, getD, take, set, length-map}
 use lib.Seq.{getD-take, getD-set-same, getD-set-other}
-use Rattle.definitions.specs.Lists.{all, any, each, howMany, isEmpty, keep, member, put, same}
+use Rattle.lists.specs.Lists.{all, any, each, howMany, isEmpty, keep, member, put, same}
+use Rattle.lists.proofs.TestLaws.{and-left, and-right, eqb-of, holds, is-false, clash}
+use Rattle.lists.proofs.ListLaws.{all-at, each-at, keep-at, keep-map, getD-pos}
+use Rattle.lists.proofs.SortLaws.{put-at, put-head, put-tail, Fresh, ascending-apart, same→eq}
+use Rattle.lists.proofs.RangeLaws.{member-at, member-of}
+use Rattle.lists.proofs.CountLaws.{howMany-length}
+use Rattle.kept.proofs.NormalRowLaws.{row-of-in}
 use Rattle.definitions.specs.Placements.{Placement}
 use Rattle.definitions.specs.Packing.{ahead, used}
 use Rattle.definitions.specs.Kept.{Identify}
 use Rattle.definitions.specs.Orders.{State, possible, choose, search, fastChoices}
 use Rattle.definitions.specs.Emission.{Emitted, emits}
-use Rattle.definitions.proofs.ListLaws.{and-left, and-right, all-at, each-at, eqb-of, holds, is-false, clash, keep-at, member-at, member-of, put-at, put-head, put-tail, Fresh, ascending-apart, same→eq, keep-map}
 use Rattle.definitions.proofs.PackingLaws.{ahead-trans, ahead-irrefl}
-use Rattle.definitions.proofs.CountLaws.{howMany-length}
-use Rattle.definitions.proofs.SearchLaws.{getD-pos}
 use Rattle.definitions.proofs.EmissionLaws.{emits-unmet}
 use Rattle.masks.specs.Masks.{has}
 use Rattle.masks.specs.declared.Mask.{Mask}
@@ -29,16 +32,12 @@ use Rattle.rows.specs.Shown.{Shown, showsRow}
 use Rattle.rows.proofs.ShownLaws.{answer-shows}
 use Rattle.kept.specs.Normal.{rowOf, ofKind, sortRows, normal}
 use Rattle.kept.specs.Entries.{entries, numbersOf, putAll}
-use Rattle.kept.proofs.LeafLaws.{row-in, packing-sorted, sort-rows-at}
-use Rattle.kept.proofs.SortingLaws.{sort-keep}
+use Rattle.kept.proofs.LeafLaws.{packing-sorted}
+use Rattle.kept.proofs.SortingLaws.{sort-keep, sort-rows-at}
 use Rattle.fast.specs.Searching.{Searching, fastBelow, stateBy}
 use Rattle.fast.proofs.SearchingLaws.{uncovered-at}
 
--- ---- the test of a row: it can be tried, and while an entry is waited for the entry shows it
-pub tried : (a b : Bool) → (a && b) ≡ true → a ≡ true
-tried true b e = refl
-tried false b e = e
-
+-- ---- the test of a row: it can be and-true-left, and while an entry is waited for the entry shows it
 pub untried : (a waiting shows : Bool) → (a && (not waiting || shows)) ≡ false → (a ≡ false) ⊎ ((a ≡ true) × (waiting ≡ true) × (shows ≡ false))
 untried false waiting shows e = inl refl
 untried true false shows e = absurd (true≢false e)
@@ -168,17 +167,17 @@ module _ (s : System) (law : Lawful s) (left : List ℕ) (covered : Mask) (rs : 
   fresh y m =
       let j = chosen-at m in
       let b = ltb→lt (j .0) (length (s .rows)) (all-at (λ i. ltb i (length (s .rows))) rs rows (j .1)) in
-      go (ascending-apart ahead ahead-trans ahead-irrefl (s .rows) (law .inOrder) (row-in s r row) (Memᴰ·cast (sym (j .2)) (row-in s (j .0) b)))
+      go (ascending-apart ahead ahead-trans ahead-irrefl (s .rows) (law .inOrder) (row-of-in s r row) (Memᴰ·cast (sym (j .2)) (row-of-in s (j .0) b)))
     where
       go : (q ≡ y) ⊎ (T (ahead q y) ⊎ T (ahead y q)) → T (ahead q y) ⊎ T (ahead y q)
-      go (inl e) = let p = law .row q (row-in s r row) .coversP in absurd (not-yet y m (q .p) p (subst (λ (z : Placement). List·Memᴰ (q .p) (z .cells)) e p))
+      go (inl e) = let p = law .row q (row-of-in s r row) .coversP in absurd (not-yet y m (q .p) p (subst (λ (z : Placement). List·Memᴰ (q .p) (z .cells)) e p))
       go (inr o) = o
 
   few-used : getD (t .left) (q .kind) 0 + used (t .chosen) (q .kind) ≤ getD (s .copies) (q .kind) 0
   unfolding stateBy used ofKind
   few-used =
       let k = q .kind in
-      let b = law .row q (row-in s r row) .ofKind in
+      let b = law .row q (row-of-in s r row) .ofKind in
       let a = getD-take (length (s .copies)) left k 0 b in
       let test : Placement → Bool = λ z. eqb (z .kind) k in
       let u : used (putAll [] (map (rowOf s) rs)) k ≡ length (ofKind s k rs) =
@@ -209,11 +208,11 @@ module _ (s : System) (law : Lawful s) (left : List ℕ) (covered : Mask) (rs : 
         let y = Memᴰ·of-map (answerBy s) (keep (λ P. normal s i (numbersOf s P)) L) m in
         let z = keep-at (λ (P : List Placement). normal s i (numbersOf s P)) L (y .1) in
         let v = found s q (s .size) (choose t q) begun (z .0) in
-        let b = law .row q (row-in s r row) .ofKind in
+        let b = law .row q (row-of-in s r row) .ofKind in
         let few = v .1 .few in
         let e = law .copiesEach (q .kind) b in
         is-false (same x last) (λ w.
-        true≢false (sym (answer-shows s law (v .0 .chosen) q (v .1 .isIn) (row-in s r row) (v .1 .alone) (omega arith) last shown sh (ap (answerBy s) (sym (v .2)) ∙ y .2 ∙ same→eq x last w)) ∙ hidden))
+        true≢false (sym (answer-shows s law (v .0 .chosen) q (v .1 .isIn) (row-of-in s r row) (v .1 .alone) (omega arith) last shown sh (ap (answerBy s) (sym (v .2)) ∙ y .2 ∙ same→eq x last w)) ∙ hidden))
 
     -- what lies below it is not what is waited for
     pub unmet : (capacity : ℕ) (e : Emitted) → e .waiting ≡ true → e .last ≡ last → emits capacity (fastBelow s i (choose (stateBy s left covered rs) (rowOf s r))) e ≡ e

@@ -1,3 +1,3 @@
 pub mod Searching
 pub mod Pruned
-pub mod Calls
+pub mod Listing

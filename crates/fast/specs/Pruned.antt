@@ -1,11 +1,10 @@
 -- Kind 0 first, by row numbers: the rows of kind 0 come first in the table, so an image ahead of one is an image with a smaller number.
-use Prim.Native.Nat.{ℕ, _*_}
+use Prim.Native.Nat.{ℕ}
 use mathlib.Core.Bool.{Bool, true, false, not, _&&_, _||_}
-use mathlib.Core.List.{List, map}
+use mathlib.Core.List.{List}
 use lib.Dec.{ltb, eqb}
 use lib.ListN.{length, getD}
-use Rattle.definitions.specs.Lists.{all, any, below, keep, each, sum}
-use Rattle.definitions.specs.Kinds.{Tray}
+use Rattle.lists.specs.Lists.{all, any, below, keep, each}
 use Rattle.definitions.specs.Orders.{State, choose, search, fastChoices}
 use Rattle.definitions.specs.Kept.{Identify}
 use Rattle.definitions.specs.Kept.Identify.{None, Turned, Mirrored}
@@ -34,7 +33,3 @@ firstRows s i = keep (λ r. eqb (rowOf s r .kind) 0 && not (prunedBy s i r)) (be
 
 unfoldable pub fastFirst : System → Identify → State → List (List ℕ)
 fastFirst s i t = entries s i (each (firstRows s i) (λ r. search (fastChoices (s .rows)) (s .size) (choose t (rowOf s r))))
-
--- the cells of all copies together
-unfoldable pub cellsOfAll : Tray → ℕ
-cellsOfAll t = sum (map (λ q. q .count * sum (q .grid .cells)) (t .pieces))

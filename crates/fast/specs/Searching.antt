@@ -1,11 +1,11 @@
 -- Fast's search over the slices of a row system.
 use Prim.Native.Nat.{ℕ, _+_, _≤_, _<_}
-use mathlib.Core.Bool.{Bool, true, false, not, _&&_}
-use mathlib.Core.List.{List, [], _∷_, map, List·Memᴰ}
+use mathlib.Core.Bool.{Bool, true, not, _&&_}
+use mathlib.Core.List.{List, [], map, List·Memᴰ}
 use mathlib.Core.Path.{_≡_}
 use lib.Dec.{ltb}
 use lib.ListN.{length, getD, take}
-use Rattle.definitions.specs.Lists.{keep, below, Apart}
+use Rattle.lists.specs.Lists.{keep, below, Apart}
 use Rattle.definitions.specs.Kept.{Identify}
 use Rattle.definitions.specs.Orders.{State, search, fastChoices}
 use Rattle.masks.specs.Masks.{has, apart}

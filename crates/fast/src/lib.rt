@@ -1,5 +1,7 @@
-// The engine `Fast` (fast.rs): its search, and a page of its list.
+// The engine `Fast` (fast.rs): its list over a row system. It sees nothing of trays.
+// Assumed: that a lawful row system stands in the lent slices (`Ready` of kept). Promised: `listing::list` emits the entries of `fastAnswers`, in order;
+// of an accepted tray's system they are document 01's (proofs/FastListLaws, `fast-answers`).
 
-pub mod page;
-pub mod pruning;
-pub mod search;
+pub mod listing;
+mod pruning;
+mod search;

@@ -3,48 +3,40 @@ ghost use mathlib.Core.Bool.{_&&_, _||_, not};
 ghost use mathlib.Core.List.{[]};
 ghost use mathlib.Core.Path.{_≡_};
 ghost use Prim.Native.Nat.{_+_, _*_, _-_, _≤_, _<_};
-ghost use lib.Dec.{leb};
-ghost use lib.ListN.{drop, getD, length, take};
-ghost use Rattle.definitions.specs.Lists.{any, from};
+ghost use lib.Dec.{leb, ltb};
+ghost use lib.ListN.{getD, length, take};
+ghost use Rattle.lists.specs.Lists.{any, from};
 ghost use Rattle.definitions.specs.Refusals.{identifies};
 ghost use Rattle.definitions.specs.Emission.{emits};
-ghost use lib.Dec.{ltb};
+ghost use Rattle.rows.specs.Charts.{imagesOf, piecesPart, scansPart};
 ghost use Rattle.rows.specs.Rows.{rowAt};
 ghost use Rattle.rows.specs.Shown.{Shown, showsRow};
 ghost use Rattle.rows.specs.Systems.{ownedIn, systemIn};
-ghost use Rattle.kept.specs.Emission.{emittedOf};
+ghost use Rattle.kept.specs.Emission.{emittedOf, identified};
 ghost use Rattle.kept.specs.Normal.{imageOf};
-ghost use Rattle.kept.specs.Ready.{Ready};
+ghost use Rattle.kept.specs.Ready.{Ready, Restored};
 ghost use Rattle.fast.specs.Searching.{Searching, stateBy};
 ghost use Rattle.fast.specs.Pruned.{alwaysMirrorableBy, fastFirst, prunedBy};
 use super::search;
 use kept::emission::Emission;
-use masks::Mask;
+use kept::emission::Wanted;
 use rows::Dims;
+use rows::chart;
 use rows::images;
 use rows::shown;
 use rows::table;
 
 // Whether one of the maps numbered from `start` to below `end` takes row r onto a row before it.
-fn moves_before(
-    d: Dims,
-    work: &[u64],
-    heads: &[u16],
-    images: &[u8],
-    scans: &[u8],
-    kinds: &[u8],
-    pieces: &[u8],
-    start: usize,
-    end: usize,
-    r: usize,
-) -> bool
-    requires { ⌜ Ready d (now work) (now heads) (now images) (now scans) (now kinds) (now pieces) × (start ≤ end) × (end ≤ d .turns + d .mirrorings) × (r < d .rows) ⌝ }
-    ensures { λ b. ⌜ b ≡ any (λ m. ltb (imageOf (systemIn d (now (work .entry)) (now (images .entry)) (now (scans .entry)) (now (kinds .entry)) (now (pieces .entry))) (leb (d .turns) m) (take (d .cells) (drop (128 * m) (now (images .entry)))) r) r) (from start (end - start)) ⌝ }
+fn moves_before(d: Dims, work: &[u64], chart: &[u16], start: usize, end: usize, r: usize) -> bool
+    requires { ⌜ Ready d (now work) (now chart) × (start ≤ end) × (end ≤ d .turns + d .mirrorings) × (r < d .rows) ⌝ }
+    ensures { λ b. do
+      let S = systemIn d (now (work .entry)) (now (chart .entry))
+      ⌜ b ≡ any (λ m. ltb (imageOf S (leb (d .turns) m) (imagesOf (now (chart .entry)) (d .cells) m) r) r) (from start (end - start)) ⌝ }
 {
     let mut m = start;
     while m < end {
         let odd = d.turns <= m;
-        if images::image_row(d, work, heads, kinds, images, 128 * m, odd, r) < r {
+        if images::image_row(d, work, chart, m, odd, r) < r {
             return true;
         }
         m += 1;
@@ -53,25 +45,17 @@ fn moves_before(
 }
 
 // Whether each kind has a mirror partner with as many copies.
-fn always_mirrorable(
-    d: Dims,
-    work: &[u64],
-    heads: &[u16],
-    images: &[u8],
-    scans: &[u8],
-    kinds: &[u8],
-    pieces: &[u8],
-) -> bool
-    requires { ⌜ Ready d (now work) (now heads) (now images) (now scans) (now kinds) (now pieces) ⌝ }
-    ensures { λ b. ⌜ b ≡ alwaysMirrorableBy (systemIn d (now (work .entry)) (now (images .entry)) (now (scans .entry)) (now (kinds .entry)) (now (pieces .entry))) ⌝ }
+fn always_mirrorable(d: Dims, work: &[u64], chart: &[u16]) -> bool
+    requires { ⌜ Ready d (now work) (now chart) ⌝ }
+    ensures { λ b. ⌜ b ≡ alwaysMirrorableBy (systemIn d (now (work .entry)) (now (chart .entry))) ⌝ }
 {
     let mut k = 0;
     while k < d.kinds {
-        let p = kinds[2 * k + 1] as usize;
+        let p = chart::partner_of(chart, k);
         if d.kinds <= p {
             return false;
         }
-        if kinds[2 * k] != kinds[2 * p] {
+        if chart::copies_of(chart, k) != chart::copies_of(chart, p) {
             return false;
         }
         k += 1;
@@ -80,149 +64,96 @@ fn always_mirrorable(
 }
 
 // Whether row r, of kind 0, starts no packing that is kept.
-fn is_pruned(
-    d: Dims,
-    work: &[u64],
-    heads: &[u16],
-    images: &[u8],
-    scans: &[u8],
-    kinds: &[u8],
-    pieces: &[u8],
-    turned: bool,
-    mirrored: bool,
-    r: usize,
-) -> bool
-    requires { ⌜ Ready d (now work) (now heads) (now images) (now scans) (now kinds) (now pieces) × (r < d .rows) ⌝ }
-    ensures { λ b. ⌜ b ≡ prunedBy (systemIn d (now (work .entry)) (now (images .entry)) (now (scans .entry)) (now (kinds .entry)) (now (pieces .entry))) (identifies turned mirrored) r ⌝ }
+fn is_pruned(d: Dims, work: &[u64], chart: &[u16], turned: bool, mirrored: bool, r: usize) -> bool
+    requires { ⌜ Ready d (now work) (now chart) × (r < d .rows) ⌝ }
+    ensures { λ b. ⌜ b ≡ prunedBy (systemIn d (now (work .entry)) (now (chart .entry))) (identifies turned mirrored) r ⌝ }
 {
     if !turned {
         return false;
     }
-    if moves_before(d, work, heads, images, scans, kinds, pieces, 0, d.turns, r) {
+    if moves_before(d, work, chart, 0, d.turns, r) {
         return true;
     }
     if !mirrored {
         return false;
     }
-    if !always_mirrorable(d, work, heads, images, scans, kinds, pieces) {
+    if !always_mirrorable(d, work, chart) {
         return false;
     }
-    if images::kind_after(kinds, d.kinds, true, 0) != 0 {
+    if images::kind_after(chart, d.kinds, true, 0) != 0 {
         return false;
     }
-    moves_before(
-        d,
-        work,
-        heads,
-        images,
-        scans,
-        kinds,
-        pieces,
-        d.turns,
-        d.turns + d.mirrorings,
-        r,
-    )
+    moves_before(d, work, chart, d.turns, d.turns + d.mirrorings, r)
 }
 
 // Whether row r, of kind 0, is tried: it is not pruned, and while an answer is waited for the answer shows it.
 fn is_first(
     d: Dims,
     work: &[u64],
-    heads: &[u16],
-    images: &[u8],
-    scans: &[u8],
-    kinds: &[u8],
-    pieces: &[u8],
-    turned: bool,
-    mirrored: bool,
+    chart: &[u16],
+    wanted: Wanted,
     shown: &[u8],
     waiting: bool,
     r: usize,
 ) -> bool
-    requires { ⌜ Ready d (now work) (now heads) (now images) (now scans) (now kinds) (now pieces) × (r < d .rows) × (length (now shown) ≡ 256) ⌝ }
-    ensures { λ b. ⌜ b ≡ not (prunedBy (systemIn d (now (work .entry)) (now (images .entry)) (now (scans .entry)) (now (kinds .entry)) (now (pieces .entry))) (identifies turned mirrored) r) && (not waiting || showsRow (ownedIn (now (pieces .entry)) (d .pieces)) (now (shown .entry)) (rowAt (now (work .entry)) r)) ⌝ }
+    requires { ⌜ Ready d (now work) (now chart) × (r < d .rows) × (length (now shown) ≡ 256) ⌝ }
+    ensures { λ b. do
+      let S = systemIn d (now (work .entry)) (now (chart .entry))
+      let shows = showsRow (ownedIn (piecesPart (now (chart .entry))) (d .pieces)) (now (shown .entry)) (rowAt (now (work .entry)) r)
+      ⌜ b ≡ not (prunedBy S (identified wanted) r) && (not waiting || shows) ⌝ }
 {
-    if is_pruned(
-        d,
-        work,
-        heads,
-        images,
-        scans,
-        kinds,
-        pieces,
-        turned,
-        mirrored,
-        r,
-    ) {
+    if is_pruned(d, work, chart, wanted.turned, wanted.mirrored, r) {
         return false;
     }
-    shown::leads(d, work, pieces, shown, waiting, r)
+    shown::leads(d, work, chart, shown, waiting, r)
 }
 
 // The packings that start with a row of kind 0, row by row, from the state with nothing chosen.
 pub fn search_first(
     d: Dims,
     work: &[u64],
-    heads: &[u16],
-    images: &[u8],
-    scans: &[u8],
-    kinds: &[u8],
-    pieces: &[u8],
-    turned: bool,
-    mirrored: bool,
+    chart: &[u16],
+    wanted: Wanted,
     left: &mut [u8],
     path: &mut [u16],
     last: &[u8],
     shown: &[u8],
-    capacity: usize,
     answers: &mut [u8],
     e: Emission,
 ) -> Emission
-    requires { ⌜ Ready d (now work) (now heads) (now images) (now scans) (now kinds) (now pieces) × (length (now path) ≡ 128) × (length (now shown) ≡ 256) × Shown (d .cells) (take (d .places) (now scans)) (now last) (now shown) × (capacity * (2 * d .places) ≤ length (now answers)) × (0 < getD (now left) 0 0) ⌝ }
-    requires { ⌜ Searching (systemIn d (now work) (now images) (now scans) (now kinds) (now pieces)) (now left) (record { low = 0; high = 0 }) [] ⌝ }
-    ensures { λ r. ⌜ emittedOf r (now (last .entry)) (now (answers .exit)) ≡ emits capacity (fastFirst (systemIn d (now (work .entry)) (now (images .entry)) (now (scans .entry)) (now (kinds .entry)) (now (pieces .entry))) (identifies turned mirrored) (stateBy (systemIn d (now (work .entry)) (now (images .entry)) (now (scans .entry)) (now (kinds .entry)) (now (pieces .entry))) (now (left .entry)) (record { low = 0; high = 0 }) [])) (emittedOf e (now (last .entry)) (now (answers .entry))) ⌝ }
-    ensures { λ _. ⌜ now (left .exit) ≡ now (left .entry) ⌝ }
+    requires { ⌜ Ready d (now work) (now chart) × (length (now path) ≡ 128) × (length (now shown) ≡ 256)
+        × Shown (d .cells) (take (d .places) (scansPart (now chart))) (now last) (now shown) × (wanted .capacity * (2 * d .places) ≤ length (now answers))
+        × (0 < getD (now left) 0 0) ⌝ }
+    requires { ⌜ Searching (systemIn d (now work) (now chart)) (now left) (record { low = 0; high = 0 }) [] ⌝ }
+    ensures page { λ r. do
+      let S = systemIn d (now (work .entry)) (now (chart .entry))
+      let state = stateBy S (now (left .entry)) (record { low = 0; high = 0 }) []
+      let old = emittedOf e (now (last .entry)) (now (answers .entry))
+      ⌜ emittedOf r (now (last .entry)) (now (answers .exit)) ≡ emits (wanted .capacity) (fastFirst S (identified wanted) state) old ⌝ }
+    ensures restored { λ _. ⌜ (now (left .exit) ≡ now (left .entry)) × Restored 0 (now (path .entry)) (now (path .exit)) ⌝ }
 {
     let mut s = e;
+    // The rows of kind 0, which come first: s is what those passed have left, and the copies are as they were.
     let mut r = 0;
     while r < d.rows {
         if 0 < table::kind_at(work, r) {
             return s;
         }
-        if is_first(
-            d,
-            work,
-            heads,
-            images,
-            scans,
-            kinds,
-            pieces,
-            turned,
-            mirrored,
-            shown,
-            s.waiting,
-            r,
-        ) {
+        if is_first(d, work, chart, wanted, shown, s.waiting, r) {
             left[0] -= 1;
             path[0] = r as u16;
             let mask = table::mask_at(work, r);
             s = search::search(
                 d,
                 work,
-                heads,
-                images,
-                scans,
-                kinds,
-                pieces,
-                turned,
-                mirrored,
+                chart,
+                wanted,
                 left,
                 path,
                 1,
                 mask,
                 last,
                 shown,
-                capacity,
                 answers,
                 s,
             );

@@ -10,12 +10,13 @@ use borrow.Author.Tests.{leb-true, eqb-true, eqb-false, eq-eqb, ne-eqb, le-leb, 
 use lib.Dec.{T, leb, eqb}
 use lib.ListN.{length, getD, take, drop, length-take, length-drop, drop-of-length-le}
 use lib.Seq.{take-all, drop-drop}
-use Rattle.definitions.specs.Lists.{all, before, same, isEmpty}
+use Rattle.lists.specs.Lists.{all, before, same, isEmpty}
+use Rattle.lists.proofs.TestLaws.{and-no, and-left, and-right, and-both, is-true, holds}
 use Rattle.definitions.specs.Texts.{text}
 use Rattle.definitions.specs.Files.{onFirst, parts, field, fieldsOf, withoutLast, lastOf, linesOf, isDigit, isNumber, numberIn, isGridIn, isConfig, isBoard, hasPieceFields, isPiece, isWood, isFile}
-use Rattle.definitions.proofs.ListLaws.{and-left, and-right, and-both, is-true, holds}
 use Rattle.files.specs.declared.spans.Span.{Span}
 use Rattle.files.specs.Stretches.{Within, stretch, isLine}
+use Rattle.files.proofs.SpanLaws.{parts-exist}
 
 -- ---- what a call says of a field
 pub of-field : (p : List ℕ → Bool) {r t : Bool} {s f : List ℕ} → r ≡ p s → s ≡ f → r ≡ t → p f ≡ t
@@ -232,15 +233,6 @@ parts-some b (x ∷ xs) h = go (eqb b x) refl h (λ (k : before (eqb b) xs < len
     go true f k r = rw (eqb-sym b x true f)
     go false f k r = rw (eqb-sym b x false f, r (omega arith))
 
-pub parts-exist : (b : ℕ) (xs : List ℕ) → 0 < length (parts b xs)
-parts-exist b [] = omega arith
-parts-exist b (x ∷ xs) = go (eqb x b) (parts b xs)
-  where
-    go : (t : Bool) (ws : List (List ℕ)) → 0 < length (cond t ([] ∷ ws) (onFirst x ws))
-    go true ws = omega arith
-    go false [] = omega arith
-    go false (w ∷ ws) = omega arith
-
 parts-few : (b : ℕ) (xs : List ℕ) → length (parts b xs) ≤ suc (length xs)
 parts-few b [] = omega arith
 parts-few b (x ∷ xs) = go (eqb x b) (parts b xs) (parts-few b xs)
@@ -294,13 +286,9 @@ pub pieces-all : (n : ℕ) (ws : List (List ℕ)) → allLines (suc (suc n)) ws 
 pieces-all n [] = le-leb 2 (suc (suc n)) (omega arith)
 pieces-all n (w ∷ ws) = ap (λ (t : Bool). isPiece w && t) (pieces-all (suc n) ws)
 
-and-false : (a : Bool) → a && false ≡ false
-and-false true = refl
-and-false false = refl
-
 lines-all : (ls : List (List ℕ)) → leb 2 (length ls) && (isConfig (getD ls 0 []) && (isBoard (getD ls 1 []) && all isPiece (drop 2 ls))) ≡ allLines 0 ls
 lines-all [] = refl
-lines-all (w ∷ []) = sym (and-false (isConfig w))
+lines-all (w ∷ []) = sym (and-no (isConfig w))
 lines-all (w ∷ v ∷ ws) = rw (le-leb 2 (suc (suc (length ws))) (omega arith)) (ap (λ (t : Bool). isConfig w && (isBoard v && t)) (sym (pieces-all 0 ws)))
 
 pub file-long : (bytes : List ℕ) → 16384 < length bytes → false ≡ isFile bytes

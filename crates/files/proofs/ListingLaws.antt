@@ -1,4 +1,4 @@
--- The cells of an answer, one after the other, and the lines of the listing, put part by part. Assumes nothing.
+-- The cells of an answer, put one after the other. Assumes nothing.
 use Prim.Native.Nat.{ℕ, zero, suc, _+_, _*_, _≤_, _<_}
 use mathlib.Core.Bool.{Bool, true, false, cond, _&&_}
 use mathlib.Core.List.{List, [], _∷_, _++_, append-assoc}
@@ -9,8 +9,8 @@ use lib.Dec.{eqb}
 use lib.ListN.{length, getD, take, drop, set, length-drop}
 use lib.Seq.{take-add, drop-cons, getD-drop, length-take-le}
 use Rattle.definitions.specs.Files.{cellShown, cellsShown, decimal}
-use Rattle.files.specs.Put.{Put}
-use Rattle.files.proofs.PutLaws.{put-one, put-byte, put-then, put-parted}
+use Rattle.texts.specs.Put.{Put}
+use Rattle.texts.proofs.PutLaws.{put-one, put-then, put-parted}
 
 -- ---- a cell
 unfilled : (piece copy : ℕ) → piece ≡ 255 → copy ≡ 255 → cellShown piece copy ≡ 45 ∷ []
@@ -72,8 +72,3 @@ module _ (answers : List ℕ) (start i : ℕ) (h : start + 2 * i + 1 < length an
 
     pub put-next-cell : 0 < i → Put (set mid m 32) (m + 1) here new r → r ≤ length old → Put old at (cellsShown (take (2 * (i + 1)) (drop start answers))) new r
     put-next-cell l q k = subst (λ (z : List ℕ). Put old at z new r) (sym (next-shown l)) (put-parted 32 p q k)
-
--- ---- a line
--- two texts, a tab between them and a line feed behind them
-pub put-line : {old xs mid ys next : List ℕ} {at m k : ℕ} → Put old at xs mid m → Put (set mid m 9) (m + 1) ys next k → k < length old → Put old at (xs ++ 9 ∷ ys ++ 10 ∷ []) (set next k 10) (k + 1)
-put-line p q h = put-byte 10 (put-parted 9 p q (omega arith)) h

@@ -11,16 +11,15 @@ use borrow.Author.Tests.{lt-ltb, le-ltb, ltb-true, ltb-false, leb-true, leb-fals
 use lib.Dec.{T, ltb, leb, eqb, eqb→eq}
 use lib.ListN.{length, getD, set, drop, length-map, length-append, length-set, List·getD-append, List·getD-eq-default, List·getD-map}
 use lib.Seq.{paste, paste-suc, length-paste, getD-take, getD-drop, getD-append-seam, getD-set-same, getD-set-other, ext-getD}
-use Rattle.definitions.specs.Lists.{all, below, same}
+use Rattle.lists.specs.Lists.{all, below, same}
+use Rattle.lists.proofs.TestLaws.{and-left, and-right, or-cases, eqb-of, is-true, decide, clash}
+use Rattle.lists.proofs.RangeLaws.{length-below, getD-of}
 use Rattle.definitions.specs.Texts.{text}
 use Rattle.definitions.specs.Files.{Written, recordAt, recordsFrom, field, fieldsOf, numberFrom, numberIn, gridIn, isNumber, isGridIn, isConfig, isBoard, isWood, hasPieceFields, isPiece, woodIn}
 use Rattle.definitions.specs.declared.Record.{Record}
 use Rattle.definitions.specs.declared.SolverKind.the-variants.{Fast, KnuthAlgorithm}
-use Rattle.definitions.proofs.ListLaws.{and-left, and-right, or-cases, eqb-of, is-true, decide, clash, length-below}
 use Rattle.placements.specs.declared.Table.{Table}
-use Rattle.placements.specs.Tables.{noRecord}
-use Rattle.rows.proofs.MovedLaws.{getD-of}
-use Rattle.solver.specs.Records.{emptyTable, tableOf}
+use Rattle.placements.specs.Tables.{noRecord, emptyTable, tableOf}
 use Rattle.files.specs.declared.spans.Span.{Span}
 use Rattle.files.specs.Stretches.{Within, stretch}
 use Rattle.files.specs.Reading.{cellsOfAll, configIn, pushRow}

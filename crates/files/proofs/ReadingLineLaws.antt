@@ -10,17 +10,18 @@ use borrow.Author.Tests.{leb-true, leb-false, lt-leb}
 use lib.Dec.{T, leb, eqb, eqb→eq}
 use lib.ListN.{length, getD, take, drop, length-map, length-append, length-drop, drop-of-length-le}
 use lib.Seq.{drop-drop, paste, paste-zero, take-length, length-paste, take-paste, drop-paste}
-use Rattle.definitions.specs.Lists.{all, before, isEmpty}
+use Rattle.lists.specs.Lists.{all, before, isEmpty}
+use Rattle.lists.proofs.TestLaws.{and-left, and-right, eqb-of, decide, clash}
 use Rattle.definitions.specs.Files.{Written, recordAt, recordsFrom, onFirst, parts, field, fieldsOf, withoutLast, lastOf, linesOf, numberIn, gridIn, isConfig, isBoard, isPiece, woodIn, pieceIn, isFile, callOn, callIn}
 use Rattle.definitions.specs.declared.Record.{Record}
-use Rattle.definitions.proofs.ListLaws.{and-left, and-right, eqb-of, decide, clash}
 use Rattle.placements.specs.declared.Table.{Table}
-use Rattle.solver.specs.Records.{emptyTable, tableOf}
+use Rattle.placements.specs.Tables.{emptyTable, tableOf}
 use Rattle.files.specs.declared.spans.Span.{Span}
 use Rattle.files.specs.Stretches.{Within, stretch, isLine}
 use Rattle.files.specs.Reading.{Lines, PiecesRead, cellsOfAll, configIn, piecesIn, pushRow}
-use Rattle.files.proofs.LineLaws.{stretch-length, parts-some, parts-exist, pieces-all, fileFrom, file-over, file-long, file-starts, found, not-ended, next-line}
+use Rattle.files.proofs.LineLaws.{stretch-length, parts-some, pieces-all, fileFrom, file-over, file-long, file-starts, found, not-ended, next-line}
 use Rattle.files.proofs.ReadingLaws.{table-none, cells-more, piece-more, records-length}
+use Rattle.files.proofs.SpanLaws.{parts-exist}
 
 -- ---- a field is no longer than its line
 parts-short : (b : ℕ) (xs : List ℕ) (n : ℕ) → length (getD (parts b xs) n []) ≤ length xs

@@ -1,19 +1,21 @@
 -- What is left of a stretch is its first byte and what is left behind it, so each test, count and number over it goes one byte at a time. Assumes nothing.
 use Prim.Native.Nat.{ℕ, zero, suc, _+_, _-_, _*_, _^_, _≤_, _<_}
 use mathlib.Core.Bool.{Bool, true, false, cond, not, _&&_, _||_}
-use mathlib.Core.List.{List, [], _∷_, _++_}
+use mathlib.Core.List.{List, [], _∷_}
 use mathlib.Core.Path.{_≡_, refl, sym, ap, ap₂, _∙_, subst}
 use mathlib.Core.Logic.{_⊎_, inl, inr}
 use native.Mathlib.Nat.{pow-le-pow-right}
 use native.Mathlib.Omega.{arith}
 use native.Mathlib.Numerals.{add-one}
-use lib.Dec.{T, ltb, leb, eqb, leb→le, le→leb, eqb→eq, eqb-refl, nleb→lt}
+use lib.Dec.{T, leb, eqb, leb→le}
 use lib.ListN.{length, getD, take, drop, drop-of-length-le}
 use lib.Seq.{take-take, drop-drop}
 use lib.Pow.{pow-add}
-use Rattle.definitions.specs.Lists.{all, before, same, isEmpty}
-use Rattle.definitions.specs.Files.{onFirst, parts, fieldsOf, field, isDigit, isNumber, numberFrom, numberIn}
-use Rattle.definitions.proofs.ListLaws.{drop-take, and-left, and-right, eqb-of, is-true, is-false, decide, clash, not-T}
+use Rattle.lists.specs.Lists.{all, before, same, isEmpty}
+use borrow.Author.Tests.{le-leb, lt-leb, eq-eqb, ne-eqb}
+use Rattle.lists.proofs.TestLaws.{and-no, eqb-flip, and-left, and-right, eqb-of, is-true, decide, clash}
+use Rattle.lists.proofs.ListLaws.{before-few, drop-take}
+use Rattle.definitions.specs.Files.{onFirst, parts, isDigit, isNumber, numberFrom}
 
 -- ---- what is left of a stretch
 -- the bytes of a text from place i to below another
@@ -43,33 +45,11 @@ pub length-between : (text : List ℕ) (i to : ℕ) → to ≤ length text → i
 length-between text i to h k = length-between-from (to - i) i text (omega arith)
 
 -- ---- the first place with a byte
-eqb-flip : (x y : ℕ) → eqb x y ≡ eqb y x
-eqb-flip x y = go (decide (eqb x y)) (decide (eqb y x))
-  where
-    go : T (eqb x y) ⊎ T (not (eqb x y)) → T (eqb y x) ⊎ T (not (eqb y x)) → eqb x y ≡ eqb y x
-    go (inl a) k = is-true (eqb x y) a ∙ sym (is-true (eqb y x) (eqb-of (sym (eqb→eq x y a))))
-    go (inr a) (inl b) = is-true (eqb x y) (eqb-of (sym (eqb→eq y x b))) ∙ sym (is-true (eqb y x) b)
-    go (inr a) (inr b) = not-T (eqb x y) a ∙ sym (not-T (eqb y x) b)
-
-pub eqb-no : (x y : ℕ) → (x ≡ y → ⊥) → eqb x y ≡ false
-eqb-no x y f = is-false (eqb x y) (λ t. f (eqb→eq x y t))
-
-pub eqb-yes : (x y : ℕ) → x ≡ y → eqb x y ≡ true
-eqb-yes x y e = is-true (eqb x y) (eqb-of e)
-
-pub before-le : (p : ℕ → Bool) (xs : List ℕ) → before p xs ≤ length xs
-before-le p [] = omega arith
-before-le p (x ∷ xs) = go (p x) (before-le p xs)
-  where
-    go : (b : Bool) → before p xs ≤ length xs → cond b 0 (suc (before p xs)) ≤ suc (length xs)
-    go true h = omega arith
-    go false h = omega arith
-
 -- the place is here, or it is sought behind
 pub found-here : (byte : ℕ) (text : List ℕ) (i to : ℕ) → i < to → to ≤ length text → getD text i 0 ≡ byte → i + before (eqb byte) (between i to text) ≡ i
 found-here byte text i to h k e =
     let a = ap (λ (l : List ℕ). before (eqb byte) l) (between-more text i to h k) in
-    let b = ap (λ (t : Bool). cond t 0 (suc (before (eqb byte) (between (i + 1) to text)))) (eqb-yes byte (getD text i 0) (sym e)) in
+    let b = ap (λ (t : Bool). cond t 0 (suc (before (eqb byte) (between (i + 1) to text)))) (eq-eqb byte (getD text i 0) (sym e)) in
     let f : before (eqb byte) (between i to text) ≡ 0 = a ∙ b in
     omega arith
 
@@ -77,7 +57,7 @@ pub found-behind : (byte : ℕ) (text : List ℕ) (i to : ℕ) → i < to → to
     → i + 1 + before (eqb byte) (between (i + 1) to text) ≡ i + before (eqb byte) (between i to text)
 found-behind byte text i to h k e =
     let a = ap (λ (l : List ℕ). before (eqb byte) l) (between-more text i to h k) in
-    let b = ap (λ (t : Bool). cond t 0 (suc (before (eqb byte) (between (i + 1) to text)))) (eqb-no byte (getD text i 0) (λ q. e (sym q))) in
+    let b = ap (λ (t : Bool). cond t 0 (suc (before (eqb byte) (between (i + 1) to text)))) (ne-eqb byte (getD text i 0) (λ q. e (sym q))) in
     let f : before (eqb byte) (between i to text) ≡ suc (before (eqb byte) (between (i + 1) to text)) = a ∙ b in
     omega arith
 
@@ -91,9 +71,9 @@ length-onFirst : (x : ℕ) (ws : List (List ℕ)) → 0 < length ws → length (
 length-onFirst x [] h = absurd (omega arith)
 length-onFirst x (w ∷ ws) h = refl
 
-pub parts-some : (b : ℕ) (xs : List ℕ) → 0 < length (parts b xs)
-parts-some b [] = omega arith
-parts-some b (x ∷ xs) = go (eqb x b) (parts-some b xs)
+pub parts-exist : (b : ℕ) (xs : List ℕ) → 0 < length (parts b xs)
+parts-exist b [] = omega arith
+parts-exist b (x ∷ xs) = go (eqb x b) (parts-exist b xs)
   where
     go : (t : Bool) → 0 < length (parts b xs) → 0 < length (cond t ([] ∷ parts b xs) (onFirst x (parts b xs)))
     go true h = omega arith
@@ -104,18 +84,18 @@ parts-length b x xs = go (eqb x b)
   where
     go : (t : Bool) → length (cond t ([] ∷ parts b xs) (onFirst x (parts b xs))) ≡ cond t 1 0 + length (parts b xs)
     go true = omega arith
-    go false = let e = length-onFirst x (parts b xs) (parts-some b xs) in omega arith
+    go false = let e = length-onFirst x (parts b xs) (parts-exist b xs) in omega arith
 
 pub one-more-part : (b : ℕ) (text : List ℕ) (i to : ℕ) → i < to → to ≤ length text → getD text i 0 ≡ b → length (parts b (between i to text)) ≡ 1 + length (parts b (between (i + 1) to text))
 one-more-part b text i to h k e =
     ap (λ (l : List ℕ). length (parts b l)) (between-more text i to h k) ∙ parts-length b (getD text i 0) (between (i + 1) to text)
-    ∙ ap (λ (t : Bool). cond t 1 0 + length (parts b (between (i + 1) to text))) (eqb-yes (getD text i 0) b e)
+    ∙ ap (λ (t : Bool). cond t 1 0 + length (parts b (between (i + 1) to text))) (eq-eqb (getD text i 0) b e)
 
 pub no-more-parts : (b : ℕ) (text : List ℕ) (i to : ℕ) → i < to → to ≤ length text → (getD text i 0 ≡ b → ⊥) → length (parts b (between i to text)) ≡ length (parts b (between (i + 1) to text))
 no-more-parts b text i to h k e =
     let f : length (parts b (between i to text)) ≡ 0 + length (parts b (between (i + 1) to text)) =
     ap (λ (l : List ℕ). length (parts b l)) (between-more text i to h k) ∙ parts-length b (getD text i 0) (between (i + 1) to text)
-    ∙ ap (λ (t : Bool). cond t 1 0 + length (parts b (between (i + 1) to text))) (eqb-no (getD text i 0) b e) in
+    ∙ ap (λ (t : Bool). cond t 1 0 + length (parts b (between (i + 1) to text))) (ne-eqb (getD text i 0) b e) in
     omega arith
 
 pub one-part : (b : ℕ) (text : List ℕ) (i to : ℕ) → to ≤ i → length (parts b (between i to text)) ≡ 1
@@ -156,9 +136,9 @@ next-part b k (x ∷ xs) h = go (eqb x b) (eqb b x) (eqb-flip x b) h (λ (l : 1 
         × (getD (cond s ([] ∷ parts b xs) (onFirst x (parts b xs))) (suc k) [] ≡ getD (parts b (drop (suc (cond t 0 (suc (before (eqb b) xs)))) (x ∷ xs))) k [])
     go true true e h r = (omega arith, refl, refl)
     go false false e h r =
-        let f = length-onFirst x (parts b xs) (parts-some b xs) in
+        let f = length-onFirst x (parts b xs) (parts-exist b xs) in
         let n = r (omega arith) in
-        (omega (arith, n .0), f ∙ n .1, getD-onFirst-more x k (parts b xs) (parts-some b xs) ∙ n .2)
+        (omega (arith, n .0), f ∙ n .1, getD-onFirst-more x k (parts b xs) (parts-exist b xs) ∙ n .2)
     go true false e h r = absurd (subst T e tt)
     go false true e h r = absurd (subst T (sym e) tt)
 
@@ -166,7 +146,7 @@ next-part b k (x ∷ xs) h = go (eqb x b) (eqb b x) (eqb-flip x b) h (λ (l : 1 
 pub field-first : (b : ℕ) (text : List ℕ) (i to r : ℕ) → i ≤ to → to ≤ length text → r ≡ i + before (eqb b) (between i to text) → between i r text ≡ getD (parts b (between i to text)) 0 []
 field-first b text i to r h k e =
     let l = length-between text i to k h in
-    let m = before-le (eqb b) (between i to text) in
+    let m = before-few (eqb b) (between i to text) in
     let f : r - i ≡ before (eqb b) (between i to text) = omega arith in
     ap (λ (n : ℕ). take n (drop i text)) f ∙ sym (take-take (before (eqb b) (between i to text)) (to - i) (drop i text) (omega arith)) ∙ sym (first-part b (between i to text))
 
@@ -195,18 +175,12 @@ module _ (p : ℕ → Bool) (text : List ℕ) (i to : ℕ) where
   pub all-ends : to ≤ i → all p (between i to text) ≡ true
   all-ends h = ap (λ (l : List ℕ). all p l) (between-none text i to h)
 
-leb-no : (x y : ℕ) → y < x → leb x y ≡ false
-leb-no x y h = is-false (leb x y) (λ t. let k = leb→le x y t in omega arith)
-
-leb-yes : (x y : ℕ) → x ≤ y → leb x y ≡ true
-leb-yes x y h = is-true (leb x y) (le→leb x y h)
-
 -- `0` or `1`
 abbrev pub isCell : ℕ → Bool
 isCell x = eqb x 48 || eqb x 49
 
 pub cell-no : (x : ℕ) → (x < 48) ⊎ (49 < x) → isCell x ≡ false
-cell-no x h = ap₂ (λ (s t : Bool). s || t) (eqb-no x 48 (λ e. first h e)) (eqb-no x 49 (λ e. second h e))
+cell-no x h = ap₂ (λ (s t : Bool). s || t) (ne-eqb x 48 (λ e. first h e)) (ne-eqb x 49 (λ e. second h e))
   where
     first : (x < 48) ⊎ (49 < x) → x ≡ 48 → ⊥
     first (inl a) e = omega arith
@@ -227,15 +201,15 @@ cell-yes x h k = go (decide (eqb x 48))
     go (inl t) = ap (λ (b : Bool). b || eqb x 49) (is-true (eqb x 48) t)
     go (inr t) =
         let d : x ≡ 48 → ⊥ = λ e. clash (eqb x 48) (eqb-of e) t in
-        ap (λ (b : Bool). eqb x 48 || b) (eqb-yes x 49 (omega arith)) ∙ other (eqb x 48)
+        ap (λ (b : Bool). eqb x 48 || b) (eq-eqb x 49 (omega arith)) ∙ other (eqb x 48)
 
 pub digit-low : (x : ℕ) → x < 48 → false ≡ isDigit x
 unfolding isDigit
-digit-low x h = sym (ap (λ (b : Bool). b && leb x 57) (leb-no 48 x h))
+digit-low x h = sym (ap (λ (b : Bool). b && leb x 57) (lt-leb 48 x h))
 
 pub digit-high : (x : ℕ) → 48 ≤ x → leb x 57 ≡ isDigit x
 unfolding isDigit
-digit-high x h = sym (ap (λ (b : Bool). b && leb x 57) (leb-yes 48 x h))
+digit-high x h = sym (ap (λ (b : Bool). b && leb x 57) (le-leb 48 x h))
 
 digit-range : (x : ℕ) → T (isDigit x) → (48 ≤ x) × (x ≤ 57)
 unfolding isDigit
@@ -246,10 +220,6 @@ not-empty : (xs : List ℕ) → 0 < length xs → not (isEmpty xs) ≡ true
 not-empty [] h = absurd (omega arith)
 not-empty (x ∷ xs) h = refl
 
-and-no : (b : Bool) → (b && false) ≡ false
-and-no true = refl
-and-no false = refl
-
 pub number-empty : (most : ℕ) (text : List ℕ) (i to : ℕ) → to ≤ i → false ≡ isNumber most (between i to text)
 unfolding isNumber
 number-empty most text i to h = sym (ap (λ (l : List ℕ). not (isEmpty l) && (leb (length l) most && all isDigit l)) (between-none text i to h))
@@ -258,13 +228,13 @@ pub number-long : (most : ℕ) (text : List ℕ) (i to : ℕ) → i ≤ to → t
 unfolding isNumber
 number-long most text i to h k l =
     let e = length-between text i to k h in
-    sym (ap (λ (b : Bool). not (isEmpty (between i to text)) && (b && all isDigit (between i to text))) (leb-no (length (between i to text)) most (omega arith)) ∙ and-no (not (isEmpty (between i to text))))
+    sym (ap (λ (b : Bool). not (isEmpty (between i to text)) && (b && all isDigit (between i to text))) (lt-leb (length (between i to text)) most (omega arith)) ∙ and-no (not (isEmpty (between i to text))))
 
 pub number-digits : (most : ℕ) (text : List ℕ) (i to : ℕ) → i < to → to ≤ length text → to - i ≤ most → all isDigit (between i to text) ≡ isNumber most (between i to text)
 unfolding isNumber
 number-digits most text i to h k l =
     let e = length-between text i to k (omega arith) in
-    sym (ap₂ (λ (a b : Bool). a && (b && all isDigit (between i to text))) (not-empty (between i to text) (omega arith)) (leb-yes (length (between i to text)) most (omega arith)))
+    sym (ap₂ (λ (a b : Bool). a && (b && all isDigit (between i to text))) (not-empty (between i to text) (omega arith)) (le-leb (length (between i to text)) most (omega arith)))
 
 pub number-is : (most : ℕ) (ds : List ℕ) → T (isNumber most ds) → (length ds ≤ most) × T (all isDigit ds)
 unfolding isNumber
@@ -319,12 +289,12 @@ pub word-more : (text word : List ℕ) (from i to : ℕ) → from + i < to → t
     → same (between (from + (i + 1)) to text) (drop (i + 1) word) ≡ same (between (from + i) to text) (drop i word)
 word-more text word from i to h k l e =
     ap₂ (λ (a b : ℕ). same (between a to text) (drop b word)) (omega arith) (add-one i)
-    ∙ sym (word-step text word (from + i) i to h k l ∙ ap (λ (b : Bool). b && same (between (from + i + 1) to text) (drop (suc i) word)) (eqb-yes (getD text (from + i) 0) (getD word i 0) e))
+    ∙ sym (word-step text word (from + i) i to h k l ∙ ap (λ (b : Bool). b && same (between (from + i + 1) to text) (drop (suc i) word)) (eq-eqb (getD text (from + i) 0) (getD word i 0) e))
 
 pub word-stops : (text word : List ℕ) (from i to : ℕ) → from + i < to → to ≤ length text → i < length word → (getD text (from + i) 0 ≡ getD word i 0 → ⊥)
     → same (between (from + i) to text) (drop i word) ≡ false
 word-stops text word from i to h k l e =
-    word-step text word (from + i) i to h k l ∙ ap (λ (b : Bool). b && same (between (from + i + 1) to text) (drop (suc i) word)) (eqb-no (getD text (from + i) 0) (getD word i 0) e)
+    word-step text word (from + i) i to h k l ∙ ap (λ (b : Bool). b && same (between (from + i + 1) to text) (drop (suc i) word)) (ne-eqb (getD text (from + i) 0) (getD word i 0) e)
 
 pub word-ends : (text word : List ℕ) (i j to : ℕ) → to ≤ i → length word ≤ j → same (between i to text) (drop j word) ≡ true
 word-ends text word i j to h k = ap₂ (λ (xs ys : List ℕ). same xs ys) (between-none text i to h) (drop-of-length-le word k)

@@ -1,3 +1,2 @@
 pub mod Stretches
-pub mod Put
 pub mod Reading

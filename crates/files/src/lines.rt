@@ -32,7 +32,8 @@ fn is_grid_in(text: &[u8], line: Span, n: usize) -> bool
     cells.to - cells.from == volume
 }
 
-pub fn is_config(text: &[u8], line: Span) -> bool
+// Whether a line is the configuration: the word, an engine, and what is identified.
+fn is_config(text: &[u8], line: Span) -> bool
     requires { ⌜ Within line (now text) ⌝ }
     ensures { λ r. ⌜ r ≡ isConfig (stretch line (now (text .entry))) ⌝ }
 {
@@ -58,7 +59,8 @@ pub fn is_config(text: &[u8], line: Span) -> bool
     spans::is_word(text, identified, b"mirrored")
 }
 
-pub fn is_board(text: &[u8], line: Span) -> bool
+// Whether a line is the board: the word and a grid.
+fn is_board(text: &[u8], line: Span) -> bool
     requires { ⌜ Within line (now text) ⌝ }
     ensures { λ r. ⌜ r ≡ isBoard (stretch line (now (text .entry))) ⌝ }
 {
@@ -98,7 +100,8 @@ fn has_piece_fields(text: &[u8], line: Span) -> bool
     is_wood(text, line)
 }
 
-pub fn is_piece(text: &[u8], line: Span) -> bool
+// Whether a line is a piece: the word, a count, a grid, and a wood or none.
+fn is_piece(text: &[u8], line: Span) -> bool
     requires { ⌜ Within line (now text) ⌝ }
     ensures { λ r. ⌜ r ≡ isPiece (stretch line (now (text .entry))) ⌝ }
 {
@@ -138,6 +141,7 @@ pub fn is_file(text: &[u8]) -> bool
     }
     let mut number = 0;
     let mut from = 0;
+    // the lines before `from`, `number` of them, are as they should be
     while from < to {
         let end = spans::find(text, Span { from, to }, 10);
         if end == to {

@@ -4,33 +4,39 @@ ghost use mathlib.Core.Path.{_≡_};
 ghost use mathlib.Core.Bool.{_||_};
 ghost use Prim.Native.Nat.{_+_, _-_, _≤_, _<_};
 ghost use lib.Dec.{T, eqb};
-ghost use Rattle.definitions.specs.Lists.{all};
-ghost use lib.ListN.{drop, length, take};
+ghost use Rattle.lists.specs.Lists.{all};
+ghost use lib.ListN.{drop, length};
 ghost use lib.Seq.{paste};
-ghost use Rattle.definitions.specs.Files.{callIn, fieldsOf, gridIn, hasPieceFields, isConfig, isFile, isGridIn, isPiece, recordAt, woodIn};
-ghost use Rattle.solver.specs.Records.{tableOf};
+ghost use Rattle.definitions.specs.Files.{fieldsOf, gridIn, hasPieceFields, isConfig, isFile, isGridIn, isPiece, recordAt, woodIn};
 ghost use Rattle.files.specs.Stretches.{Within, stretch};
-ghost use Rattle.files.specs.Reading.{Lines, PiecesRead, configIn, pushRow};
+ghost use Rattle.files.specs.Reading.{Asks, FileRead, Lines, PiecesRead, configIn, nothingAsked, pushRow};
+use super::lines;
 use super::spans;
 use super::spans::Span;
 use definitions::Config;
 use definitions::Record;
 use definitions::SolverKind;
 use placements::Table;
-use solver::records;
+use placements::records;
 
 // The pieces of a file: the first 16 records, how many pieces there are, and how many cells they have together.
-pub struct Pieces {
-    pub table: Table,
-    pub used: usize,
+struct Pieces {
+    table: Table,
+    used: usize,
 }
 
-// What a file asks for: its pieces, its board, its configuration, and how many cells they have together.
+// What a text asks for: its pieces, its board, its configuration, and how many cells they have together.
 pub struct Asked {
     pub pieces: Table,
     pub board: Record,
     pub config: Config,
     pub used: usize,
+}
+
+// Whether a text was read, and what it asks for: nothing where it was not.
+pub struct Reading {
+    pub is_read: bool,
+    pub asked: Asked,
 }
 
 // The configuration that the first line gives.
@@ -60,7 +66,9 @@ fn config_in(text: &[u8], line: Span) -> Config
 
 // The record of the grid from field n on, whose cells are lent from a place on.
 fn record_in(text: &[u8], line: Span, n: usize, count: u32, wood: u8, start: usize) -> Record
-    requires { ⌜ Within line (now text) × (n + 4 ≤ length (fieldsOf (stretch line (now text)))) × T (isGridIn n (stretch line (now text))) ⌝ }
+    requires { do
+      let s = stretch line (now text)
+      ⌜ Within line (now text) × (n + 4 ≤ length (fieldsOf s)) × T (isGridIn n s) ⌝ }
     ensures { λ r. ⌜ r ≡ recordAt start (gridIn count wood n (stretch line (now (text .entry)))) ⌝ }
 {
     Record {
@@ -86,12 +94,17 @@ fn wood_in(text: &[u8], line: Span) -> u8
 
 // The cells of a stretch as bytes 0 and 1, from a place on; and the place behind them.
 fn put_cells(text: &[u8], s: Span, cells: &mut [u8], at: usize) -> usize
-    requires { ⌜ Within s (now text) × T (all (λ x. eqb x 48 || eqb x 49) (stretch s (now text))) × (at + (s .to - s .from) ≤ length (now cells)) ⌝ }
-    ensures { λ r. ⌜ (r ≡ at + (s .to - s .from)) × (now (cells .exit) ≡ paste (now (cells .entry)) at (map (λ x. x - 48) (stretch s (now (text .entry)))) (s .to - s .from)) ⌝ }
+    requires { ⌜ Within s (now text) × T (all (λ x. eqb x 48 || eqb x 49) (stretch s (now text)))
+        × (at + (s .to - s .from) ≤ length (now cells)) ⌝ }
+    ensures { λ r. do
+      let n = s .to - s .from
+      let bits = map (λ x. x - 48) (stretch s (now (text .entry)))
+      ⌜ (r ≡ at + n) × (now (cells .exit) ≡ paste (now (cells .entry)) at bits n) ⌝ }
 {
     let from = s.from;
     let n = s.to - from;
     let mut i = 0;
+    // the first i cells stand there
     while i < n {
         cells[at + i] = text[from + i] - 48;
         i += 1;
@@ -115,13 +128,16 @@ fn push_row(t: Table, p: Record) -> Table
 
 // The pieces of the lines from a place on, their cells from the start of a slice on.
 fn read_pieces(text: &[u8], start: usize, cells: &mut [u8]) -> Pieces
-    requires { ⌜ (start ≤ length (now text)) × (length (now text) ≤ 16384) × (16384 ≤ length (now cells)) × Lines isPiece (drop start (now text)) ⌝ }
-    ensures { λ r. ⌜ PiecesRead (drop start (now (text .entry))) (now (cells .entry)) (r .table) (r .used) (now (cells .exit)) × (start + r .used ≤ length (now (text .entry))) ⌝ }
+    requires { ⌜ (start ≤ length (now text)) × (length (now text) ≤ 16384) × (16384 ≤ length (now cells))
+        × Lines isPiece (drop start (now text)) ⌝ }
+    ensures { λ r. ⌜ PiecesRead (drop start (now (text .entry))) (now (cells .entry)) (r .table) (r .used) (now (cells .exit))
+        × (start + r .used ≤ length (now (text .entry))) ⌝ }
 {
     let to = text.len();
     let mut t = records::empty_table(0);
     let mut used = 0;
     let mut from = start;
+    // the pieces of the lines before `from` are in the table, and their cells stand before `used`
     while from < to {
         let end = spans::find(text, Span { from, to }, 10);
         let line = Span { from, to: end };
@@ -136,10 +152,9 @@ fn read_pieces(text: &[u8], start: usize, cells: &mut [u8]) -> Pieces
 }
 
 // What a file asks for. The pieces' cells are lent first, then the board's.
-pub fn read_file(text: &[u8], cells: &mut [u8]) -> Asked
+fn read_lines(text: &[u8], cells: &mut [u8]) -> Asked
     requires { ⌜ T (isFile (now text)) × (16384 ≤ length (now cells)) ⌝ }
-    ensures said { λ r. ⌜ (r .pieces ≡ tableOf (callIn (now (text .entry)) 0 0 .pieces)) × (r .board ≡ callIn (now (text .entry)) 0 0 .board) × (r .config ≡ callIn (now (text .entry)) 0 0 .config) ⌝ }
-    ensures lent { λ r. ⌜ (take (r .used) (now (cells .exit)) ≡ callIn (now (text .entry)) 0 0 .bytes) × (r .used ≤ 16384) × (drop (r .used) (now (cells .exit)) ≡ drop (r .used) (now (cells .entry))) ⌝ }
+    ensures { λ r. ⌜ Asks (now (text .entry)) (now (cells .entry)) r (now (cells .exit)) ⌝ }
 {
     let to = text.len();
     let first = Span {
@@ -162,5 +177,45 @@ pub fn read_file(text: &[u8], cells: &mut [u8]) -> Asked
         board,
         config,
         used,
+    }
+}
+
+// Nothing asked for: no piece, and a board without cells.
+pub fn nothing_asked() -> Asked
+    ensures { λ r. ⌜ r ≡ nothingAsked ⌝ }
+{
+    let pieces = records::empty_table(0);
+    let board = records::no_record();
+    let config = Config {
+        identify_transformed_answers: false,
+        identify_mirrored_answers: false,
+        solver: SolverKind::Fast,
+    };
+    Asked {
+        pieces,
+        board,
+        config,
+        used: 0,
+    }
+}
+
+// What a text asks for, whatever it is: it is read where it is a file of `pack` and 16,384 cells at least are lent. Else nothing is
+// asked for, and the cells stay as they are.
+pub fn read_file(text: &[u8], cells: &mut [u8]) -> Reading
+    ensures { λ r. ⌜ FileRead (now (text .entry)) (now (cells .entry)) r (now (cells .exit)) ⌝ }
+{
+    if 16384 <= cells.len() {
+        if lines::is_file(text) {
+            let asked = read_lines(text, cells);
+            return Reading {
+                is_read: true,
+                asked,
+            };
+        }
+    }
+    let asked = nothing_asked();
+    Reading {
+        is_read: false,
+        asked,
     }
 }

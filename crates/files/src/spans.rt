@@ -4,7 +4,7 @@ ghost use mathlib.Core.Bool.{_||_};
 ghost use Prim.Native.Nat.{_+_, _^_, _≤_, _<_};
 ghost use lib.Dec.{T, eqb};
 ghost use lib.ListN.{length};
-ghost use Rattle.definitions.specs.Lists.{all, before, same};
+ghost use Rattle.lists.specs.Lists.{all, before, same};
 ghost use Rattle.definitions.specs.Files.{field, fieldsOf, isDigit, isNumber, numberIn};
 ghost use Rattle.files.specs.Stretches.{Within, stretch};
 
@@ -21,6 +21,7 @@ pub fn find(text: &[u8], s: Span, byte: u8) -> usize
 {
     let end = s.to;
     let mut i = s.from;
+    // no place of the stretch before i holds the byte
     while i < end {
         if text[i] == byte {
             return i;
@@ -38,6 +39,7 @@ pub fn count_fields(text: &[u8], line: Span) -> usize
     let end = line.to;
     let mut n = 1;
     let mut i = line.from;
+    // n fields begin in the line before i
     while i < end {
         if text[i] == 9 {
             n += 1;
@@ -55,6 +57,7 @@ pub fn field_of(text: &[u8], line: Span, n: usize) -> Span
     let to = line.to;
     let mut from = line.from;
     let mut left = n;
+    // field n - left begins at `from`
     while 0 < left {
         from = find(text, Span { from, to }, 9) + 1;
         left -= 1;
@@ -75,6 +78,7 @@ pub fn is_word(text: &[u8], s: Span, word: &[u8]) -> bool
         return false;
     }
     let mut i = 0;
+    // the first i bytes are the word's
     while i < n {
         if text[s.from + i] != word[i] {
             return false;
@@ -84,6 +88,7 @@ pub fn is_word(text: &[u8], s: Span, word: &[u8]) -> bool
     true
 }
 
+// Whether a byte is a decimal digit.
 fn is_digit(c: u8) -> bool
     ensures { λ r. ⌜ r ≡ isDigit c ⌝ }
 {
@@ -107,6 +112,7 @@ pub fn is_number(text: &[u8], s: Span, most: usize) -> bool
     }
     let end = s.to;
     let mut i = s.from;
+    // the bytes before i are digits
     while i < end {
         if !is_digit(text[i]) {
             return false;
@@ -124,6 +130,7 @@ pub fn number_in(text: &[u8], s: Span) -> usize
     let end = s.to;
     let mut n = 0;
     let mut i = s.from;
+    // n is the number of the digits before i
     while i < end {
         n = n * 10 + (text[i] - 48) as usize;
         i += 1;
@@ -138,6 +145,7 @@ pub fn are_cells(text: &[u8], s: Span) -> bool
 {
     let end = s.to;
     let mut i = s.from;
+    // the bytes before i are `0` or `1`
     while i < end {
         if text[i] < 48 {
             return false;

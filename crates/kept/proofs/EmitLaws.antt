@@ -1,34 +1,32 @@
 -- A packing's answer on the page: an answer has two bytes for each place, so that capacity of them fit. Assumes nothing.
-use Prim.Native.Nat.{ℕ, suc, _+_, _*_, _≤_, _<_}
+use Prim.Native.Nat.{ℕ, _+_, _*_, _≤_, _<_}
 use mathlib.Core.Bool.{Bool, true, false, cond, not}
 use mathlib.Core.List.{List, [], _∷_, map, List·Memᴰ, List·Memᴰ·head, List·Memᴰ·tail, Memᴰ·of-map}
 use mathlib.Core.Path.{_≡_, refl, sym, ap, ap₂, _∙_, subst}
-use native.Mathlib.Nat.{suc-mul, mul-le-mul-right}
 use native.Mathlib.Omega.{arith}
 use lib.Dec.{T, ltb, lt→ltb, ltb→lt}
 use lib.ListN.{length, take}
 use lib.Seq.{paste, length-take-le}
-use Rattle.definitions.specs.Lists.{all, ascending, same}
+use Rattle.lists.specs.Lists.{all, ascending, same}
+use Rattle.lists.proofs.ListLaws.{all-at, all-of}
 use Rattle.definitions.specs.Placements.{Placement}
 use Rattle.definitions.specs.Packing.{ahead, used}
 use Rattle.definitions.specs.Kept.{Identify}
 use Rattle.definitions.specs.Emission.{Emitted, emit}
 use Rattle.definitions.specs.Answers.{Taken}
 use Rattle.definitions.proofs.EmissionLaws.{emit-waited, emit-written}
-use Rattle.definitions.proofs.ListLaws.{all-at, all-of}
+use Rattle.rows.specs.Charts.{scansPart, piecesPart}
 use Rattle.rows.specs.declared.Dims.{Dims}
 use Rattle.rows.specs.Rows.{rowAt}
-use Rattle.rows.specs.Systems.{System, systemIn, ownedIn}
+use Rattle.rows.specs.Systems.{System, systemIn, ownedIn, systemOver}
 use Rattle.rows.specs.Answering.{Held, answersOver, answerBy, copiesBy, pathIn, takenBy}
 use Rattle.kept.specs.Normal.{sortRows, rowOf, ofKind, normal, InKinds}
 use Rattle.kept.specs.Ready.{Ready, OfRows, Fillable}
 use Rattle.kept.specs.Emission.{answerOf, emitKept}
-use Rattle.kept.proofs.SortingLaws.{sort-at, sort-strict, sort-keep}
-use Rattle.kept.proofs.NormalFormLaws.{kinds-many, rows-many, row-of, few-cells, row-kind, row-cells, path-fits, used-is}
+use Rattle.kept.proofs.SortingLaws.{sort-keep, sort-rows-at, sort-rows-ascending}
+use Rattle.kept.proofs.NormalFormLaws.{path-fits, used-is}
 use Rattle.kept.proofs.NormalLaws.{in-kinds, rows-ascend}
-
-pub room : (w capacity n m : ℕ) → w < capacity → capacity * n ≤ m → w * n + n ≤ m
-room w capacity n m h k = let a = mul-le-mul-right n (let i : suc w ≤ capacity = omega arith in i) in let b = suc-mul w n in omega arith
+use Rattle.kept.proofs.ReadyLaws.{few-cells, row-kind, row-on-board, kinds-many, rows-many, row-is}
 
 -- the entry that is waited for, or another
 pub met-or-passed : (s : Emitted) (capacity : ℕ) (entry : List ℕ) → s .further ≡ false → s .waiting ≡ true → (met : Bool) → met ≡ same entry (s .last)
@@ -55,13 +53,13 @@ module _ (ts : List Taken) (scans : List ℕ) (places : ℕ) (h : places ≤ len
       ∙ sym (emit-written capacity entry s f e z k)
 
 -- ---- a packing by its rows in any order
-module _ (d : Dims) (work images scans kinds pieces heads : List ℕ) (ready : Ready d work heads images scans kinds pieces) (path : List ℕ) (n : ℕ) (o : OfRows d path n)
-    (fills : Fillable (systemIn d work images scans kinds pieces) (take n path)) (sorted : List ℕ) (long : length sorted ≡ 128) (is : take n sorted ≡ sortRows (take n path)) where
+module _ (d : Dims) (work chart : List ℕ) (ready : Ready d work chart) (path : List ℕ) (n : ℕ) (o : OfRows d path n)
+    (fills : Fillable (systemIn d work chart) (take n path)) (sorted : List ℕ) (long : length sorted ≡ 128) (is : take n sorted ≡ sortRows (take n path)) where
   abbrev S : System
-  S = systemIn d work images scans kinds pieces
+  S = systemIn d work chart
 
   sorted-row : (r : ℕ) → List·Memᴰ r (take n sorted) → r < d .rows
-  sorted-row r m = ltb→lt r (d .rows) (all-at (λ s. ltb s (d .rows)) (take n path) (o .areRows) (sort-at (take n path) (subst (λ (xs : List ℕ). List·Memᴰ r xs) is m)))
+  sorted-row r m = ltb→lt r (d .rows) (all-at (λ s. ltb s (d .rows)) (take n path) (o .areRows) (sort-rows-at (take n path) (subst (λ (xs : List ℕ). List·Memᴰ r xs) is m)))
 
   pub sorted-rows : OfRows d sorted n
   sorted-rows =
@@ -72,12 +70,12 @@ module _ (d : Dims) (work images scans kinds pieces heads : List ℕ) (ready : R
       }
 
   sorted-up : T (ascending ltb (take n sorted))
-  sorted-up = subst (λ (xs : List ℕ). T (ascending ltb xs)) (sym is) (sort-strict (take n path) (fills .apart))
+  sorted-up = subst (λ (xs : List ℕ). T (ascending ltb xs)) (sym is) (sort-rows-ascending (take n path) (fills .apart))
 
   sorted-in : T (all (λ r. ltb r (length (S .rows))) (take n sorted))
   sorted-in =
       all-of (λ r. ltb r (length (S .rows))) (take n sorted)
-      (λ r m. lt→ltb r (length (S .rows)) (let h = sorted-row r m in let e = rows-many d work images scans kinds pieces in omega arith))
+      (λ r m. lt→ltb r (length (S .rows)) (let h = sorted-row r m in let e = rows-many d work chart in omega arith))
 
   pub sorted-kinds : InKinds S (take n sorted)
   sorted-kinds = in-kinds S (ready .lawful) (take n sorted) sorted-in sorted-up
@@ -85,7 +83,7 @@ module _ (d : Dims) (work images scans kinds pieces heads : List ℕ) (ready : R
   rows-are : (rs : List ℕ) → ((r : ℕ) → List·Memᴰ r rs → r < d .rows) → map (rowOf S) rs ≡ map (rowAt work) rs
   rows-are [] f = refl
   rows-are (r ∷ rs) f =
-      ap₂ (λ (q : Placement) (qs : List Placement). q ∷ qs) (row-of d work images scans kinds pieces r (f r (List·Memᴰ·head refl))) (rows-are rs (λ s m. f s (List·Memᴰ·tail m)))
+      ap₂ (λ (q : Placement) (qs : List Placement). q ∷ qs) (row-is d work chart r (f r (List·Memᴰ·head refl))) (rows-are rs (λ s m. f s (List·Memᴰ·tail m)))
 
   path-is : map (rowOf S) (take n sorted) ≡ pathIn work sorted n
   unfolding pathIn
@@ -97,33 +95,34 @@ module _ (d : Dims) (work images scans kinds pieces heads : List ℕ) (ready : R
       all-of p (map (rowAt work) (take n sorted))
       (λ q m. let v = Memᴰ·of-map (rowAt work) (take n sorted) m in subst (λ (x : Placement). T (p x)) (v .2) (f (v .0) (sorted-row (v .0) (v .1))))
 
-  enough : (k : ℕ) → k < d .kinds → used (pathIn work sorted n) k ≤ length (copiesBy (ownedIn pieces (d .pieces)) k)
-  unfolding systemIn used ofKind
+  enough : (k : ℕ) → k < d .kinds → used (pathIn work sorted n) k ≤ length (copiesBy (ownedIn (piecesPart chart) (d .pieces)) k)
+  unfolding systemIn systemOver used ofKind
   enough k h =
-      let m = kinds-many d work images scans kinds pieces in
-      let a = used-is d work images scans kinds pieces heads ready sorted n sorted-rows k (used (pathIn work sorted n) k) refl in
+      let m = kinds-many d work chart in
+      let a = used-is d work chart ready sorted n sorted-rows k (used (pathIn work sorted n) k) refl in
       let b : length (ofKind S k (take n sorted)) ≡ length (ofKind S k (take n path)) = ap (λ (xs : List ℕ). length (ofKind S k xs)) is ∙ sort-keep _ (take n path) in
       let g = fills .enough k (omega arith) in
       let e = ready .lawful .copiesEach k (omega arith) in
       omega arith
 
-  pub sorted-held : Held d work pieces sorted n
+  pub sorted-held : Held d work chart sorted n
   sorted-held =
       record {
         within = sorted-rows .within;
-        areRows = path-fits d work images scans kinds pieces heads ready sorted n sorted-rows;
-        fewCells = few-cells d work images scans kinds pieces heads ready;
-        fewPieces = (ready .fewPieces, ready .piecesFit);
+        areRows = path-fits d work chart ready sorted n sorted-rows;
+        fewCells = few-cells d work chart (ready .lawful);
+        fewPieces = ready .fewPieces;
+        charted = ready .charted;
         ascend = subst (λ (qs : List Placement). T (ascending ahead qs)) path-is (rows-ascend S (ready .lawful) (take n sorted) sorted-in sorted-up);
-        ofKinds = all-path (λ q. ltb (q .kind) (d .kinds)) (λ r h. lt→ltb (rowAt work r .kind) (d .kinds) (row-kind d work images scans kinds pieces heads ready r h));
-        onBoard = all-path (λ q. all (λ m. ltb m (d .cells)) (q .cells)) (λ r h. row-cells d work images scans kinds pieces heads ready r h);
+        ofKinds = all-path (λ q. ltb (q .kind) (d .kinds)) (λ r h. lt→ltb (rowAt work r .kind) (d .kinds) (row-kind d work chart (ready .lawful) r h));
+        onBoard = all-path (λ q. all (λ m. ltb m (d .cells)) (q .cells)) (λ r h. row-on-board d work chart (ready .lawful) r h);
         enough = enough;
       }
 
-  answer-is : answersOver (takenBy (ownedIn pieces (d .pieces)) (d .kinds) (pathIn work sorted n)) (take (d .places) scans) ≡ answerOf S (take n path)
-  unfolding answerOf answerBy systemIn
+  answer-is : answersOver (takenBy (ownedIn (piecesPart chart) (d .pieces)) (d .kinds) (pathIn work sorted n)) (take (d .places) (scansPart chart)) ≡ answerOf S (take n path)
+  unfolding answerOf answerBy systemIn systemOver
   answer-is =
-      ap₂ (λ (k : ℕ) (qs : List Placement). answersOver (takenBy (ownedIn pieces (d .pieces)) k qs) (take (d .places) scans)) (sym (kinds-many d work images scans kinds pieces))
+      ap₂ (λ (k : ℕ) (qs : List Placement). answersOver (takenBy (ownedIn (piecesPart chart) (d .pieces)) k qs) (take (d .places) (scansPart chart))) (sym (kinds-many d work chart))
       (sym path-is ∙ ap (map (rowOf S)) is)
 
   module _ (i : Identify) (capacity : ℕ) (e : Emitted) (r : Bool) (v : r ≡ normal S i (take n sorted)) where
@@ -134,7 +133,7 @@ module _ (d : Dims) (work images scans kinds pieces heads : List ℕ) (ready : R
     unfolding emitKept
     emit-left w = ap (λ (b : Bool). cond b (emit capacity (answerOf S (take n path)) e) e) (sym (decided false w))
 
-    pub emit-put : r ≡ true → (a : Emitted) → a ≡ emit capacity (answersOver (takenBy (ownedIn pieces (d .pieces)) (d .kinds) (pathIn work sorted n)) (take (d .places) scans)) e
+    pub emit-put : r ≡ true → (a : Emitted) → a ≡ emit capacity (answersOver (takenBy (ownedIn (piecesPart chart) (d .pieces)) (d .kinds) (pathIn work sorted n)) (take (d .places) (scansPart chart))) e
         → a ≡ emitKept S i capacity (take n path) e
     unfolding emitKept
     emit-put w a g =

@@ -1,118 +1,32 @@
 -- Rows chosen in any order are the packing of the same rows in ascending order, and this packing's rows have the same numbers. Assumes nothing.
 use Prim.Native.Nat.{ℕ, zero, suc, _<_}
-use mathlib.Core.Bool.{Bool, true, false, cond, _&&_}
-use mathlib.Core.List.{List, [], _∷_, _++_, map, List·Memᴰ, List·Memᴰ·head, List·Memᴰ·tail, List·Memᴰ·not-nil, List·Memᴰ·cases-cons, Memᴰ·cast, Memᴰ·map, Memᴰ·of-map}
-use mathlib.Core.Path.{_≡_, refl, sym, ap, _∙_, subst}
+use mathlib.Core.Bool.{Bool, true, false, cond}
+use mathlib.Core.List.{List, [], _∷_, _++_, map, List·Memᴰ, List·Memᴰ·head, List·Memᴰ·tail, List·Memᴰ·not-nil, List·Memᴰ·cases-cons, Memᴰ·cast, Memᴰ·map, Memᴰ·of-map, map-map}
+use mathlib.Core.Path.{_≡_, refl, sym, ap, _∙_}
 use mathlib.Core.Logic.{_⊎_, inl, inr}
 use native.Mathlib.Omega.{arith}
-use borrow.Author.Tests.{ltb-true, ltb-false}
 use lib.Dec.{T, ltb, ltb→lt, lt→ltb}
 use lib.ListN.{length, getD}
-use Rattle.definitions.specs.Lists.{consIf, all, before, put, ascending, Apart}
+use Rattle.lists.specs.Lists.{consIf, all, before, put, ascending, Apart}
+use Rattle.lists.proofs.TestLaws.{and-right, is-true, is-false}
+use Rattle.lists.proofs.ListLaws.{getD-mem, all-at, all-of, map-still}
+use Rattle.lists.proofs.SortLaws.{put-at, put-tail, put-ascending, not-again, ascending-unique, ascending-apart}
 use Rattle.definitions.specs.Placements.{Placement}
 use Rattle.definitions.specs.Packing.{ahead, samePlacement}
 use Rattle.definitions.specs.Kept.{Identify}
 use Rattle.definitions.specs.Emission.{Emitted, emit, emits}
-use Rattle.definitions.proofs.ListLaws.{and-left, and-right, and-both, all-at, all-of, is-true, is-false, put-at, put-tail, put-ascending, not-again, ascending-unique, ascending-apart}
-use Rattle.definitions.proofs.MapLaws.{map-map-of}
 use Rattle.definitions.proofs.PackingLaws.{ahead-trans, ahead-irrefl, samePlacement-refl, samePlacement→eq}
 use Rattle.rows.specs.Systems.{System}
 use Rattle.rows.specs.Lawful.{Lawful}
 use Rattle.rows.specs.Answering.{answerBy}
-use Rattle.kept.specs.Normal.{insertRow, sortRows, rowOf, noRow, normal}
+use Rattle.kept.specs.Normal.{sortRows, rowOf, noRow, normal}
 use Rattle.kept.specs.Emission.{answerOf, emitKept}
 use Rattle.kept.specs.Entries.{numbersOf, entries, putAll}
-use Rattle.rows.proofs.SystemMapLaws.{map-still}
 use Rattle.kept.proofs.NormalLaws.{rows-ascend}
-
--- ---- numbers in ascending order
-insert-at : (r : ℕ) (ys : List ℕ) {z : ℕ} → List·Memᴰ z (insertRow r ys) → (z ≡ r) ⊎ List·Memᴰ z ys
-insert-at r [] m = List·Memᴰ·cases-cons m
-insert-at r (y ∷ ys) {z} m = go (ltb y r) m (λ (k : List·Memᴰ z (insertRow r ys)). insert-at r ys k)
-  where
-    down : (z ≡ r) ⊎ List·Memᴰ z ys → (z ≡ r) ⊎ List·Memᴰ z (y ∷ ys)
-    down (inl e) = inl e
-    down (inr k) = inr (List·Memᴰ·tail k)
-
-    at : (z ≡ y) ⊎ List·Memᴰ z (insertRow r ys) → (List·Memᴰ z (insertRow r ys) → (z ≡ r) ⊎ List·Memᴰ z ys) → (z ≡ r) ⊎ List·Memᴰ z (y ∷ ys)
-    at (inl e) f = inr (List·Memᴰ·head e)
-    at (inr k) f = down (f k)
-
-    go : (b : Bool) → List·Memᴰ z (cond b (y ∷ insertRow r ys) (r ∷ y ∷ ys)) → (List·Memᴰ z (insertRow r ys) → (z ≡ r) ⊎ List·Memᴰ z ys) → (z ≡ r) ⊎ List·Memᴰ z (y ∷ ys)
-    go true k f = at (List·Memᴰ·cases-cons k) f
-    go false k f = List·Memᴰ·cases-cons k
-
-insert-head : (r : ℕ) (ys : List ℕ) → List·Memᴰ r (insertRow r ys)
-insert-head r [] = List·Memᴰ·head refl
-insert-head r (y ∷ ys) = go (ltb y r) (insert-head r ys)
-  where
-    go : (b : Bool) → List·Memᴰ r (insertRow r ys) → List·Memᴰ r (cond b (y ∷ insertRow r ys) (r ∷ y ∷ ys))
-    go true m = List·Memᴰ·tail m
-    go false m = List·Memᴰ·head refl
-
-insert-tail : (r : ℕ) (ys : List ℕ) {z : ℕ} → List·Memᴰ z ys → List·Memᴰ z (insertRow r ys)
-insert-tail r [] m = absurd (List·Memᴰ·not-nil m)
-insert-tail r (y ∷ ys) {z} m = go (ltb y r) (List·Memᴰ·cases-cons m) (λ (k : List·Memᴰ z ys). insert-tail r ys k)
-  where
-    go : (b : Bool) → (z ≡ y) ⊎ List·Memᴰ z ys → (List·Memᴰ z ys → List·Memᴰ z (insertRow r ys)) → List·Memᴰ z (cond b (y ∷ insertRow r ys) (r ∷ y ∷ ys))
-    go true (inl e) f = List·Memᴰ·head e
-    go true (inr k) f = List·Memᴰ·tail (f k)
-    go false k f = List·Memᴰ·tail m
-
-insert-ascending : (r : ℕ) (ys : List ℕ) → T (ascending ltb ys) → (List·Memᴰ r ys → ⊥) → T (ascending ltb (insertRow r ys))
-insert-ascending r [] t d = tt
-insert-ascending r (y ∷ ys) t d = go (ltb y r) refl (insert-ascending r ys (and-right (all (ltb y) ys) (ascending ltb ys) t) (λ m. d (List·Memᴰ·tail m)))
-  where
-    rest : T (all (ltb y) ys)
-    rest = and-left (all (ltb y) ys) (ascending ltb ys) t
-
-    at : {z : ℕ} → T (ltb y r) → (z ≡ r) ⊎ List·Memᴰ z ys → T (ltb y z)
-    at k (inl e) = subst (λ (w : ℕ). T (ltb y w)) (sym e) k
-    at k (inr m) = all-at (ltb y) ys rest m
-
-    differ : r ≡ y → ⊥
-    differ e = d (List·Memᴰ·head e)
-
-    go : (b : Bool) → ltb y r ≡ b → T (ascending ltb (insertRow r ys)) → T (ascending ltb (cond b (y ∷ insertRow r ys) (r ∷ y ∷ ys)))
-    go true e h =
-        and-both (all (ltb y) (insertRow r ys)) (ascending ltb (insertRow r ys))
-        (all-of (ltb y) (insertRow r ys) (λ z m. at (lt→ltb y r (ltb-true y r e)) (insert-at r ys m))) h
-    go false e h =
-        let k = ltb-false y r e in
-        let l : r < y = omega (arith, differ) in
-        and-both (ltb r y && all (ltb r) ys) (all (ltb y) ys && ascending ltb ys)
-        (and-both (ltb r y) (all (ltb r) ys) (lt→ltb r y l) (all-of (ltb r) ys (λ z m. let j = ltb→lt y z (all-at (ltb y) ys rest m) in lt→ltb r z (omega arith)))) t
-
-pub sort-rows-at : (rs : List ℕ) {z : ℕ} → List·Memᴰ z (sortRows rs) → List·Memᴰ z rs
-sort-rows-at [] m = m
-sort-rows-at (r ∷ rs) {z} m = go (insert-at r (sortRows rs) m) (λ (k : List·Memᴰ z (sortRows rs)). sort-rows-at rs k)
-  where
-    go : (z ≡ r) ⊎ List·Memᴰ z (sortRows rs) → (List·Memᴰ z (sortRows rs) → List·Memᴰ z rs) → List·Memᴰ z (r ∷ rs)
-    go (inl e) f = List·Memᴰ·head e
-    go (inr k) f = List·Memᴰ·tail (f k)
-
-pub sort-rows-of : (rs : List ℕ) {z : ℕ} → List·Memᴰ z rs → List·Memᴰ z (sortRows rs)
-sort-rows-of [] m = m
-sort-rows-of (r ∷ rs) {z} m = go (List·Memᴰ·cases-cons m) (λ (k : List·Memᴰ z rs). sort-rows-of rs k)
-  where
-    go : (z ≡ r) ⊎ List·Memᴰ z rs → (List·Memᴰ z rs → List·Memᴰ z (sortRows rs)) → List·Memᴰ z (insertRow r (sortRows rs))
-    go (inl e) f = Memᴰ·cast e (insert-head r (sortRows rs))
-    go (inr k) f = insert-tail r (sortRows rs) (f k)
-
-pub sort-rows-ascending : (rs : List ℕ) → Apart rs → T (ascending ltb (sortRows rs))
-sort-rows-ascending [] h = tt
-sort-rows-ascending (r ∷ rs) h = insert-ascending r (sortRows rs) (sort-rows-ascending rs (h .1)) (λ m. h .0 (sort-rows-at rs m))
+use Rattle.kept.proofs.NormalRowLaws.{row-of-in}
+use Rattle.kept.proofs.SortingLaws.{sort-rows-at, sort-rows-of, sort-rows-ascending}
 
 -- ---- a row has its number
-pub getD-mem : {A : Type 0} (d : A) (xs : List A) (r : ℕ) → r < length xs → List·Memᴰ (getD xs r d) xs
-getD-mem d [] r h = absurd (omega arith)
-getD-mem d (x ∷ xs) zero h = List·Memᴰ·head refl
-getD-mem d (x ∷ xs) (suc r) h = List·Memᴰ·tail (getD-mem d xs r (omega arith))
-
-pub row-in : (s : System) (r : ℕ) → r < length (s .rows) → List·Memᴰ (rowOf s r) (s .rows)
-unfolding rowOf
-row-in s r h = getD-mem noRow (s .rows) r h
-
 number-at : (d : Placement) (qs : List Placement) → T (ascending ahead qs) → (r : ℕ) → r < length qs → before (samePlacement (getD qs r d)) qs ≡ r
 number-at d [] t r h = absurd (omega arith)
 number-at d (q ∷ qs) t zero h = ap {B = ℕ} (λ (b : Bool). cond b 0 (suc (before (samePlacement q) qs))) (is-true (samePlacement q q) (samePlacement-refl q))
@@ -125,7 +39,7 @@ number-at d (q ∷ qs) t (suc r) h =
 pub numbers-back : (s : System) → Lawful s → (rs : List ℕ) → T (all (λ r. ltb r (length (s .rows))) rs) → numbersOf s (map (rowOf s) rs) ≡ rs
 unfolding numbersOf rowOf
 numbers-back s law rs t =
-    map-map-of (λ q. before (samePlacement q) (s .rows)) (rowOf s) rs
+    map-map (λ q. before (samePlacement q) (s .rows)) (rowOf s) rs
     ∙ map-still (λ r. before (samePlacement (rowOf s r)) (s .rows)) rs
     (λ r m. number-at noRow (s .rows) (law .inOrder) r (ltb→lt r (length (s .rows)) (all-at (λ i. ltb i (length (s .rows))) rs t m)))
 
@@ -190,7 +104,7 @@ module _ (s : System) (law : Lawful s) (rs : List ℕ) (rows : T (all (λ r. ltb
   sorted-rows = all-of (λ r. ltb r (length (s .rows))) (sortRows rs) (λ r m. lt→ltb r (length (s .rows)) (row-below (sort-rows-at rs m)))
 
   all-rows : (q : Placement) → List·Memᴰ q (map (rowOf s) rs) → List·Memᴰ q (s .rows)
-  all-rows q m = let r = Memᴰ·of-map (rowOf s) rs m in Memᴰ·cast (sym (r .2)) (row-in s (r .0) (row-below (r .1)))
+  all-rows q m = let r = Memᴰ·of-map (rowOf s) rs m in Memᴰ·cast (sym (r .2)) (row-of-in s (r .0) (row-below (r .1)))
 
   pub packing-sorted : putAll [] (map (rowOf s) rs) ≡ map (rowOf s) (sortRows rs)
   packing-sorted =

@@ -6,8 +6,4 @@ pub mod EmitLaws
 pub mod NormalFormLaws
 pub mod LeafLaws
 pub mod EntryLaws
-pub mod ClearingLaws
 pub mod ReadyLaws
-pub mod PreparedLaws
-pub mod CallLaws
-pub mod BehindLaws

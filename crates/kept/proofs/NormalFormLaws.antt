@@ -1,100 +1,39 @@
 -- Whether a packing is kept, as the code finds out: kind by kind, row by row, equal beginnings decide nothing. Assumes nothing.
-use Prim.Native.Nat.{ℕ, zero, suc, _+_, _-_, _*_, _≤_, _<_}
+use Prim.Native.Nat.{ℕ, suc, _+_, _-_, _*_, _≤_, _<_}
 use mathlib.Core.Bool.{Bool, true, false, cond, not, _&&_, _||_}
-use mathlib.Core.List.{List, [], _∷_, _++_, map, List·Memᴰ, List·Memᴰ·head, List·Memᴰ·tail, Memᴰ·map}
+use mathlib.Core.List.{List, [], _∷_, _++_, map}
 use mathlib.Core.Path.{_≡_, refl, sym, ap, ap₂, _∙_, subst}
 use native.Mathlib.Numerals.{add-one}
 use native.Mathlib.Omega.{arith}
-use borrow.Author.Tests.{lt-ltb, le-ltb, le-leb, lt-leb, leb-true, leb-false, eq-eqb, ne-eqb}
+use borrow.Author.Tests.{le-leb, lt-leb, eq-eqb, ne-eqb}
 use lib.Dec.{T, ltb, leb, eqb, lt→ltb, ltb→lt}
-use lib.ListN.{length, take, drop, getD, length-map, length-drop, length-append, drop-of-length-le, List·getD-append, List·getD-eq-default}
+use lib.ListN.{length, take, drop, getD, length-drop, length-append, drop-of-length-le, List·getD-append, List·getD-eq-default}
 use lib.Seq.{length-take-le, drop-cons, drop-drop, getD-take, getD-drop, drop-at}
-use Rattle.definitions.specs.Lists.{consIf, keep, all, each, howMany, before, from, below, same, less, ascending}
+use Rattle.lists.specs.Lists.{consIf, keep, all, each, howMany, from, below, same, less, ascending}
+use Rattle.lists.proofs.TestLaws.{and-true, and-left, and-right}
+use Rattle.lists.proofs.ListLaws.{all-same, all-append, before-few, all-at, all-of, all-map}
+use Rattle.lists.proofs.SortLaws.{less-level, less-over, less-under}
+use Rattle.lists.proofs.RangeLaws.{all-failed, all-next, from-start, from-end, from-next, getD-below, from-at, from-append}
+use Rattle.lists.proofs.NthLaws.{nth-mem, nth-at}
 use Rattle.definitions.specs.Placements.{Placement}
 use Rattle.definitions.specs.Refusals.{identifies}
-use Rattle.definitions.proofs.ListLaws.{and-left, and-right, all-at, all-of, below-of, from-of, from-at, length-below, all-map}
-use Rattle.definitions.proofs.GroupLaws.{from-append}
-use Rattle.definitions.proofs.WellMadeLaws.{nth-mem}
-use Rattle.definitions.proofs.KindLaws.{nth-at}
+use Rattle.rows.specs.Charts.{kindsPart, imagesOf}
 use Rattle.rows.specs.declared.Dims.{Dims}
 use Rattle.rows.specs.Rows.{rowAt, rowsIn}
-use Rattle.rows.specs.Chains.{FirstCells}
-use Rattle.rows.specs.Systems.{System, systemIn, imagesIn, kindBy, movedBy, rowWith}
-use Rattle.rows.specs.Lawful.{Permutes, allowed}
+use Rattle.rows.specs.Systems.{System, systemIn, imagesIn, kindBy, movedBy, rowWith, systemOver}
 use Rattle.rows.specs.Answering.{pathIn}
-use Rattle.kept.specs.Normal.{insertRow, sortRows, noRow, rowOf, ofKind, imageOf, movedRows, counted, keyOf, imageKey, imageSmaller, mirrorable, normal, InKinds}
+use Rattle.kept.specs.Normal.{insertRow, sortRows, rowOf, ofKind, imageOf, movedRows, counted, keyOf, imageKey, imageSmaller, mirrorable, normal, InKinds}
 use Rattle.kept.specs.Ready.{Ready, OfRows}
+use Rattle.kept.proofs.ReadyLaws.{kinds-many, rows-many, row-is, few-rows}
 use Rattle.kept.proofs.SortingLaws.{path-more, path-none, sort-ascends}
 
 -- ---- lists
-getD-map-from : {A : Type 0} (f : ℕ → A) (e : A) (i n k : ℕ) → k < n → getD (map f (from i n)) k e ≡ f (i + k)
-getD-map-from f e i zero k h = absurd (omega arith)
-getD-map-from f e i (suc n) zero h = let z : i ≡ i + 0 = omega arith in ap f z
-getD-map-from f e i (suc n) (suc k) h = let z : suc i + k ≡ i + suc k = omega arith in getD-map-from f e (suc i) n k (omega arith) ∙ ap f z
-
-getD-map-below : {A : Type 0} (f : ℕ → A) (e : A) (n k : ℕ) → k < n → getD (map f (below n)) k e ≡ f k
-getD-map-below f e n k h = let z : 0 + k ≡ k = omega arith in getD-map-from f e 0 n k h ∙ ap f z
-
-before-few : {A : Type 0} (p : A → Bool) (xs : List A) → before p xs ≤ length xs
-before-few p [] = omega arith
-before-few p (x ∷ xs) = go (p x) (before-few p xs)
-  where
-    go : (b : Bool) → before p xs ≤ length xs → cond b 0 (suc (before p xs)) ≤ suc (length xs)
-    go true h = omega arith
-    go false h = omega arith
-
-from-next : (k n : ℕ) → k < n → from k (n - k) ≡ k ∷ from (k + 1) (n - (k + 1))
-from-next k n h =
-    let a : n - k ≡ suc (n - (k + 1)) = omega arith in
-    ap (from k) a ∙ ap (λ (j : ℕ). k ∷ from j (n - (k + 1))) (sym (add-one k))
-
-from-none : (k n : ℕ) → n ≤ k → from k (n - k) ≡ []
-from-none k n h = let a : n - k ≡ 0 = omega arith in ap (from k) a
-
-from-start : (n : ℕ) → from 0 (n - 0) ≡ below n
-from-start n = let a : n - 0 ≡ n = omega arith in ap (from 0) a
-
-module _ {A : Type 0} where
-  all-append : (p : A → Bool) (xs ys : List A) → all p (xs ++ ys) ≡ all p xs && all p ys
-  all-append p [] ys = refl
-  all-append p (x ∷ xs) ys = go (p x) (all-append p xs ys)
-    where
-      go : (b : Bool) → all p (xs ++ ys) ≡ all p xs && all p ys → b && all p (xs ++ ys) ≡ (b && all p xs) && all p ys
-      go true e = e
-      go false e = refl
-
-  all-same : (p q : A → Bool) (xs : List A) → ((x : A) → List·Memᴰ x xs → p x ≡ q x) → all p xs ≡ all q xs
-  all-same p q [] f = refl
-  all-same p q (x ∷ xs) f = ap₂ (λ (a b : Bool). a && b) (f x (List·Memᴰ·head refl)) (all-same p q xs (λ y m. f y (List·Memᴰ·tail m)))
-
-and-true : (b : Bool) → b && true ≡ b
-and-true true = refl
-and-true false = refl
-
 -- a test of each number below n, from k on
 module _ (p : ℕ → Bool) (k n : ℕ) where
   pub all-start : (j : ℕ) → j ≡ 0 → all p (from j (n - j)) ≡ all p (below n)
   all-start j e = ap (λ (i : ℕ). all p (from i (n - i))) e ∙ ap (all p) (from-start n)
 
-  pub all-end : n ≤ k → all p (from k (n - k)) ≡ true
-  all-end h = ap (all p) (from-none k n h)
-
-  pub all-pass : k < n → p k ≡ true → all p (from k (n - k)) ≡ all p (from (k + 1) (n - (k + 1)))
-  all-pass h e = ap (all p) (from-next k n h) ∙ ap (λ (b : Bool). b && all p (from (k + 1) (n - (k + 1)))) e
-
-  pub all-fail : k < n → p k ≡ false → all p (from k (n - k)) ≡ false
-  all-fail h e = ap (all p) (from-next k n h) ∙ ap (λ (b : Bool). b && all p (from (k + 1) (n - (k + 1)))) e
-
 -- ---- the order of lists
-less-under : (a b : ℕ) (xs ys : List ℕ) → a < b → less (a ∷ xs) (b ∷ ys) ≡ true
-less-under a b xs ys h = ap (λ (t : Bool). t || (eqb a b && less xs ys)) (lt-ltb a b h)
-
-less-over : (a b : ℕ) (xs ys : List ℕ) → b < a → less (a ∷ xs) (b ∷ ys) ≡ false
-less-over a b xs ys h = ap₂ (λ (t u : Bool). t || (u && less xs ys)) (le-ltb a b (omega arith)) (ne-eqb a b (λ e. omega arith))
-
-less-level : (a b : ℕ) (xs ys : List ℕ) → a ≡ b → less (a ∷ xs) (b ∷ ys) ≡ less xs ys
-less-level a b xs ys e = ap₂ (λ (t u : Bool). t || (u && less xs ys)) (le-ltb a b (omega arith)) (eq-eqb a b e)
-
 -- a list for each kind, with its length before it, from kind k on
 abbrev pub keyFrom : (ℕ → List ℕ) → ℕ → ℕ → List ℕ
 keyFrom A n k = each (from k (n - k)) (λ j. counted (A j))
@@ -108,7 +47,7 @@ module _ (A B : ℕ → List ℕ) (n : ℕ) where
   lessAt k i = less (drop i (A k) ++ keyFrom A n (k + 1)) (drop i (B k) ++ keyFrom B n (k + 1))
 
   pub less-end : (k : ℕ) → n ≤ k → lessFrom k ≡ false
-  less-end k h = ap (λ (l : List ℕ). less (each l (λ j. counted (A j))) (each l (λ j. counted (B j)))) (from-none k n h)
+  less-end k h = ap (λ (l : List ℕ). less (each l (λ j. counted (A j))) (each l (λ j. counted (B j)))) (from-end k n h)
 
   module _ (k : ℕ) (h : k < n) where
     opens : lessFrom k ≡ less (length (A k) ∷ (A k ++ keyFrom A n (k + 1))) (length (B k) ∷ (B k ++ keyFrom B n (k + 1)))
@@ -149,44 +88,20 @@ module _ (A B : ℕ → List ℕ) (n : ℕ) where
     kind-end a b = ap₂ (λ (xs ys : List ℕ). less (xs ++ keyFrom A n (k + 1)) (ys ++ keyFrom B n (k + 1))) (drop-of-length-le (A k) {i = i} a) (drop-of-length-le (B k) {i = i} b)
 
 -- ---- a system in slices
-module _ (d : Dims) (work images scans kinds pieces : List ℕ) where
+module _ (d : Dims) (work chart : List ℕ) where
   abbrev S : System
-  S = systemIn d work images scans kinds pieces
+  S = systemIn d work chart
 
   -- where map m takes each cell
   abbrev to : ℕ → List ℕ
-  to m = take (d .cells) (drop (128 * m) images)
-
-  pub kinds-many : length (S .copies) ≡ d .kinds
-  unfolding systemIn
-  kinds-many = length-map (below (d .kinds)) _ ∙ length-below (d .kinds)
-
-  pub rows-many : length (S .rows) ≡ d .rows
-  unfolding systemIn rowsIn
-  rows-many = length-map (below (d .rows)) _ ∙ length-below (d .rows)
-
-  pub row-of : (r : ℕ) → r < d .rows → rowOf S r ≡ rowAt work r
-  unfolding systemIn rowOf rowsIn
-  row-of r h = getD-map-below (rowAt work) noRow (d .rows) r h
-
-  pub row-in : (r : ℕ) → r < d .rows → List·Memᴰ (rowAt work r) (S .rows)
-  unfolding systemIn rowsIn
-  row-in r h = Memᴰ·map (rowAt work) (below-of (d .rows) h)
-
-  pub map-in : (m : ℕ) → m < d .turns + d .mirrorings → List·Memᴰ (to m) (allowed S (leb (d .turns) m))
-  unfolding systemIn imagesIn
-  map-in m h = go (leb (d .turns) m) refl
-    where
-      go : (b : Bool) → leb (d .turns) m ≡ b → List·Memᴰ (to m) (allowed S b)
-      go true e = Memᴰ·map to {a = m} (from-of (d .turns) (d .mirrorings) (leb-true (d .turns) m e) h)
-      go false e = Memᴰ·map to {a = m} (from-of 0 (d .turns) (omega arith) (let k = leb-false (d .turns) m e in omega arith))
+  to m = imagesOf chart (d .cells) m
 
   -- how many rows of a list are of a kind
   pub of-kind : (k : ℕ) (rs : List ℕ) → T (all (λ r. ltb r (d .rows)) rs) → howMany (λ q. eqb (q .kind) k) (map (rowAt work) rs) ≡ length (ofKind S k rs)
   unfolding ofKind
   of-kind k [] t = refl
   of-kind k (r ∷ rs) t =
-      go (eqb (rowOf S r .kind) k) (ap (λ (q : Placement). eqb (q .kind) k) (sym (row-of r (ltb→lt r (d .rows) (and-left (ltb r (d .rows)) (all (λ s. ltb s (d .rows)) rs) t)))))
+      go (eqb (rowOf S r .kind) k) (ap (λ (q : Placement). eqb (q .kind) k) (sym (row-is d work chart r (ltb→lt r (d .rows) (and-left (ltb r (d .rows)) (all (λ s. ltb s (d .rows)) rs) t)))))
       (of-kind k rs (and-right (ltb r (d .rows)) (all (λ s. ltb s (d .rows)) rs) t))
     where
       go : (b : Bool) → eqb (rowAt work r .kind) k ≡ b → howMany (λ q. eqb (q .kind) k) (map (rowAt work) rs) ≡ length (keep (λ s. eqb (rowOf S s .kind) k) rs)
@@ -195,12 +110,12 @@ module _ (d : Dims) (work images scans kinds pieces : List ℕ) where
       go false e i = ap {B = ℕ} (λ (b : Bool). cond b 1 0 + howMany (λ (q : Placement). eqb (q .kind) k) (map (rowAt work) rs)) e ∙ omega arith
 
   -- a partner's copies
-  pub copies-at : (k : ℕ) → k < d .kinds → getD kinds (2 * k) 0 ≡ getD (S .copies) k 0
-  unfolding systemIn
-  copies-at k h = sym (getD-map-below (λ j. getD kinds (2 * j) 0) 0 (d .kinds) k h)
+  pub copies-at : (k : ℕ) → k < d .kinds → getD (kindsPart chart) (3 * k) 0 ≡ getD (S .copies) k 0
+  unfolding systemIn systemOver
+  copies-at k h = sym (getD-below (λ j. getD (kindsPart chart) (3 * j) 0) 0 (d .kinds) k h)
 
   pub copies-none : (k : ℕ) → d .kinds ≤ k → 0 ≡ getD (S .copies) k 0
-  copies-none k h = sym (List·getD-eq-default (S .copies) 0 {n = k} (let e = kinds-many in omega arith))
+  copies-none k h = sym (List·getD-eq-default (S .copies) 0 {n = k} (let e = kinds-many d work chart in omega arith))
 
   -- the partner of kind k has enough copies
   abbrev pub mirrorsAt : List ℕ → ℕ → Bool
@@ -208,12 +123,12 @@ module _ (d : Dims) (work images scans kinds pieces : List ℕ) where
 
   pub mirrors-all : (rs : List ℕ) → all (mirrorsAt rs) (below (d .kinds)) ≡ mirrorable S rs
   unfolding mirrorable
-  mirrors-all rs = ap (λ (n : ℕ). all (mirrorsAt rs) (below n)) (sym kinds-many)
+  mirrors-all rs = ap (λ (n : ℕ). all (mirrorsAt rs) (below n)) (sym (kinds-many d work chart))
 
-  module _ (rs : List ℕ) (k used partner copies : ℕ) (u : used ≡ length (ofKind S k rs)) (p : partner ≡ kindBy (map (λ j. getD kinds (2 * j + 1) 0) (below (d .kinds))) true k)
+  module _ (rs : List ℕ) (k used partner copies : ℕ) (u : used ≡ length (ofKind S k rs)) (p : partner ≡ kindBy (map (λ j. getD (kindsPart chart) (3 * j + 1) 0) (below (d .kinds))) true k)
       (c : copies ≡ getD (S .copies) partner 0) where
     copies-are : copies ≡ getD (S .copies) (kindBy (S .partners) true k) 0
-    unfolding systemIn
+    unfolding systemIn systemOver
     copies-are = c ∙ ap (λ (j : ℕ). getD (S .copies) j 0) p
 
     pub mirrors-yes : used ≤ copies → mirrorsAt rs k ≡ true
@@ -228,14 +143,14 @@ module _ (d : Dims) (work images scans kinds pieces : List ℕ) where
 
   module _ (rs : List ℕ) where
     turned-all : all (isKept rs) (below (d .turns)) ≡ all (λ f. not (imageSmaller S false rs f)) (S .turned)
-    unfolding systemIn imagesIn
+    unfolding systemIn systemOver imagesIn imagesOf
     turned-all =
         all-same (isKept rs) (λ m. not (imageSmaller S false rs (to m))) (below (d .turns))
         (λ m k. ap (λ (b : Bool). not (imageSmaller S b rs (to m))) (lt-leb (d .turns) m (let h = from-at 0 (d .turns) k in omega arith)))
         ∙ sym (all-map to (λ f. not (imageSmaller S false rs f)) (below (d .turns)))
 
     mirrored-all : all (isKept rs) (from (d .turns) (d .mirrorings)) ≡ all (λ f. not (imageSmaller S true rs f)) (S .mirrored)
-    unfolding systemIn imagesIn
+    unfolding systemIn systemOver imagesIn imagesOf
     mirrored-all =
         all-same (isKept rs) (λ m. not (imageSmaller S true rs (to m))) (from (d .turns) (d .mirrorings))
         (λ m k. ap (λ (b : Bool). not (imageSmaller S b rs (to m))) (le-leb (d .turns) m (let h = from-at (d .turns) (d .mirrorings) k in omega arith)))
@@ -293,88 +208,60 @@ module _ (d : Dims) (work images scans kinds pieces : List ℕ) where
     smaller-all : (m : ℕ) → smallerFrom m 0 ≡ imageSmaller S (leb (d .turns) m) rs (to m)
     unfolding imageSmaller imageKey keyOf
     smaller-all m =
-        ap (λ (l : List ℕ). less (each l (λ k. counted (otherRows m k))) (each l (λ k. counted (ownRows k)))) (from-start (d .kinds) ∙ ap below (sym kinds-many))
+        ap (λ (l : List ℕ). less (each l (λ k. counted (otherRows m k))) (each l (λ k. counted (ownRows k)))) (from-start (d .kinds) ∙ ap below (sym (kinds-many d work chart)))
 
     kept-by : (m k : ℕ) (b : Bool) → smallerFrom m k ≡ smallerFrom m 0 → smallerFrom m k ≡ b → isKept rs m ≡ not b
     kept-by m k b e f = ap not (sym (smaller-all m) ∙ sym e ∙ f)
 
     module _ (maps m k : ℕ) (h : m < maps) (e : smallerFrom m k ≡ smallerFrom m 0) (l : all (isKept rs) (from m (maps - m)) ≡ all (isKept rs) (below maps)) where
       map-passes : smallerFrom m k ≡ false → all (isKept rs) (from (m + 1) (maps - (m + 1))) ≡ all (isKept rs) (below maps)
-      map-passes f = sym (all-pass (isKept rs) m maps h (kept-by m k false e f)) ∙ l
+      map-passes f = sym (all-next (isKept rs) m maps h (kept-by m k false e f)) ∙ l
 
       map-stops : smallerFrom m k ≡ true → false ≡ all (isKept rs) (below maps)
-      map-stops f = sym (all-fail (isKept rs) m maps h (kept-by m k true e f)) ∙ l
+      map-stops f = sym (all-failed (isKept rs) m maps h (kept-by m k true e f)) ∙ l
 
       -- no kind is left
       pub kinds-end : d .kinds ≤ k → all (isKept rs) (from (m + 1) (maps - (m + 1))) ≡ all (isKept rs) (below maps)
       kinds-end g = map-passes (less-end (otherRows m) ownRows (d .kinds) k g)
 
   pub in-kinds-start : (rs : List ℕ) → InKinds S rs → rs ≡ each (from 0 (d .kinds - 0)) (ownRows rs)
-  in-kinds-start rs e = sym e ∙ ap (λ (l : List ℕ). each l (ownRows rs)) (ap below kinds-many ∙ sym (from-start (d .kinds)))
+  in-kinds-start rs e = sym e ∙ ap (λ (l : List ℕ). each l (ownRows rs)) (ap below (kinds-many d work chart) ∙ sym (from-start (d .kinds)))
 
   -- the images of the rows of a kind, ascending
   module _ (odd : Bool) (f : List ℕ) (source : ℕ) where
-    abbrev pub imagesOf : List ℕ → List ℕ
-    imagesOf rs = sortRows (map (imageOf S odd f) (ofKind S source rs))
+    abbrev pub imagesAscending : List ℕ → List ℕ
+    imagesAscending rs = sortRows (map (imageOf S odd f) (ofKind S source rs))
 
     module _ (r : ℕ) (rs : List ℕ) (h : r < d .rows) where
-      pub images-more : rowAt work r .kind ≡ source → imagesOf (r ∷ rs) ≡ insertRow (imageOf S odd f r) (imagesOf rs)
+      pub images-more : rowAt work r .kind ≡ source → imagesAscending (r ∷ rs) ≡ insertRow (imageOf S odd f r) (imagesAscending rs)
       unfolding ofKind
       images-more e =
           ap (λ (b : Bool). sortRows (map (imageOf S odd f) (consIf b r (keep (λ s. eqb (rowOf S s .kind) source) rs))))
-          (eq-eqb (rowOf S r .kind) source (ap (λ (q : Placement). q .kind) (row-of r h) ∙ e))
+          (eq-eqb (rowOf S r .kind) source (ap (λ (q : Placement). q .kind) (row-is d work chart r h) ∙ e))
 
-      pub images-same : (rowAt work r .kind ≡ source → ⊥) → imagesOf (r ∷ rs) ≡ imagesOf rs
+      pub images-same : (rowAt work r .kind ≡ source → ⊥) → imagesAscending (r ∷ rs) ≡ imagesAscending rs
       unfolding ofKind
       images-same e =
           ap (λ (b : Bool). sortRows (map (imageOf S odd f) (consIf b r (keep (λ s. eqb (rowOf S s .kind) source) rs))))
-          (ne-eqb (rowOf S r .kind) source (λ g. e (ap (λ (q : Placement). q .kind) (sym (row-of r h)) ∙ g)))
+          (ne-eqb (rowOf S r .kind) source (λ g. e (ap (λ (q : Placement). q .kind) (sym (row-is d work chart r h)) ∙ g)))
 
-    pub images-ascend : (rs : List ℕ) (found : ℕ) (moved : List ℕ) → take found moved ≡ imagesOf rs → T (ascending leb (take found moved))
+    pub images-ascend : (rs : List ℕ) (found : ℕ) (moved : List ℕ) → take found moved ≡ imagesAscending rs → T (ascending leb (take found moved))
     images-ascend rs found moved e = subst (λ (xs : List ℕ). T (ascending leb xs)) (sym e) (sort-ascends (map (imageOf S odd f) (ofKind S source rs)))
 
     pub image-is : (r : ℕ) → r < d .rows → (s : ℕ)
-        → s ≡ rowWith (rowsIn work (d .rows)) (movedBy (map (λ k. getD kinds (2 * k + 1) 0) (below (d .kinds))) odd f (rowAt work r)) → s ≡ imageOf S odd f r
-    unfolding imageOf systemIn
-    image-is r h s e = e ∙ ap (λ (q : Placement). rowWith (S .rows) (movedBy (S .partners) odd f q)) (sym (row-of r h))
+        → s ≡ rowWith (rowsIn work (d .rows)) (movedBy (map (λ k. getD (kindsPart chart) (3 * k + 1) 0) (below (d .kinds))) odd f (rowAt work r)) → s ≡ imageOf S odd f r
+    unfolding imageOf systemIn systemOver
+    image-is r h s e = e ∙ ap (λ (q : Placement). rowWith (S .rows) (movedBy (S .partners) odd f q)) (sym (row-is d work chart r h))
 
   image-few : (x : List ℕ) → rowWith (rowsIn work (d .rows)) x ≤ d .rows
-  unfolding rowWith systemIn
-  image-few x = let h : rowWith (rowsIn work (d .rows)) x ≤ length (S .rows) = before-few (λ q. same (q .kind ∷ q .cells) x) (rowsIn work (d .rows)) in let e = rows-many in omega arith
+  unfolding rowWith systemIn systemOver
+  image-few x = let h : rowWith (rowsIn work (d .rows)) x ≤ length (S .rows) = before-few (λ q. same (q .kind ∷ q .cells) x) (rowsIn work (d .rows)) in let e = rows-many d work chart in omega arith
 
   -- ---- a lawful one
-  module _ (heads : List ℕ) (ready : Ready d work heads images scans kinds pieces) where
-    pub few-rows : d .rows ≤ 1024
-    few-rows = let e = rows-many in let h = ready .lawful .fewRows in omega arith
-
-    pub few-cells : d .cells ≤ 128
-    unfolding systemIn
-    few-cells = ready .lawful .fewCells
-
-    pub few-kinds : d .kinds ≤ 16
-    few-kinds = let e = kinds-many in let h = ready .lawful .fewKinds in omega arith
-
-    pub first-cells : FirstCells (rowsIn work (d .rows))
-    unfolding systemIn
-    first-cells = record { coversP = λ q m. ready .lawful .row q m .coversP; fromP = λ q m. ready .lawful .row q m .fromP }
-
-    pub row-kind : (r : ℕ) → r < d .rows → rowAt work r .kind < d .kinds
-    row-kind r h = let e = kinds-many in let k = ready .lawful .row (rowAt work r) (row-in r h) .ofKind in omega arith
-
-    pub row-cells : (r : ℕ) → r < d .rows → T (all (λ n. ltb n (d .cells)) (rowAt work r .cells))
-    unfolding systemIn
-    row-cells r h = all-of (λ n. ltb n (d .cells)) (rowAt work r .cells) (λ n m. lt→ltb n (d .cells) (ready .lawful .row (rowAt work r) (row-in r h) .onBoard n m))
-
-    pub map-permutes : (m : ℕ) → m < d .turns + d .mirrorings → Permutes (d .cells) (to m)
-    unfolding systemIn
-    map-permutes m h = ready .lawful .permutes (leb (d .turns) m) (to m) (map-in m h)
-
-    pub map-fits : (m : ℕ) → m < d .turns + d .mirrorings → 128 * m + d .cells ≤ length images
-    map-fits m h = let e = few-cells in let k = ready .imagesFit in omega arith
-
+  module _ (ready : Ready d work chart) where
     pub image-small : (odd : Bool) (f : List ℕ) (r s : ℕ)
-        → s ≡ rowWith (rowsIn work (d .rows)) (movedBy (map (λ k. getD kinds (2 * k + 1) 0) (below (d .kinds))) odd f (rowAt work r)) → s ≤ 1024
-    image-small odd f r s e = let h = image-few (movedBy (map (λ k. getD kinds (2 * k + 1) 0) (below (d .kinds))) odd f (rowAt work r)) in let k = few-rows in omega arith
+        → s ≡ rowWith (rowsIn work (d .rows)) (movedBy (map (λ k. getD (kindsPart chart) (3 * k + 1) 0) (below (d .kinds))) odd f (rowAt work r)) → s ≤ 1024
+    image-small odd f r s e = let h = image-few (movedBy (map (λ k. getD (kindsPart chart) (3 * k + 1) 0) (below (d .kinds))) odd f (rowAt work r)) in let k = few-rows d work chart (ready .lawful) in omega arith
 
     -- ---- the rows of a path
     module _ (rows : List ℕ) (n : ℕ) (o : OfRows d rows n) where
@@ -397,11 +284,11 @@ module _ (d : Dims) (work images scans kinds pieces : List ℕ) where
       -- ---- the images of a kind
       module _ (m : ℕ) (source : ℕ) where
         abbrev pub imagesFrom : ℕ → List ℕ
-        imagesFrom i = imagesOf (leb (d .turns) m) (to m) source (drop i (take n rows))
+        imagesFrom i = imagesAscending (leb (d .turns) m) (to m) source (drop i (take n rows))
 
         pub images-start : [] ≡ imagesFrom n
         unfolding ofKind
-        images-start = ap (imagesOf (leb (d .turns) m) (to m) source) (sym (path-none rows n (o .within) n refl))
+        images-start = ap (imagesAscending (leb (d .turns) m) (to m) source) (sym (path-none rows n (o .within) n refl))
 
         module _ (i : ℕ) (p : 0 < i) (q : i ≤ n) where
           next : drop (i - 1) (take n rows) ≡ getD rows (i - 1) 0 ∷ drop i (take n rows)
@@ -411,54 +298,54 @@ module _ (d : Dims) (work images scans kinds pieces : List ℕ) where
           is-row = path-row (i - 1) (omega arith)
 
           pub images-next : (found s : ℕ) (moved after : List ℕ) → take found moved ≡ imagesFrom i → rowAt work (getD rows (i - 1) 0) .kind ≡ source
-              → s ≡ rowWith (rowsIn work (d .rows)) (movedBy (map (λ k. getD kinds (2 * k + 1) 0) (below (d .kinds))) (leb (d .turns) m) (to m) (rowAt work (getD rows (i - 1) 0)))
+              → s ≡ rowWith (rowsIn work (d .rows)) (movedBy (map (λ k. getD (kindsPart chart) (3 * k + 1) 0) (below (d .kinds))) (leb (d .turns) m) (to m) (rowAt work (getD rows (i - 1) 0)))
               → take (found + 1) after ≡ insertRow s (take found moved) → take (found + 1) after ≡ imagesFrom (i - 1)
           images-next found s moved after e k is g =
               g ∙ ap₂ (λ (x : ℕ) (xs : List ℕ). insertRow x xs) (image-is (leb (d .turns) m) (to m) source (getD rows (i - 1) 0) is-row s is) e
               ∙ sym (images-more (leb (d .turns) m) (to m) source (getD rows (i - 1) 0) (drop i (take n rows)) is-row k)
-              ∙ ap (imagesOf (leb (d .turns) m) (to m) source) (sym next)
+              ∙ ap (imagesAscending (leb (d .turns) m) (to m) source) (sym next)
 
           pub images-pass : (rowAt work (getD rows (i - 1) 0) .kind ≡ source → ⊥) → imagesFrom i ≡ imagesFrom (i - 1)
           images-pass k =
               sym (images-same (leb (d .turns) m) (to m) source (getD rows (i - 1) 0) (drop i (take n rows)) is-row k)
-              ∙ ap (imagesOf (leb (d .turns) m) (to m) source) (sym next)
+              ∙ ap (imagesAscending (leb (d .turns) m) (to m) source) (sym next)
 
-      pub images-end : (m source kind i : ℕ) → source ≡ kindBy (map (λ k. getD kinds (2 * k + 1) 0) (below (d .kinds))) (leb (d .turns) m) kind → i ≡ 0
+      pub images-end : (m source kind i : ℕ) → source ≡ kindBy (map (λ k. getD (kindsPart chart) (3 * k + 1) 0) (below (d .kinds))) (leb (d .turns) m) kind → i ≡ 0
           → imagesFrom m source i ≡ movedRows S (leb (d .turns) m) (to m) kind (take n rows)
-      unfolding movedRows systemIn
-      images-end m source kind i e z = ap₂ (λ (k j : ℕ). imagesOf (leb (d .turns) m) (to m) k (drop j (take n rows))) e z
+      unfolding movedRows systemIn systemOver
+      images-end m source kind i e z = ap₂ (λ (k j : ℕ). imagesAscending (leb (d .turns) m) (to m) k (drop j (take n rows))) e z
 
 -- ---- a kind of a packing against that of its image under map m: the rows from `at` on are those of the kinds from this one on, the image's stand in
 -- `moved`; the kinds before are equal, and no map before is smaller
-pub record Compared (d : Dims) (work images scans kinds pieces rows : List ℕ) (n maps m at kind used others : ℕ) (moved : List ℕ) : Type 0 where
+pub record Compared (d : Dims) (work chart rows : List ℕ) (n maps m at kind used others : ℕ) (moved : List ℕ) : Type 0 where
   pub isMap : m < maps
   pub isKind : kind < d .kinds
   pub within : n ≤ length rows
   pub size : length moved ≡ 128
   pub reached : at ≤ n
-  pub own : length (ownRows d work images scans kinds pieces (take n rows) kind) ≡ used
-  pub other : length (otherRows d work images scans kinds pieces (take n rows) m kind) ≡ others
-  pub rest : drop at (take n rows) ≡ each (from kind (d .kinds - kind)) (ownRows d work images scans kinds pieces (take n rows))
-  pub stands : take others moved ≡ otherRows d work images scans kinds pieces (take n rows) m kind
-  pub decides : smallerFrom d work images scans kinds pieces (take n rows) m kind ≡ smallerFrom d work images scans kinds pieces (take n rows) m 0
-  pub left : all (isKept d work images scans kinds pieces (take n rows)) (from m (maps - m)) ≡ all (isKept d work images scans kinds pieces (take n rows)) (below maps)
+  pub own : length (ownRows d work chart (take n rows) kind) ≡ used
+  pub other : length (otherRows d work chart (take n rows) m kind) ≡ others
+  pub rest : drop at (take n rows) ≡ each (from kind (d .kinds - kind)) (ownRows d work chart (take n rows))
+  pub stands : take others moved ≡ otherRows d work chart (take n rows) m kind
+  pub decides : smallerFrom d work chart (take n rows) m kind ≡ smallerFrom d work chart (take n rows) m 0
+  pub left : all (isKept d work chart (take n rows)) (from m (maps - m)) ≡ all (isKept d work chart (take n rows)) (below maps)
 
-module _ {d : Dims} {work images scans kinds pieces rows : List ℕ} {n maps m at kind used others : ℕ} {moved : List ℕ} (t : Compared d work images scans kinds pieces rows n maps m at kind used others moved) where
+module _ {d : Dims} {work chart rows : List ℕ} {n maps m at kind used others : ℕ} {moved : List ℕ} (t : Compared d work chart rows n maps m at kind used others moved) where
   abbrev own : ℕ → List ℕ
-  own = ownRows d work images scans kinds pieces (take n rows)
+  own = ownRows d work chart (take n rows)
 
   abbrev other : ℕ → List ℕ
-  other = otherRows d work images scans kinds pieces (take n rows) m
+  other = otherRows d work chart (take n rows) m
 
   abbrev kept : ℕ → Bool
-  kept = isKept d work images scans kinds pieces (take n rows)
+  kept = isKept d work chart (take n rows)
 
   -- this map's image is not smaller: on to the next; or it is
-  on : smallerFrom d work images scans kinds pieces (take n rows) m kind ≡ false → (m + 1 ≤ maps) × (length moved ≡ 128) × (all kept (from (m + 1) (maps - (m + 1))) ≡ all kept (below maps))
-  on e = (let h = t .isMap in omega arith, t .size, map-passes d work images scans kinds pieces (take n rows) maps m kind (t .isMap) (t .decides) (t .left) e)
+  on : smallerFrom d work chart (take n rows) m kind ≡ false → (m + 1 ≤ maps) × (length moved ≡ 128) × (all kept (from (m + 1) (maps - (m + 1))) ≡ all kept (below maps))
+  on e = (let h = t .isMap in omega arith, t .size, map-passes d work chart (take n rows) maps m kind (t .isMap) (t .decides) (t .left) e)
 
-  stop : smallerFrom d work images scans kinds pieces (take n rows) m kind ≡ true → false ≡ all kept (below maps)
-  stop e = map-stops d work images scans kinds pieces (take n rows) maps m kind (t .isMap) (t .decides) (t .left) e
+  stop : smallerFrom d work chart (take n rows) m kind ≡ true → false ≡ all kept (below maps)
+  stop e = map-stops d work chart (take n rows) maps m kind (t .isMap) (t .decides) (t .left) e
 
   pub more-others : used < others → (m + 1 ≤ maps) × (length moved ≡ 128) × (all kept (from (m + 1) (maps - (m + 1))) ≡ all kept (below maps))
   more-others h = on (kind-more other own (d .kinds) kind (t .isKind) (let a = t .own in let b = t .other in omega arith))
@@ -482,12 +369,12 @@ module _ {d : Dims} {work images scans kinds pieces rows : List ℕ} {n maps m a
   at-next = sym (drop-drop used at (take n rows)) ∙ ap (drop used) opened ∙ drop-at (own kind) (each (from (kind + 1) (d .kinds - (kind + 1))) own) used (t .own)
 
   module _ (g : others ≤ used) (h : used ≤ others) where
-    pub rows-start : smallerAt d work images scans kinds pieces (take n rows) m kind 0 ≡ smallerFrom d work images scans kinds pieces (take n rows) m kind
+    pub rows-start : smallerAt d work chart (take n rows) m kind 0 ≡ smallerFrom d work chart (take n rows) m kind
     rows-start = sym (kind-level other own (d .kinds) kind (t .isKind) (let a = t .own in let b = t .other in omega arith))
 
-    module _ (i : ℕ) (e : smallerAt d work images scans kinds pieces (take n rows) m kind i ≡ smallerFrom d work images scans kinds pieces (take n rows) m kind) where
+    module _ (i : ℕ) (e : smallerAt d work chart (take n rows) m kind i ≡ smallerFrom d work chart (take n rows) m kind) where
       pub kind-next : used ≤ i → (kind + 1 ≤ d .kinds) × (length moved ≡ 128) × (at + used ≤ n) × (drop (at + used) (take n rows) ≡ each (from (kind + 1) (d .kinds - (kind + 1))) own)
-          × (smallerFrom d work images scans kinds pieces (take n rows) m (kind + 1) ≡ smallerFrom d work images scans kinds pieces (take n rows) m 0)
+          × (smallerFrom d work chart (take n rows) m (kind + 1) ≡ smallerFrom d work chart (take n rows) m 0)
       kind-next k = (
         let a = t .isKind in omega arith,
         t .size,
@@ -519,5 +406,5 @@ module _ {d : Dims} {work images scans kinds pieces rows : List ℕ} {n maps m a
         smaller-other l = stop (sym e ∙ entry-fewer other own (d .kinds) kind i in-other in-own (let a = own-at in let b = other-at in omega arith))
 
         pub row-next : getD moved i 0 ≤ getD rows (at + i) 0 → getD rows (at + i) 0 ≤ getD moved i 0
-            → (i + 1 ≤ used) × (smallerAt d work images scans kinds pieces (take n rows) m kind (i + 1) ≡ smallerFrom d work images scans kinds pieces (take n rows) m kind)
+            → (i + 1 ≤ used) × (smallerAt d work chart (take n rows) m kind (i + 1) ≡ smallerFrom d work chart (take n rows) m kind)
         row-next p q = (omega arith, sym (entry-level other own (d .kinds) kind i in-other in-own (let a = own-at in let b = other-at in omega arith)) ∙ e)

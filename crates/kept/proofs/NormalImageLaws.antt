@@ -5,22 +5,22 @@ use mathlib.Core.List.{List, _∷_, map, List·Memᴰ, Memᴰ·cast, Memᴰ·map
 use mathlib.Core.Path.{_≡_, refl, sym, ap, ap₂, _∙_, subst}
 use lib.Dec.{T, ltb, eqb, eqb→eq}
 use lib.ListN.{length, getD, length-map}
-use Rattle.definitions.specs.Lists.{any, keep, same, ascending}
+use Rattle.lists.specs.Lists.{any, keep, same, ascending}
+use Rattle.lists.proofs.TestLaws.{ltb-trans, ltb-irrefl, eqb-of, ltb-tied}
+use Rattle.lists.proofs.ListLaws.{any-at, any-of, keep-at, keep-of, before-found, apart-map}
+use Rattle.lists.proofs.SortLaws.{keep-ascending, same→eq, same-refl, ascending-unique, apart-ascending, sort-at, sort-of}
 use Rattle.definitions.specs.Placements.{Placement}
 use Rattle.definitions.specs.Packing.{ahead}
-use Rattle.definitions.proofs.ListLaws.{any-at, any-of, keep-at, keep-of, keep-ascending, same→eq, same-refl, ascending-unique, apart-ascending, ltb-trans, ltb-irrefl, eqb-of}
 use Rattle.definitions.proofs.PackingLaws.{ahead-trans, ahead-irrefl}
-use Rattle.definitions.proofs.EngineLaws.{sort-at}
-use Rattle.definitions.proofs.ShapeLaws.{sort-of}
-use Rattle.definitions.proofs.ImageLaws.{ltb-tied}
 use Rattle.rows.specs.Systems.{System, kindBy, cellsBy, movedBy, rowWith}
 use Rattle.rows.specs.Lawful.{ImageOf, allowed}
 use Rattle.kept.specs.Normal.{noRow, rowOf, ofKind, imageOf, movedRows}
-use Rattle.kept.proofs.NormalRowLaws.{before-found, apart-map, sorted-at, sorted-of, sorted-length, sorted-ascending, Comparable, RowNumbers, RowsOfKind, row-in, row-apart, rows-up, kinds-of, of-kinds, kind-up}
+use Rattle.kept.proofs.NormalRowLaws.{Comparable, RowNumbers, RowsOfKind, row-of-in, row-apart, rows-up, kinds-of, of-kinds, kind-up}
+use Rattle.kept.proofs.SortingLaws.{sort-rows-at, sort-rows-of, sort-rows-length, sort-rows-ascending}
 
 -- the rows that are images of placements
-unfoldable pub imagesOf : System → Bool → List ℕ → List Placement → List Placement
-imagesOf s odd to P = let ms = map (movedBy (s .partners) odd to) P in keep (λ q. any (same (q .kind ∷ q .cells)) ms) (s .rows)
+unfoldable pub movedPlacements : System → Bool → List ℕ → List Placement → List Placement
+movedPlacements s odd to P = let ms = map (movedBy (s .partners) odd to) P in keep (λ q. any (same (q .kind ∷ q .cells)) ms) (s .rows)
 
 module _ (s : System) (w : Comparable s) (odd : Bool) where
   abbrev after : ℕ → ℕ
@@ -38,13 +38,13 @@ module _ (s : System) (w : Comparable s) (odd : Bool) where
     pub image-row : (r : ℕ) → r < length (s .rows) → kindBy (s .partners) odd (rowOf s r .kind) < length (s .copies)
         → (imageOf s odd to r < length (s .rows)) × ImageOf s odd to (rowOf s r) (rowOf s (imageOf s odd to r))
     unfolding imageOf rowWith movedBy rowOf
-    image-row r h k = (found .0, record { isRow = row-in s w (imageOf s odd to r) (found .0); kind = head-eq-of-cons-eq equal; cells = tail-eq-of-cons-eq equal })
+    image-row r h k = (found .0, record { isRow = row-of-in s (imageOf s odd to r) (found .0); kind = head-eq-of-cons-eq equal; cells = tail-eq-of-cons-eq equal })
       where
         goal : List ℕ
         goal = kindBy (s .partners) odd (rowOf s r .kind) ∷ cellsBy to (rowOf s r .cells)
 
         x : (q : Placement) × ImageOf s odd to (rowOf s r) q
-        x = w .image odd to isMap (rowOf s r) (row-in s w r h) k
+        x = w .image odd to isMap (rowOf s r) (row-of-in s r h) k
 
         is : _≡_ {A = List ℕ} goal (x .0 .kind ∷ x .0 .cells)
         is = sym (ap₂ (λ (n : ℕ) (l : List ℕ). n ∷ l) (x .1 .kind) (x .1 .cells))
@@ -75,7 +75,7 @@ module _ (s : System) (w : Comparable s) (odd : Bool) where
     image-apart a b h k e i f =
         let x = image-row a h i .1 in
         let y = image-row b k (subst (λ (n : ℕ). after n < length (s .copies)) e i) .1 in
-        row-apart s w a b h k (same-before (rowOf s a) (rowOf s b) (row-in s w a h) (row-in s w b k) e (sym (x .cells) ∙ ap (λ (n : ℕ). rowOf s n .cells) f ∙ y .cells))
+        row-apart s w a b h k (same-before (rowOf s a) (rowOf s b) (row-of-in s a h) (row-of-in s b k) e (sym (x .cells) ∙ ap (λ (n : ℕ). rowOf s n .cells) f ∙ y .cells))
 
     -- ---- the images that are of kind k
     module _ (rs : List ℕ) (rows : RowNumbers s rs) (up : T (ascending ltb rs)) (k : ℕ) (isKind : k < length (s .copies)) where
@@ -84,13 +84,13 @@ module _ (s : System) (w : Comparable s) (odd : Bool) where
       becomes r m =
           let x = kinds-of s w (after k) rs m in
           let h = rows r (x .0) in
-          let i = w .row (rowOf s r) (row-in s w r h) .ofKind in
+          let i = w .row (rowOf s r) (row-of-in s r h) .ofKind in
           (h, x .1, ap after (x .1) ∙ after-back k (subst (λ (n : ℕ). n < length (s .copies)) (x .1) i))
 
       moved-up : T (ascending ltb (movedRows s odd to k rs))
       unfolding movedRows
       moved-up =
-          sorted-ascending (map (imageOf s odd to) (ofKind s (after k) rs))
+          sort-rows-ascending (map (imageOf s odd to) (ofKind s (after k) rs))
           (apart-map (imageOf s odd to) (ofKind s (after k) rs) (apart-ascending ltb ltb-irrefl (ofKind s (after k) rs) (kind-up s w (after k) rs up)) (λ a b m n e.
           let x = becomes a m in
           let y = becomes b n in
@@ -100,7 +100,7 @@ module _ (s : System) (w : Comparable s) (odd : Bool) where
           → (r : ℕ) × List·Memᴰ r rs × (imageOf s odd to r ≡ z) × (z < length (s .rows)) × (rowOf s z .kind ≡ k) × (rowOf s z .cells ≡ cellsBy to (rowOf s r .cells)) × (after (rowOf s r .kind) ≡ k)
       unfolding movedRows
       moved-at z m =
-          let x = Memᴰ·of-map (imageOf s odd to) (ofKind s (after k) rs) (sorted-at (map (imageOf s odd to) (ofKind s (after k) rs)) m) in
+          let x = Memᴰ·of-map (imageOf s odd to) (ofKind s (after k) rs) (sort-rows-at (map (imageOf s odd to) (ofKind s (after k) rs)) m) in
           let r = x .0 in
           let y = becomes r (x .1) in
           let i = image-row r (y .0) (subst (λ (n : ℕ). n < length (s .copies)) (sym (y .2)) isKind) in (
@@ -118,10 +118,10 @@ module _ (s : System) (w : Comparable s) (odd : Bool) where
 
       pub moved-length : length (movedRows s odd to k rs) ≡ length (ofKind s (kindBy (s .partners) odd k) rs)
       unfolding movedRows
-      moved-length = sorted-length (map (imageOf s odd to) (ofKind s (after k) rs)) ∙ length-map (ofKind s (after k) rs) (imageOf s odd to)
+      moved-length = sort-rows-length (map (imageOf s odd to) (ofKind s (after k) rs)) ∙ length-map (ofKind s (after k) rs) (imageOf s odd to)
 
-      pub images-kind : keep (λ q. eqb (q .kind) k) (imagesOf s odd to (map (rowOf s) rs)) ≡ map (rowOf s) (movedRows s odd to k rs)
-      unfolding imagesOf movedRows movedBy
+      pub images-kind : keep (λ q. eqb (q .kind) k) (movedPlacements s odd to (map (rowOf s) rs)) ≡ map (rowOf s) (movedRows s odd to k rs)
+      unfolding movedPlacements movedRows movedBy
       images-kind =
           ascending-unique ahead ahead-trans ahead-irrefl (keep kindK (keep isImage (s .rows))) (map (rowOf s) (movedRows s odd to k rs))
           (keep-ascending ahead kindK (keep isImage (s .rows)) (keep-ascending ahead isImage (s .rows) (w .inOrder)))
@@ -156,7 +156,7 @@ module _ (s : System) (w : Comparable s) (odd : Bool) where
                   let v = image-row r h g in
                   let here : rowOf s r .kind ≡ after k = sym (after-back (rowOf s r .kind) g) ∙ ap after f in
                   Memᴰ·cast (w .byCells q (rowOf s (imageOf s odd to r)) row (v .1 .isRow) (head-eq-of-cons-eq e ∙ sym (v .1 .kind)) (tail-eq-of-cons-eq e ∙ sym (v .1 .cells)))
-                  (Memᴰ·map (rowOf s) (sorted-of (map (imageOf s odd to) (ofKind s (after k) rs)) (Memᴰ·map (imageOf s odd to) (of-kinds s w (after k) rs n here))))
+                  (Memᴰ·map (rowOf s) (sort-rows-of (map (imageOf s odd to) (ofKind s (after k) rs)) (Memᴰ·map (imageOf s odd to) (of-kinds s w (after k) rs n here))))
 
           back : (q : Placement) → List·Memᴰ q (map (rowOf s) (movedRows s odd to k rs)) → List·Memᴰ q (keep kindK (keep isImage (s .rows)))
           back q m =
@@ -166,6 +166,6 @@ module _ (s : System) (w : Comparable s) (odd : Bool) where
               let equal : _≡_ {A = List ℕ} (movedBy (s .partners) odd to (rowOf s (x .0))) (z .kind ∷ z .cells) = ap₂ (λ (n : ℕ) (l : List ℕ). n ∷ l) (x .6 ∙ sym (x .4)) (sym (x .5)) in
               Memᴰ·cast (sym (a .2))
               (keep-of kindK (keep isImage (s .rows))
-              (keep-of isImage (s .rows) (row-in s w (a .0) (x .3))
+              (keep-of isImage (s .rows) (row-of-in s (a .0) (x .3))
               (any-of (same (z .kind ∷ z .cells)) ms (Memᴰ·map (movedBy (s .partners) odd to) (Memᴰ·map (rowOf s) (x .1))) (subst (λ (l : List ℕ). T (same (z .kind ∷ z .cells) l)) (sym equal) (same-refl (z .kind ∷ z .cells)))))
               (eqb-of (x .4)))

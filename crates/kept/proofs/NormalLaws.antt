@@ -1,13 +1,18 @@
 -- Of the rows of a packing `normal` says what `kept` says of the packing: the images are the same, and so is the comparison. Assumes nothing.
 use Prim.Native.Nat.{ℕ, _≤_, _<_}
 use mathlib.Core.Bool.{Bool, true, false, not, _&&_, _||_}
-use mathlib.Core.List.{List, [], _∷_, _++_, map, List·Memᴰ, List·Memᴰ·head, List·Memᴰ·tail, List·Memᴰ·not-nil, Memᴰ·cast, Memᴰ·map, Memᴰ·of-map}
+use mathlib.Core.List.{List, [], _∷_, map, List·Memᴰ, List·Memᴰ·head, List·Memᴰ·not-nil, Memᴰ·cast, Memᴰ·map, Memᴰ·of-map}
 use mathlib.Core.Path.{_≡_, refl, sym, ap, ap₂, _∙_, subst}
 use mathlib.Core.Logic.{_⊎_, inl, inr}
 use native.Mathlib.Omega.{arith}
 use lib.Dec.{T, ltb, leb, eqb, ltb→lt, nltb→le, leb→le, le→leb}
 use lib.ListN.{length, getD, length-map}
-use Rattle.definitions.specs.Lists.{all, any, keep, each, below, member, sort, same, less, ascending}
+use Rattle.lists.specs.Lists.{all, any, keep, each, below, member, sort, same, less, ascending}
+use Rattle.lists.proofs.TestLaws.{tests-same, decide, is-true, eqb-of}
+use Rattle.lists.proofs.ListLaws.{all-append, all-same, all-at, all-of, any-of, all-map, keep-map, map-same, each-same-in, getD-pos}
+use Rattle.lists.proofs.SortLaws.{apart-ascending}
+use Rattle.lists.proofs.RangeLaws.{below-at, below-of, member-at, member-of}
+use Rattle.lists.proofs.CountLaws.{howMany-length, just-one}
 use Rattle.definitions.specs.Grid.{Cell}
 use Rattle.definitions.specs.Maps.{Map, mapCell, turns, mirrorings, product, identity}
 use Rattle.definitions.specs.Kinds.{Kind}
@@ -16,23 +21,18 @@ use Rattle.definitions.specs.Packing.{ahead, samePlacement, covering, used, lim
 use Rattle.definitions.specs.Kept.{Identify, kindAfter, cellAfter, moved, image, compared, smaller, symmetries, turnedImages, mirroredImages, images, kept}
 use Rattle.definitions.specs.Kept.Identify.{None, Turned, Mirrored}
 use Rattle.definitions.specs.Refusals.{Call, trayOf, refusal}
-use Rattle.definitions.proofs.ListLaws.{all-at, all-of, any-of, below-at, below-of, member-at, member-of, apart-ascending, decide, is-true, eqb-of, all-map, keep-map}
-use Rattle.definitions.proofs.CountLaws.{howMany-length}
-use Rattle.definitions.proofs.GroupLaws.{map-same}
-use Rattle.definitions.proofs.OrderLaws.{each-same-in}
 use Rattle.definitions.proofs.PackingLaws.{ahead-irrefl, samePlacement-refl, packing-of, packing-test, packing-placed, packing-within, packing-once, packing-at}
-use Rattle.definitions.proofs.SearchLaws.{getD-pos}
 use Rattle.definitions.proofs.SetDownLaws.{placement-once}
 use Rattle.definitions.proofs.ImageLaws.{Numbered, Onto-placement, after-below, after-after, after-still, image-at, image-of, image-ascending, same-cells, numbers-inj, has-image}
 use Rattle.definitions.proofs.ActLaws.{mapsOf, Allowed, allowed-back, identity-then-cell, symmetry-at, on-cells, act-inj}
 use Rattle.definitions.proofs.GeometryLaws.{W, numbered-cells, to-filled, of-filled, whole, partners}
-use Rattle.definitions.proofs.CarryLaws.{just-one, placement-image, turned-packing}
+use Rattle.definitions.proofs.CarryLaws.{placement-image, turned-packing}
 use Rattle.rows.specs.Systems.{System, cellImages, systemOf, kindBy, cellsBy, movedBy}
 use Rattle.rows.specs.Lawful.{Lawful, allowed}
 use Rattle.kept.specs.Normal.{rowOf, ofKind, movedRows, keyOf, imageKey, imageSmaller, mirrorable, normal, InKinds}
 use Rattle.rows.proofs.SystemMapLaws.{takes-to, map-permutes, map-image, kind-is, kind-back}
-use Rattle.kept.proofs.NormalRowLaws.{Comparable, comparable, RowNumbers, of-rows, row-in, rows-up, kinds-of, of-kinds, by-kinds, coded, keys-same}
-use Rattle.kept.proofs.NormalImageLaws.{imagesOf, after-back, moved-kind, moved-length, images-kind}
+use Rattle.kept.proofs.NormalRowLaws.{Comparable, comparable, RowNumbers, of-rows, row-of-in, rows-up, kinds-of, of-kinds, by-kinds, coded, keys-same}
+use Rattle.kept.proofs.NormalImageLaws.{movedPlacements, after-back, moved-kind, moved-length, images-kind}
 
 -- ---- any lawful system
 -- rows ascend with their numbers, and so stand kind by kind
@@ -43,24 +43,7 @@ pub in-kinds : (s : System) → Lawful s → (rs : List ℕ) → T (all (λ r. l
 in-kinds s w rs h t = by-kinds s (comparable s w) rs (of-rows s rs h) t
 
 -- ---- tests
-both-ways : (a b : Bool) → (T a → T b) → (T b → T a) → a ≡ b
-both-ways true b f g = sym (is-true b (f tt))
-both-ways false true f g = absurd (g tt)
-both-ways false false f g = refl
-
 module _ {A : Type 0} where
-  all-same : (p q : A → Bool) (xs : List A) → ((x : A) → List·Memᴰ x xs → p x ≡ q x) → all p xs ≡ all q xs
-  all-same p q [] h = refl
-  all-same p q (x ∷ xs) h = ap₂ (λ (a b : Bool). a && b) (h x (List·Memᴰ·head refl)) (all-same p q xs (λ z m. h z (List·Memᴰ·tail m)))
-
-  all-append : (p : A → Bool) (xs ys : List A) → all p (xs ++ ys) ≡ all p xs && all p ys
-  all-append p [] ys = refl
-  all-append p (x ∷ xs) ys = go (p x) (all-append p xs ys)
-    where
-      go : (b : Bool) → all p (xs ++ ys) ≡ all p xs && all p ys → b && all p (xs ++ ys) ≡ (b && all p xs) && all p ys
-      go true e = e
-      go false e = refl
-
   -- a test that needs another passes everywhere where that fails
   all-unless : (b : Bool) (p : A → Bool) (xs : List A) → all (λ x. not (b && p x)) xs ≡ not b || all (λ x. not (p x)) xs
   all-unless true p xs = refl
@@ -135,8 +118,8 @@ module _ (l : Call) (ok : refusal l ≡ 0) where
       ap₂ (λ (n : ℕ) (xs : List ℕ). n ∷ xs) (sym (kind-is l ok odd (q .kind)))
       (ap (sort ltb) (map-same (cellAfter C (act m)) (λ n. getD (cellImages C m) n 0) (q .cells) (λ n a. sym (takes-to l ok m n (W l ok .onBoard q row n a)))))
 
-  image-same : (odd : Bool) (m : Map) (P : List Placement) → ((q : Placement) → List·Memᴰ q P → List·Memᴰ q (C .placements)) → image C odd (act m) P ≡ imagesOf S odd (cellImages C m) P
-  unfolding image imagesOf systemOf
+  image-same : (odd : Bool) (m : Map) (P : List Placement) → ((q : Placement) → List·Memᴰ q P → List·Memᴰ q (C .placements)) → image C odd (act m) P ≡ movedPlacements S odd (cellImages C m) P
+  unfolding image movedPlacements systemOf
   image-same odd m P h =
       ap (λ (ms : List (List ℕ)). keep (λ q. any (same (q .kind ∷ q .cells)) ms) (C .placements))
       (map-same (moved C odd (act m)) (movedBy (S .partners) odd (cellImages C m)) P (λ q a. moved-same odd m q (h q a)))
@@ -308,7 +291,7 @@ module _ (l : Call) (ok : refusal l ≡ 0) where
             none [] e h = let z : length (ofKind S (partner i) rs) ≡ 0 = ap length e in omega arith
             none (x ∷ xs) e h =
                 let y = kinds-of S facts (partner i) rs (subst (λ (ys : List ℕ). List·Memᴰ x ys) (sym e) (List·Memᴰ·head refl)) in
-                let z = facts .row (rowOf S x) (row-in S facts x (rows x (y .0))) .ofKind in
+                let z = facts .row (rowOf S x) (row-of-in S x (rows x (y .0))) .ofKind in
                 let f = y .1 in
                 absurd (omega arith)
 
@@ -333,7 +316,7 @@ module _ (l : Call) (ok : refusal l ≡ 0) where
 
       mirror-same : isPacking C M && smaller C M P ≡ mirrorable S rs && imageSmaller S true rs (cellImages C m)
       mirror-same =
-          ap₂ (λ (a b : Bool). a && b) (both-ways (isPacking C M) (mirrorable S rs) (λ t. to-mirrorable (packing-of C M t)) (λ t. packing-test C M (of-mirrorable t)))
+          ap₂ (λ (a b : Bool). a && b) (tests-same (isPacking C M) (mirrorable S rs) (λ t. to-mirrorable (packing-of C M t)) (λ t. packing-test C M (of-mirrorable t)))
           (sym (smaller-same true m k))
 
     -- ---- all images

@@ -1,144 +1,25 @@
 -- The rows of a lawful system stand by kind, then (p, j), so among rows of one kind their numbers compare as their (p, j) do. Assumes nothing.
-use Prim.Native.Nat.{ℕ, zero, suc, _≤_, _<_}
-use mathlib.Core.Bool.{Bool, true, false, cond, not, _&&_, _||_}
-use mathlib.Core.List.{List, [], _∷_, _++_, map, List·Memᴰ, List·Memᴰ·head, List·Memᴰ·tail, List·Memᴰ·not-nil, List·Memᴰ·cases-cons, Memᴰ·cast, Memᴰ·of-map}
+use Prim.Native.Nat.{ℕ, _≤_, _<_}
+use mathlib.Core.Bool.{Bool, true, not, _&&_, _||_}
+use mathlib.Core.List.{List, [], _∷_, _++_, map, List·Memᴰ, List·Memᴰ·head, List·Memᴰ·tail, Memᴰ·of-map}
 use mathlib.Core.Path.{_≡_, refl, sym, ap, ap₂, _∙_, subst}
 use mathlib.Core.Logic.{_⊎_, inl, inr}
 use native.Mathlib.Omega.{arith}
-use lib.Dec.{T, ltb, eqb, eqb→eq, ltb→lt, lt→ltb, nltb→le}
-use lib.ListN.{length, getD, length-map}
-use Rattle.definitions.specs.Lists.{all, any, each, before, below, less, ascending, Apart}
+use lib.Dec.{T, ltb, eqb, eqb→eq, ltb→lt, nltb→le}
+use lib.ListN.{length, length-map}
+use Rattle.lists.specs.Lists.{all, each, below, less, ascending}
+use Rattle.lists.proofs.TestLaws.{and-left, and-right, and-both, or-left, ltb-trans, ltb-irrefl, decide, clash, is-true, is-false, eqb-of}
+use Rattle.lists.proofs.ListLaws.{getD-mem, all-at, all-of, keep-at, keep-of, each-at, each-of}
+use Rattle.lists.proofs.SortLaws.{less-back, less-level, getD-ahead, keep-ascending, ascending-unique, each-ascending, less-two}
+use Rattle.lists.proofs.RangeLaws.{below-of, from-ascending}
+use Rattle.rows.proofs.AnsweringLaws.{ahead-kind}
 use Rattle.definitions.specs.Placements.{Placement}
-use Rattle.definitions.specs.Packing.{rank, ahead}
-use Rattle.definitions.proofs.ListLaws.{and-left, and-right, and-both, or-left, or-cases, all-at, all-of, keep-at, keep-of, keep-ascending, each-at, each-of, below-of, from-ascending, ascending-unique, ltb-trans, ltb-irrefl, less-trans, less-irrefl, decide, clash, is-true, is-false, eqb-of}
-use Rattle.definitions.proofs.OrderLaws.{less-two, pj-of, each-ascending}
+use Rattle.definitions.specs.Packing.{ahead}
+use Rattle.definitions.proofs.OrderLaws.{pj-of}
 use Rattle.definitions.proofs.PackingLaws.{ahead-irrefl}
 use Rattle.rows.specs.Systems.{System, kindBy}
 use Rattle.rows.specs.Lawful.{Lawful, LawfulRow, Permutes, ImageOf, allowed}
-use Rattle.kept.specs.Normal.{noRow, insertRow, sortRows, rowOf, ofKind, counted, InKinds}
-
--- ---- lists
-module _ {A : Type 0} (d : A) where
-  pub getD-in : (xs : List A) (r : ℕ) → r < length xs → List·Memᴰ (getD xs r d) xs
-  getD-in [] r h = absurd (omega arith)
-  getD-in (x ∷ xs) zero h = List·Memᴰ·head refl
-  getD-in (x ∷ xs) (suc r) h = List·Memᴰ·tail (getD-in xs r (omega arith))
-
-  pub getD-ahead : (first : A → A → Bool) (xs : List A) → T (ascending first xs) → (i j : ℕ) → i < j → j < length xs → T (first (getD xs i d) (getD xs j d))
-  getD-ahead first [] t i j h k = absurd (omega arith)
-  getD-ahead first (x ∷ xs) t i zero h k = absurd (omega arith)
-  getD-ahead first (x ∷ xs) t zero (suc j) h k = all-at (first x) xs (and-left (all (first x) xs) (ascending first xs) t) (getD-in xs j (omega arith))
-  getD-ahead first (x ∷ xs) t (suc i) (suc j) h k = getD-ahead first xs (and-right (all (first x) xs) (ascending first xs) t) i j (omega arith) (omega arith)
-
-  -- the first entry that passes, where one does
-  pub before-found : (p : A → Bool) (xs : List A) → T (any p xs) → (before p xs < length xs) × T (p (getD xs (before p xs) d))
-  before-found p [] t = absurd t
-  before-found p (x ∷ xs) t = go (p x) (λ b. b) t (λ (u : T (any p xs)). before-found p xs u)
-    where
-      go : (b : Bool) → (T b → T (p x)) → T (b || any p xs) → (T (any p xs) → (before p xs < length xs) × T (p (getD xs (before p xs) d)))
-          → (cond b 0 (suc (before p xs)) < suc (length xs)) × T (p (getD (x ∷ xs) (cond b 0 (suc (before p xs))) d))
-      go true f u r = (omega arith, f tt)
-      go false f u r = let y = r u in let h = y .0 in (omega arith, y .1)
-
-pub apart-map : {A B : Type 0} (f : A → B) (xs : List A) → Apart xs → ((x y : A) → List·Memᴰ x xs → List·Memᴰ y xs → f x ≡ f y → x ≡ y) → Apart (map f xs)
-apart-map f [] h i = tt
-apart-map f (x ∷ xs) h i = (
-  λ m. let r = Memᴰ·of-map f xs m in h .0 (Memᴰ·cast (i x (r .0) (List·Memᴰ·head refl) (List·Memᴰ·tail (r .1)) (sym (r .2))) (r .1)),
-  apart-map f xs (h .1) (λ y z m k. i y z (List·Memᴰ·tail m) (List·Memᴰ·tail k)),
-)
-
--- ---- numbers in order
-pub insert-at : (r : ℕ) (ss : List ℕ) {z : ℕ} → List·Memᴰ z (insertRow r ss) → (z ≡ r) ⊎ List·Memᴰ z ss
-insert-at r [] m = List·Memᴰ·cases-cons m
-insert-at r (s ∷ ss) {z} m = go (ltb s r) m (λ (k : List·Memᴰ z (insertRow r ss)). insert-at r ss k)
-  where
-    down : (z ≡ r) ⊎ List·Memᴰ z ss → (z ≡ r) ⊎ List·Memᴰ z (s ∷ ss)
-    down (inl e) = inl e
-    down (inr k) = inr (List·Memᴰ·tail k)
-
-    at : (z ≡ s) ⊎ List·Memᴰ z (insertRow r ss) → (List·Memᴰ z (insertRow r ss) → (z ≡ r) ⊎ List·Memᴰ z ss) → (z ≡ r) ⊎ List·Memᴰ z (s ∷ ss)
-    at (inl e) f = inr (List·Memᴰ·head e)
-    at (inr k) f = down (f k)
-
-    go : (b : Bool) → List·Memᴰ z (cond b (s ∷ insertRow r ss) (r ∷ s ∷ ss)) → (List·Memᴰ z (insertRow r ss) → (z ≡ r) ⊎ List·Memᴰ z ss) → (z ≡ r) ⊎ List·Memᴰ z (s ∷ ss)
-    go true k f = at (List·Memᴰ·cases-cons k) f
-    go false k f = List·Memᴰ·cases-cons k
-
-pub insert-of : (r : ℕ) (ss : List ℕ) {z : ℕ} → (z ≡ r) ⊎ List·Memᴰ z ss → List·Memᴰ z (insertRow r ss)
-insert-of r [] {z} k = go k
-  where
-    go : (z ≡ r) ⊎ List·Memᴰ z [] → List·Memᴰ z (r ∷ [])
-    go (inl e) = List·Memᴰ·head e
-    go (inr m) = absurd (List·Memᴰ·not-nil m)
-insert-of r (s ∷ ss) {z} k = go (ltb s r) (λ (l : (z ≡ r) ⊎ List·Memᴰ z ss). insert-of r ss l)
-  where
-    behind : (z ≡ s) ⊎ List·Memᴰ z ss → ((z ≡ r) ⊎ List·Memᴰ z ss → List·Memᴰ z (insertRow r ss)) → List·Memᴰ z (s ∷ insertRow r ss)
-    behind (inl e) f = List·Memᴰ·head e
-    behind (inr m) f = List·Memᴰ·tail (f (inr m))
-
-    later : (z ≡ r) ⊎ List·Memᴰ z (s ∷ ss) → ((z ≡ r) ⊎ List·Memᴰ z ss → List·Memᴰ z (insertRow r ss)) → List·Memᴰ z (s ∷ insertRow r ss)
-    later (inl e) f = List·Memᴰ·tail (f (inl e))
-    later (inr m) f = behind (List·Memᴰ·cases-cons m) f
-
-    first : (z ≡ r) ⊎ List·Memᴰ z (s ∷ ss) → List·Memᴰ z (r ∷ s ∷ ss)
-    first (inl e) = List·Memᴰ·head e
-    first (inr m) = List·Memᴰ·tail m
-
-    go : (b : Bool) → ((z ≡ r) ⊎ List·Memᴰ z ss → List·Memᴰ z (insertRow r ss)) → List·Memᴰ z (cond b (s ∷ insertRow r ss) (r ∷ s ∷ ss))
-    go true f = later k f
-    go false f = first k
-
-pub insert-length : (r : ℕ) (ss : List ℕ) → length (insertRow r ss) ≡ suc (length ss)
-insert-length r [] = refl
-insert-length r (s ∷ ss) = go (ltb s r) (insert-length r ss)
-  where
-    go : (b : Bool) → length (insertRow r ss) ≡ suc (length ss) → length (cond b (s ∷ insertRow r ss) (r ∷ s ∷ ss)) ≡ suc (suc (length ss))
-    go true e = ap suc e
-    go false e = refl
-
-pub insert-ascending : (r : ℕ) (ss : List ℕ) → T (ascending ltb ss) → (List·Memᴰ r ss → ⊥) → T (ascending ltb (insertRow r ss))
-insert-ascending r [] t h = tt
-insert-ascending r (s ∷ ss) t h = go (ltb s r) (λ b. b) (λ b. b) (insert-ascending r ss (and-right (all (ltb s) ss) (ascending ltb ss) t) (λ m. h (List·Memᴰ·tail m)))
-  where
-    rest : T (all (ltb s) ss)
-    rest = and-left (all (ltb s) ss) (ascending ltb ss) t
-
-    at : (z : ℕ) → T (ltb s r) → (z ≡ r) ⊎ List·Memᴰ z ss → T (ltb s z)
-    at z u (inl e) = subst (λ (n : ℕ). T (ltb s n)) (sym e) u
-    at z u (inr m) = all-at (ltb s) ss rest m
-
-    under : T (not (ltb s r)) → T (ltb r s)
-    under u = let a = nltb→le s r u in let b : r ≡ s → ⊥ = λ e. h (List·Memᴰ·head e) in lt→ltb r s (omega arith)
-
-    go : (b : Bool) → (T b → T (ltb s r)) → (T (not b) → T (not (ltb s r))) → T (ascending ltb (insertRow r ss)) → T (ascending ltb (cond b (s ∷ insertRow r ss) (r ∷ s ∷ ss)))
-    go true f g u = and-both (all (ltb s) (insertRow r ss)) (ascending ltb (insertRow r ss)) (all-of (ltb s) (insertRow r ss) (λ z m. at z (f tt) (insert-at r ss m))) u
-    go false f g u =
-        and-both (ltb r s && all (ltb r) ss) (all (ltb s) ss && ascending ltb ss)
-        (and-both (ltb r s) (all (ltb r) ss) (under (g tt)) (all-of (ltb r) ss (λ z m. ltb-trans r s z (under (g tt)) (all-at (ltb s) ss rest m)))) t
-
-pub sorted-at : (rs : List ℕ) {z : ℕ} → List·Memᴰ z (sortRows rs) → List·Memᴰ z rs
-sorted-at [] m = m
-sorted-at (r ∷ rs) {z} m = go (insert-at r (sortRows rs) m) (λ (k : List·Memᴰ z (sortRows rs)). sorted-at rs k)
-  where
-    go : (z ≡ r) ⊎ List·Memᴰ z (sortRows rs) → (List·Memᴰ z (sortRows rs) → List·Memᴰ z rs) → List·Memᴰ z (r ∷ rs)
-    go (inl e) f = List·Memᴰ·head e
-    go (inr k) f = List·Memᴰ·tail (f k)
-
-pub sorted-of : (rs : List ℕ) {z : ℕ} → List·Memᴰ z rs → List·Memᴰ z (sortRows rs)
-sorted-of [] m = m
-sorted-of (r ∷ rs) {z} m = insert-of r (sortRows rs) (go (List·Memᴰ·cases-cons m) (λ (k : List·Memᴰ z rs). sorted-of rs k))
-  where
-    go : (z ≡ r) ⊎ List·Memᴰ z rs → (List·Memᴰ z rs → List·Memᴰ z (sortRows rs)) → (z ≡ r) ⊎ List·Memᴰ z (sortRows rs)
-    go (inl e) f = inl e
-    go (inr k) f = inr (f k)
-
-pub sorted-length : (rs : List ℕ) → length (sortRows rs) ≡ length rs
-sorted-length [] = refl
-sorted-length (r ∷ rs) = insert-length r (sortRows rs) ∙ ap suc (sorted-length rs)
-
-pub sorted-ascending : (rs : List ℕ) → Apart rs → T (ascending ltb (sortRows rs))
-sorted-ascending [] h = tt
-sorted-ascending (r ∷ rs) h = insert-ascending r (sortRows rs) (sorted-ascending rs (h .1)) (λ m. h .0 (sorted-at rs m))
+use Rattle.kept.specs.Normal.{noRow, rowOf, ofKind, counted, InKinds}
 
 -- ---- what the order of packings needs of a lawful system
 pub record Comparable (s : System) : Type 0 where
@@ -153,14 +34,6 @@ pub record Comparable (s : System) : Type 0 where
 pub comparable : (s : System) → Lawful s → Comparable s
 comparable s w = record { inOrder = w .inOrder; row = w .row; byCells = w .byCells; permutes = w .permutes; partnerBack = w .partnerBack; image = w .image }
 
-pub ahead-kind : (q r : Placement) → T (ahead q r) → q .kind ≤ r .kind
-unfolding ahead rank
-ahead-kind q r t = go (or-cases (ltb (q .kind) (r .kind)) (eqb (q .kind) (r .kind) && less (q .p ∷ q .j ∷ []) (r .p ∷ r .j ∷ [])) t)
-  where
-    go : T (ltb (q .kind) (r .kind)) ⊎ T (eqb (q .kind) (r .kind) && less (q .p ∷ q .j ∷ []) (r .p ∷ r .j ∷ [])) → q .kind ≤ r .kind
-    go (inl u) = let h = ltb→lt (q .kind) (r .kind) u in omega arith
-    go (inr u) = let e = eqb→eq (q .kind) (r .kind) (and-left (eqb (q .kind) (r .kind)) (less (q .p ∷ q .j ∷ []) (r .p ∷ r .j ∷ [])) u) in omega arith
-
 -- numbers of rows
 abbrev pub RowNumbers : System → List ℕ → Type 0
 RowNumbers s rs = (r : ℕ) → List·Memᴰ r rs → r < length (s .rows)
@@ -168,11 +41,11 @@ RowNumbers s rs = (r : ℕ) → List·Memᴰ r rs → r < length (s .rows)
 pub of-rows : (s : System) (rs : List ℕ) → T (all (λ r. ltb r (length (s .rows))) rs) → RowNumbers s rs
 of-rows s rs t r m = ltb→lt r (length (s .rows)) (all-at (λ r. ltb r (length (s .rows))) rs t m)
 
-module _ (s : System) (w : Comparable s) where
-  pub row-in : (r : ℕ) → r < length (s .rows) → List·Memᴰ (rowOf s r) (s .rows)
-  unfolding rowOf
-  row-in r h = getD-in noRow (s .rows) r h
+pub row-of-in : (s : System) (r : ℕ) → r < length (s .rows) → List·Memᴰ (rowOf s r) (s .rows)
+unfolding rowOf
+row-of-in s r h = getD-mem noRow (s .rows) r h
 
+module _ (s : System) (w : Comparable s) where
   pub row-ahead : (a b : ℕ) → a < b → b < length (s .rows) → T (ahead (rowOf s a) (rowOf s b))
   unfolding rowOf
   row-ahead a b h k = getD-ahead noRow ahead (s .rows) (w .inOrder) a b h k
@@ -213,7 +86,7 @@ module _ (s : System) (w : Comparable s) where
       ascending-unique ltb ltb-trans ltb-irrefl (each (below (length (s .copies))) (λ k. ofKind s k rs)) rs
       (each-ascending ltb ltb (λ k. ofKind s k rs) (below (length (s .copies))) (from-ascending 0 (length (s .copies))) (λ k m. kind-up k rs t) cross) t
       (λ r m. let x = each-at (λ k. ofKind s k rs) (below (length (s .copies))) m in kinds-of (x .0) rs (x .2) .0)
-      (λ r m. each-of (λ k. ofKind s k rs) (below (length (s .copies))) (below-of (length (s .copies)) (w .row (rowOf s r) (row-in r (h r m)) .ofKind)) (of-kinds (rowOf s r .kind) rs m refl))
+      (λ r m. each-of (λ k. ofKind s k rs) (below (length (s .copies))) (below-of (length (s .copies)) (w .row (rowOf s r) (row-of-in s r (h r m)) .ofKind)) (of-kinds (rowOf s r .kind) rs m refl))
     where
       cross : (k i : ℕ) → List·Memᴰ k (below (length (s .copies))) → List·Memᴰ i (below (length (s .copies))) → T (ltb k i)
           → (a b : ℕ) → List·Memᴰ a (ofKind s k rs) → List·Memᴰ b (ofKind s i rs) → T (ltb a b)
@@ -247,13 +120,6 @@ module _ (s : System) (w : Comparable s) where
           go (inr v) = absurd (ahead-or (decide (ltb b a)) (nltb→le a b v))
 
 -- ---- the numbers of rows of one kind compare as their (p, j)
-less-head : (x y : ℕ) (a b : List ℕ) → x ≡ y → less (x ∷ a) (y ∷ b) ≡ less a b
-less-head x y a b e =
-    ap₂ (λ (u v : Bool). u || (v && less a b)) (is-false (ltb x y) (λ t. let h = ltb→lt x y t in omega arith)) (is-true (eqb x y) (eqb-of e))
-
-less-back : (a b : List ℕ) → T (less a b) → less b a ≡ false
-less-back a b t = is-false (less b a) (λ u. less-irrefl a (less-trans a b a t u))
-
 abbrev pub pj : Placement → List ℕ
 pj q = q .p ∷ q .j ∷ []
 
@@ -284,8 +150,8 @@ module _ (s : System) (w : Comparable s) where
           ∙ sym (less-back (r .p ∷ r .j ∷ d) (q .p ∷ q .j ∷ c) (less-two (r .p) (r .j) (q .p) (q .j) d c (pj-of r q (sym e) (row-ahead s w y x (ltb→lt y x u) h))))
       go (inr t) (inr u) =
           let f : x ≡ y = let v = nltb→le x y t in let z = nltb→le y x u in omega arith in
-          less-head x y a b f ∙ i
-          ∙ sym (less-head (q .p) (r .p) (q .j ∷ c) (r .j ∷ d) (ap (λ (n : ℕ). rowOf s n .p) f) ∙ less-head (q .j) (r .j) c d (ap (λ (n : ℕ). rowOf s n .j) f))
+          less-level x y a b f ∙ i
+          ∙ sym (less-level (q .p) (r .p) (q .j ∷ c) (r .j ∷ d) (ap (λ (n : ℕ). rowOf s n .p) f) ∙ less-level (q .j) (r .j) c d (ap (λ (n : ℕ). rowOf s n .j) f))
 
   codes-same : (k : ℕ) (xs ys : List ℕ) → RowsOfKind k xs → RowsOfKind k ys → length xs ≡ length ys → (a b c d : List ℕ) → less a b ≡ less c d
       → less (xs ++ a) (ys ++ b) ≡ less (each (map (rowOf s) xs) pj ++ c) (each (map (rowOf s) ys) pj ++ d)

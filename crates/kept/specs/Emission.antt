@@ -4,14 +4,20 @@ use mathlib.Core.Bool.{Bool, true, false, cond}
 use mathlib.Core.List.{List, map}
 use Rattle.definitions.specs.Emission.{Emitted, emit}
 use Rattle.definitions.specs.Kept.{Identify}
+use Rattle.definitions.specs.Refusals.{identifies}
 use Rattle.rows.specs.Systems.{System}
 use Rattle.rows.specs.Answering.{answerBy}
 use Rattle.kept.specs.Normal.{rowOf, sortRows, normal}
 use Rattle.kept.specs.declared.emission.Emission as code
+use Rattle.kept.specs.declared.emission.Wanted.{Wanted}
 
 -- the code's state with the entry that may be waited for and the answer buffer
 abbrev pub emittedOf : code.Emission → List ℕ → List ℕ → Emitted
 emittedOf e last answers = record { last = last; waiting = e .waiting; skip = e .skip; written = e .written; further = e .further; answers = answers }
+
+-- what is identified
+abbrev pub identified : Wanted → Identify
+identified w = identifies (w .turned) (w .mirrored)
 
 -- the answer of a packing by its rows in any order
 unfoldable pub answerOf : System → List ℕ → List ℕ

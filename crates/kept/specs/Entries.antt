@@ -1,10 +1,11 @@
 -- The answers that a search's list of packings comes to.
 use Prim.Native.Nat.{ℕ}
 use mathlib.Core.List.{List, [], _∷_, map}
-use Rattle.definitions.specs.Lists.{keep, before, put}
+use Rattle.lists.specs.Lists.{below, keep, before, put}
 use Rattle.definitions.specs.Placements.{Placement}
 use Rattle.definitions.specs.Packing.{ahead, samePlacement}
 use Rattle.definitions.specs.Kept.{Identify}
+use Rattle.definitions.specs.Orders.{State}
 use Rattle.rows.specs.Systems.{System}
 use Rattle.rows.specs.Answering.{answerBy}
 use Rattle.kept.specs.Normal.{normal}
@@ -15,6 +16,10 @@ numbersOf s P = map (λ q. before (samePlacement q) (s .rows)) P
 
 unfoldable pub entries : System → Identify → List (List Placement) → List (List ℕ)
 entries s i L = map (answerBy s) (keep (λ P. normal s i (numbersOf s P)) L)
+
+-- the state in which a search begins: all copies left, no cell covered, nothing chosen
+unfoldable pub startBy : System → State
+startBy s = record { left = s .copies; free = below (s .size); chosen = [] }
 
 -- placements put one after the other into an ascending list
 abbrev pub putAll : List Placement → List Placement → List Placement

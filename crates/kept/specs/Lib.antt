@@ -2,4 +2,3 @@ pub mod Normal
 pub mod Ready
 pub mod Emission
 pub mod Entries
-pub mod Calls

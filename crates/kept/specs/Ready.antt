@@ -5,22 +5,21 @@ use mathlib.Core.List.{List}
 use mathlib.Core.Path.{_≡_}
 use lib.Dec.{T, ltb}
 use lib.ListN.{length, take, getD}
-use Rattle.definitions.specs.Lists.{all, Apart}
+use Rattle.lists.specs.Lists.{all, Apart}
 use Rattle.rows.specs.Systems.{System, systemIn}
 use Rattle.rows.specs.Chains.{Chained}
+use Rattle.rows.specs.Charts.{Charted}
 use Rattle.rows.specs.Lawful.{Lawful}
 use Rattle.kept.specs.Normal.{ofKind}
 use Rattle.rows.specs.declared.Dims.{Dims}
 
-pub record Ready (d : Dims) (work heads images scans kinds pieces : List ℕ) : Type 0 where
-  pub lawful : Lawful (systemIn d work images scans kinds pieces)
-  pub chained : Chained work heads (d .rows)
+-- rows in the work slice, all else in the chart
+pub record Ready (d : Dims) (work chart : List ℕ) : Type 0 where
+  pub lawful : Lawful (systemIn d work chart)
+  pub chained : Chained work chart (d .rows)
+  pub charted : Charted chart
   pub rowsFit : 8 * d .rows ≤ length work
-  pub headsFit : length heads ≡ 128
-  pub imagesFit : 128 * (d .turns + d .mirrorings) ≤ length images
-  pub scansFit : d .places ≤ length scans
-  pub kindsFit : 2 * d .kinds ≤ length kinds
-  pub piecesFit : 2 * d .pieces ≤ length pieces
+  pub fewMaps : d .turns + d .mirrorings ≤ 48
   pub fewPlaces : d .places ≤ 512
   pub fewPieces : d .pieces ≤ 16
 
@@ -29,6 +28,11 @@ pub record OfRows (d : Dims) (path : List ℕ) (n : ℕ) : Type 0 where
   pub within : n ≤ length path
   pub few : n ≤ 128
   pub areRows : T (all (λ r. ltb r (d .rows)) (take n path))
+
+-- a path afterwards: its first n rows are as they were, and it is as long; what lies behind them is free
+pub record Restored (n : ℕ) (before after : List ℕ) : Type 0 where
+  pub rows : take n after ≡ take n before
+  pub long : length after ≡ length before
 
 -- different rows, of no kind more than it has copies
 pub record Fillable (s : System) (rs : List ℕ) : Type 0 where

@@ -3,10 +3,10 @@ ghost use mathlib.Core.Path.{_≡_};
 ghost use Prim.Native.Nat.{_+_, _*_, _≤_, _<_};
 ghost use lib.ListN.{length, take};
 ghost use Rattle.definitions.specs.Emission.{emit};
-ghost use Rattle.definitions.specs.Refusals.{identifies};
 ghost use Rattle.rows.specs.Answering.{Held, answersOver, pathIn, takenBy};
+ghost use Rattle.rows.specs.Charts.{piecesPart, scansPart};
 ghost use Rattle.rows.specs.Systems.{ownedIn, systemIn};
-ghost use Rattle.kept.specs.Emission.{emitKept, emittedOf};
+ghost use Rattle.kept.specs.Emission.{emitKept, emittedOf, identified};
 ghost use Rattle.kept.specs.Ready.{Fillable, OfRows, Ready};
 use super::normal_form;
 use super::sorting;
@@ -21,12 +21,18 @@ pub struct Emission {
     pub further: bool,
 }
 
+// What is wanted of the packings that a search finds: which are identified, and for how many answers there is room.
+pub struct Wanted {
+    pub turned: bool,
+    pub mirrored: bool,
+    pub capacity: usize,
+}
+
 // The answer of the packing whose rows are the first n, ascending: met or passed by, skipped, written behind those before it, or the further one.
 fn emit_answer(
     d: Dims,
     work: &[u64],
-    scans: &[u8],
-    pieces: &[u8],
+    chart: &[u16],
     rows: &[u16],
     n: usize,
     last: &[u8],
@@ -34,8 +40,12 @@ fn emit_answer(
     answers: &mut [u8],
     e: Emission,
 ) -> Emission
-    requires { ⌜ Held d (now work) (now pieces) (now rows) n × (d .places ≤ length (now scans)) × (d .places ≤ 512) × (capacity * (2 * d .places) ≤ length (now answers)) ⌝ }
-    ensures { λ r. ⌜ emittedOf r (now (last .entry)) (now (answers .exit)) ≡ emit capacity (answersOver (takenBy (ownedIn (now (pieces .entry)) (d .pieces)) (d .kinds) (pathIn (now (work .entry)) (now (rows .entry)) n)) (take (d .places) (now (scans .entry)))) (emittedOf e (now (last .entry)) (now (answers .entry))) ⌝ }
+    requires { ⌜ Held d (now work) (now chart) (now rows) n × (d .places ≤ 512) × (capacity * (2 * d .places) ≤ length (now answers)) ⌝ }
+    ensures { λ r. do
+      let taken = takenBy (ownedIn (piecesPart (now (chart .entry))) (d .pieces)) (d .kinds) (pathIn (now (work .entry)) (now (rows .entry)) n)
+      let answer = answersOver taken (take (d .places) (scansPart (now (chart .entry))))
+      let old = emittedOf e (now (last .entry)) (now (answers .entry))
+      ⌜ emittedOf r (now (last .entry)) (now (answers .exit)) ≡ emit capacity answer old ⌝ }
 {
     let skip = e.skip;
     let written = e.written;
@@ -43,7 +53,7 @@ fn emit_answer(
         return e;
     }
     if e.waiting {
-        let met = answers::is_answer(d, work, scans, pieces, rows, n, last);
+        let met = answers::is_answer(d, work, chart, rows, n, last);
         return Emission {
             waiting: !met,
             skip,
@@ -60,16 +70,7 @@ fn emit_answer(
         };
     }
     if written < capacity {
-        answers::reconstruct_answer(
-            d,
-            work,
-            scans,
-            pieces,
-            rows,
-            n,
-            answers,
-            written * (2 * d.places),
-        );
+        answers::reconstruct_answer(d, work, chart, rows, n, answers, written * (2 * d.places));
         return Emission {
             waiting: false,
             skip: 0,
@@ -89,49 +90,35 @@ fn emit_answer(
 pub fn emit_kept(
     d: Dims,
     work: &[u64],
-    heads: &[u16],
-    images: &[u8],
-    scans: &[u8],
-    kinds: &[u8],
-    pieces: &[u8],
-    turned: bool,
-    mirrored: bool,
+    chart: &[u16],
+    wanted: Wanted,
     path: &[u16],
     n: usize,
     last: &[u8],
-    capacity: usize,
     answers: &mut [u8],
     e: Emission,
 ) -> Emission
-    requires { ⌜ Ready d (now work) (now heads) (now images) (now scans) (now kinds) (now pieces) × OfRows d (now path) n × Fillable (systemIn d (now work) (now images) (now scans) (now kinds) (now pieces)) (take n (now path)) × (capacity * (2 * d .places) ≤ length (now answers)) ⌝ }
-    ensures { λ r. ⌜ emittedOf r (now (last .entry)) (now (answers .exit)) ≡ emitKept (systemIn d (now (work .entry)) (now (images .entry)) (now (scans .entry)) (now (kinds .entry)) (now (pieces .entry))) (identifies turned mirrored) capacity (take n (now (path .entry))) (emittedOf e (now (last .entry)) (now (answers .entry))) ⌝ }
+    requires { do
+      let S = systemIn d (now work) (now chart)
+      ⌜ Ready d (now work) (now chart) × OfRows d (now path) n × Fillable S (take n (now path)) × (wanted .capacity * (2 * d .places) ≤ length (now answers)) ⌝ }
+    ensures { λ r. do
+      let S = systemIn d (now (work .entry)) (now (chart .entry))
+      let old = emittedOf e (now (last .entry)) (now (answers .entry))
+      ⌜ emittedOf r (now (last .entry)) (now (answers .exit)) ≡ emitKept S (identified wanted) (wanted .capacity) (take n (now (path .entry))) old ⌝ }
 {
     let mut sorted = [0u16; 128];
     sorting::sort_path(path, n, &mut sorted);
-    if !normal_form::is_normal_form(
-        d,
-        work,
-        heads,
-        images,
-        scans,
-        kinds,
-        pieces,
-        &sorted,
-        n,
-        turned,
-        mirrored,
-    ) {
+    if !normal_form::is_normal_form(d, work, chart, &sorted, n, wanted.turned, wanted.mirrored) {
         return e;
     }
     emit_answer(
         d,
         work,
-        scans,
-        pieces,
+        chart,
         &sorted,
         n,
         last,
-        capacity,
+        wanted.capacity,
         answers,
         e,
     )

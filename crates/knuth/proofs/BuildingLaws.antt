@@ -1,60 +1,37 @@
 -- The links of a row system as they are built: the nodes of the rows one after the other, and what `link_all` asks of them. Assumes nothing.
-use Prim.Native.Nat.{ℕ, zero, suc, _+_, _-_, _*_, _≤_, _<_}
+use Prim.Native.Nat.{ℕ, suc, _+_, _-_, _*_, _≤_, _<_}
 use mathlib.Core.Bool.{Bool, true, false, not}
-use mathlib.Core.List.{List, [], _∷_, _++_, append-nil, append-assoc, List·Memᴰ, List·Memᴰ·head, List·Memᴰ·tail}
+use mathlib.Core.List.{List, [], _∷_, _++_, append-nil, append-assoc}
 use mathlib.Core.Logic.{_⊎_, inl, inr}
 use mathlib.Core.Path.{_≡_, refl, sym, ap, _∙_, subst}
 use native.Mathlib.Omega.{arith}
 use borrow.Author.Tests.{lt-ltb, le-ltb}
 use lib.Dec.{T, ltb, ltb→lt, nltb→le}
 use lib.ListN.{length, getD, length-append, length-map, List·getD-map}
-use Rattle.definitions.specs.Lists.{consIf, keep, howMany, below, from, sum}
+use Rattle.lists.specs.Lists.{keep, howMany, below, from}
+use Rattle.lists.proofs.TestLaws.{decide}
+use Rattle.lists.proofs.ListLaws.{keep-append, getD-map}
+use Rattle.lists.proofs.RangeLaws.{keep-below, length-from, below-split, getD-number}
+use Rattle.lists.proofs.CountLaws.{at-most-sum, howMany-length}
 use Rattle.definitions.specs.Placements.{Placement}
-use Rattle.definitions.proofs.ListLaws.{decide, keep-of, keep-append, from-at, below-of, length-from}
-use Rattle.definitions.proofs.CountLaws.{howMany-length}
 use Rattle.masks.specs.Masks.{has}
+use Rattle.rows.specs.Charts.{kindsPart}
 use Rattle.rows.specs.declared.Dims.{Dims}
 use Rattle.rows.specs.Rows.{cellsOf, maskAt, rowAt}
-use Rattle.rows.specs.Systems.{System, systemIn}
+use Rattle.rows.specs.Systems.{System, systemIn, systemOver}
 use Rattle.rows.specs.Lawful.{Lawful}
 use Rattle.kept.specs.Normal.{rowOf}
 use Rattle.kept.specs.Ready.{Ready}
-use Rattle.kept.proofs.NormalFormLaws.{kinds-many, rows-many, row-of, row-in, row-kind, copies-at, few-cells, few-kinds}
-use Rattle.links.specs.Links.{Table, LawfulTable, Fields}
-use Rattle.links.specs.Search.{Shape, Seek, copies}
-use Rattle.links.specs.Build.{Posed, Stocked, whole, all}
-use Rattle.knuth.specs.Tables.{Node, nodeAt, nodesIn, headNodes, rowNodes, nodesFrom, stockedRows, columns, linkNodes, tableOf, Laid, StockLaid}
+use Rattle.kept.proofs.NormalFormLaws.{copies-at}
+use Rattle.links.specs.Links.{copiesOf, atColumn, atFirst, atEnd, atCopies, atRow, Still, Matrix, LawfulMatrix, Fields}
+use Rattle.links.specs.Search.{Shape, Seek}
+use Rattle.links.specs.Build.{Posed, Stocked, whole, everyColumn}
+use Rattle.links.proofs.Places.{still-behind}
+use Rattle.knuth.specs.Tables.{Node, nodeAt, nodesIn, headNodes, rowNodes, nodesFrom, stockedRows, columns, linkNodes, matrixOf, Laid, StockLaid}
 use Rattle.knuth.specs.Listing.{Begun}
-use Rattle.knuth.proofs.LaidLaws.{below-split, keep-hit, keep-miss, heads-length, same-node, same-nodes, laid-more, laid-none}
-use Rattle.knuth.proofs.TableOfLaws.{getD-map-in, getD-from, noNode, table-lawful, table-shape, table-rows, row-lawful}
-
--- ---- lists
-keep-none : {A : Type 0} (p : A → Bool) (xs : List A) → ((x : A) → List·Memᴰ x xs → T (p x) → ⊥) → keep p xs ≡ []
-keep-none p [] f = refl
-keep-none p (x ∷ xs) f = go (p x) (f x (List·Memᴰ·head refl)) (keep-none p xs (λ y m. f y (List·Memᴰ·tail m)))
-  where
-    go : (b : Bool) → (T b → ⊥) → keep p xs ≡ [] → consIf b x (keep p xs) ≡ []
-    go true h e = absurd (h tt)
-    go false h e = e
-
--- where all that pass are below n, those below n are all
-keep-below : (p : ℕ → Bool) (n m : ℕ) → n ≤ m → ((c : ℕ) → List·Memᴰ c (keep p (below m)) → c < n) → keep p (below m) ≡ keep p (below n)
-keep-below p n m h f =
-    ap (keep p) (below-split n m h) ∙ keep-append p (below n) (from n (m - n))
-    ∙ ap (λ (l : List ℕ). keep p (below n) ++ l) (keep-none p (from n (m - n)) over) ∙ append-nil (keep p (below n))
-  where
-    over : (c : ℕ) → List·Memᴰ c (from n (m - n)) → T (p c) → ⊥
-    over c k t =
-        let r = from-at n (m - n) k in
-        let a = r .0 in
-        let b = r .1 in
-        let l = f c (keep-of p (below m) (below-of m (omega arith)) t) in
-        omega arith
-
-at-most-sum : (xs : List ℕ) (k : ℕ) → getD xs k 0 ≤ sum xs
-at-most-sum [] k = omega arith
-at-most-sum (x ∷ xs) zero = omega arith
-at-most-sum (x ∷ xs) (suc k) = let h = at-most-sum xs k in omega arith
+use Rattle.knuth.proofs.LaidLaws.{keep-hit, keep-miss, heads-length, same-node, same-nodes, beside-copies, beside-behind, laid-more, laid-none}
+use Rattle.knuth.proofs.TableOfLaws.{noNode, matrix-lawful, matrix-shape, matrix-rows, row-lawful}
+use Rattle.kept.proofs.ReadyLaws.{few-cells, few-kinds, row-kind, kinds-many, rows-many, row-is, row-in}
 
 -- ---- the nodes of rows
 pub row-length : (size x r kind : ℕ) (cells : List ℕ) → length (rowNodes size x r kind cells) ≡ suc (length cells)
@@ -122,45 +99,45 @@ module _ (s : System) where
       omega arith
 
 -- ---- the rows as they stand in slices
-module _ (d : Dims) (work heads images scans kinds pieces : List ℕ) where
+module _ (d : Dims) (work chart : List ℕ) where
   abbrev S : System
-  S = systemIn d work images scans kinds pieces
+  S = systemIn d work chart
 
   pub columns-are : columns S ≡ d .cells + d .kinds
-  unfolding columns systemIn
-  columns-are = let e = kinds-many d work images scans kinds pieces in omega arith
+  unfolding columns systemIn systemOver
+  columns-are = let e = kinds-many d work chart in omega arith
 
-  module _ (ready : Ready d work heads images scans kinds pieces) (r : ℕ) (h : r < d .rows) where
+  module _ (ready : Ready d work chart) (r : ℕ) (h : r < d .rows) where
     abbrev inMask : ℕ → Bool
     inMask = has (maskAt work r)
 
     kind-is : rowOf S r .kind ≡ rowAt work r .kind
-    kind-is = ap (λ (q : Placement). q .kind) (row-of d work images scans kinds pieces r h)
+    kind-is = ap (λ (q : Placement). q .kind) (row-is d work chart r h)
 
     cells-are : rowOf S r .cells ≡ keep inMask (below (d .cells))
-    unfolding systemIn rowAt cellsOf
+    unfolding systemIn systemOver rowAt cellsOf
     cells-are =
-        ap (λ (q : Placement). q .cells) (row-of d work images scans kinds pieces r h)
-        ∙ keep-below inMask (d .cells) 128 (few-cells d work images scans kinds pieces heads ready)
-        (λ c m. ready .lawful .row (rowAt work r) (row-in d work images scans kinds pieces r h) .onBoard c m)
+        ap (λ (q : Placement). q .cells) (row-is d work chart r h)
+        ∙ keep-below inMask (d .cells) 128 (few-cells d work chart (ready .lawful))
+        (λ c m. ready .lawful .row (rowAt work r) (row-in d work chart r h) .onBoard c m)
 
-    stock-is : getD kinds (2 * rowAt work r .kind) 0 ≡ getD (S .copies) (rowOf S r .kind) 0
+    stock-is : getD (kindsPart chart) (3 * rowAt work r .kind) 0 ≡ getD (S .copies) (rowOf S r .kind) 0
     stock-is =
-        copies-at d work images scans kinds pieces (rowAt work r .kind) (row-kind d work images scans kinds pieces heads ready r h)
+        copies-at d work chart (rowAt work r .kind) (row-kind d work chart (ready .lawful) r h)
         ∙ ap (λ (k : ℕ). getD (S .copies) k 0) (sym kind-is)
 
     module _ (kind : ℕ) (k-is : kind ≡ rowAt work r .kind) where
-      stock-at : getD kinds (2 * kind) 0 ≡ getD (S .copies) (rowOf S r .kind) 0
-      stock-at = ap (λ (k : ℕ). getD kinds (2 * k) 0) k-is ∙ stock-is
+      stock-at : getD (kindsPart chart) (3 * kind) 0 ≡ getD (S .copies) (rowOf S r .kind) 0
+      stock-at = ap (λ (k : ℕ). getD (kindsPart chart) (3 * k) 0) k-is ∙ stock-is
 
-      pub stocked-yes : 0 < getD kinds (2 * kind) 0 → hasStock S r ≡ true
+      pub stocked-yes : 0 < getD (kindsPart chart) (3 * kind) 0 → hasStock S r ≡ true
       stocked-yes l = let e = stock-at in lt-ltb 0 (getD (S .copies) (rowOf S r .kind) 0) (omega arith)
 
-      pub stocked-no : getD kinds (2 * kind) 0 ≤ 0 → hasStock S r ≡ false
+      pub stocked-no : getD (kindsPart chart) (3 * kind) 0 ≤ 0 → hasStock S r ≡ false
       stocked-no l = let e = stock-at in le-ltb 0 (getD (S .copies) (rowOf S r .kind) 0) (omega arith)
 
     node-list : (x : ℕ) → rowAtNode S x r ≡ rowNodes (d .cells) x r (rowAt work r .kind) (keep inMask (below (d .cells)))
-    unfolding systemIn
+    unfolding systemIn systemOver
     node-list x = ap (λ (k : ℕ). rowNodes (d .cells) x r k (rowOf S r .cells)) kind-is ∙ ap (rowNodes (d .cells) x r (rowAt work r .kind)) cells-are
 
     module _ (yes : hasStock S r ≡ true) where
@@ -177,7 +154,7 @@ module _ (d : Dims) (work heads images scans kinds pieces : List ℕ) where
         pub row-room : x + suc (howMany inMask (below (d .cells))) ≤ 4096
         row-room =
             let a = end-next in
-            let b = to-room S (r + 1) (let e = rows-many d work images scans kinds pieces in omega arith) in
+            let b = to-room S (r + 1) (let e = rows-many d work chart in omega arith) in
             omega arith
 
         pub row-end : (y : ℕ) → y ≡ x + suc (howMany inMask (below (d .cells))) → y ≡ endTo S (r + 1)
@@ -187,7 +164,7 @@ module _ (d : Dims) (work heads images scans kinds pieces : List ℕ) where
             → Laid a (columns S) c (nodesTo S (r + 1))
         row-more a b c p q =
             subst (Laid a (columns S) c) (sym (to-hit S r yes))
-            (laid-more a b c (columns S) x (nodesTo S r) (rowAtNode S (endTo S r) r) is (let g = row-room in omega arith) p
+            (laid-more a b c (columns S) x (nodesTo S r) (rowAtNode S (endTo S r) r) is p
             (subst (Laid b x c) (sym (node-list x) ∙ ap (λ (z : ℕ). rowAtNode S z r) is) q))
 
     module _ (none : hasStock S r ≡ false) where
@@ -201,24 +178,24 @@ module _ (d : Dims) (work heads images scans kinds pieces : List ℕ) where
   pub rows-end : (r x : ℕ) → r ≡ d .rows → x ≡ endTo S r → x ≡ length (linkNodes S)
   rows-end r x e f =
       let a = links-length S in
-      let b = ap length (to-all S r (let g = rows-many d work images scans kinds pieces in omega arith)) in
+      let b = ap length (to-all S r (let g = rows-many d work chart in omega arith)) in
       omega arith
 
   pub rows-laid : (r : ℕ) (a b : List ℕ) → r ≡ d .rows → Laid a (columns S) b (nodesTo S r) → Laid a (columns S) b (nodesFrom S (columns S) (stockedRows S))
-  rows-laid r a b e p = subst (Laid a (columns S) b) (to-all S r (let g = rows-many d work images scans kinds pieces in omega arith)) p
+  rows-laid r a b e p = subst (Laid a (columns S) b) (to-all S r (let g = rows-many d work chart in omega arith)) p
 
   pub rows-none : (m : List ℕ) (x : ℕ) → x ≡ d .cells + d .kinds → (x ≡ endTo S 0) × Laid m (columns S) m (nodesTo S 0)
   rows-none m x e = (let c = columns-are in omega arith, laid-none m (columns S))
 
   -- ---- what `link_all` asks, and what it makes
-  module _ (ready : Ready d work heads images scans kinds pieces) (fits : length (linkNodes S) ≤ 4096) (m0 m1 m2 m3 : List ℕ)
-      (one : Laid m0 0 m1 (headNodes (d .cells + d .kinds))) (two : StockLaid m1 m2 (d .cells) (d .kinds) kinds)
+  module _ (ready : Ready d work chart) (fits : length (linkNodes S) ≤ 4096) (m0 m1 m2 m3 : List ℕ)
+      (one : Laid m0 0 m1 (headNodes (d .cells + d .kinds))) (two : StockLaid m1 m2 (d .cells) (d .kinds) chart)
       (three : Laid m2 (columns S) m3 (nodesFrom S (columns S) (stockedRows S))) (long : 32768 ≤ length m3) where
     law : Lawful S
     law = ready .lawful
 
     few : d .cells + d .kinds ≤ 144
-    few = let a = few-cells d work images scans kinds pieces heads ready in let b = few-kinds d work images scans kinds pieces heads ready in omega arith
+    few = let a = few-cells d work chart (ready .lawful) in let b = few-kinds d work chart (ready .lawful) in omega arith
 
     heads-stay : nodesIn m2 0 (columns S) ≡ headNodes (columns S)
     heads-stay =
@@ -226,8 +203,8 @@ module _ (d : Dims) (work heads images scans kinds pieces : List ℕ) where
         same-nodes m1 m2 0 (columns S)
         (λ y g h.
         let e = columns-are in
-        same-node m1 m2 y (two .others (8192 + y) (inl (omega arith))) (two .others (12288 + y) (inl (omega arith))) (two .others (16384 + y) (inl (omega arith)))
-        (two .others (28672 + y) (inr (omega arith))))
+        same-node m1 m2 y (two .others (atColumn y) (λ j k e. omega arith)) (two .others (atFirst y) (λ j k e. omega arith)) (two .others (atEnd y) (λ j k e. omega arith))
+        (two .others (atRow y) (λ j k e. omega arith)))
         ∙ subst (λ (n : ℕ). nodesIn m1 0 n ≡ headNodes n) (sym columns-are)
         (ap (nodesIn m1 0) (sym (heads-length (d .cells + d .kinds))) ∙ one .nodes)
 
@@ -235,10 +212,7 @@ module _ (d : Dims) (work heads images scans kinds pieces : List ℕ) where
     heads-laid =
         record {
           nodes = ap (nodesIn m2 0) (heads-length (columns S)) ∙ heads-stay;
-          others = λ y h o. refl;
-          below = λ i h. refl;
-          between = λ i h k. refl;
-          behind = λ i h. refl;
+          others = λ i s. refl;
         }
 
     all-laid : Laid m2 0 m3 (linkNodes S)
@@ -247,18 +221,18 @@ module _ (d : Dims) (work heads images scans kinds pieces : List ℕ) where
         let a = heads-length (columns S) in
         let b = few in
         let c = columns-are in
-        laid-more m2 m2 m3 0 (columns S) (headNodes (columns S)) (nodesFrom S (columns S) (stockedRows S)) (omega arith) (omega arith) heads-laid three
+        laid-more m2 m2 m3 0 (columns S) (headNodes (columns S)) (nodesFrom S (columns S) (stockedRows S)) (omega arith) heads-laid three
 
     node-is : (x : ℕ) → x < length (linkNodes S) → nodeAt m3 x ≡ getD (linkNodes S) x noNode
     unfolding nodesIn
     node-is x h =
         let a = length-from 0 (length (linkNodes S)) in
-        let e : x ≡ getD (from 0 (length (linkNodes S))) x 0 = let b = getD-from 0 (length (linkNodes S)) x 0 h in omega arith in
-        ap (nodeAt m3) e ∙ sym (getD-map-in (nodeAt m3) (from 0 (length (linkNodes S))) x 0 noNode (omega arith))
+        let e : x ≡ getD (from 0 (length (linkNodes S))) x 0 = let b = getD-number 0 (length (linkNodes S)) x 0 h in omega arith in
+        ap (nodeAt m3) e ∙ sym (getD-map 0 noNode (nodeAt m3) (from 0 (length (linkNodes S))) x (omega arith))
         ∙ ap (λ (l : List Node). getD l x noNode) (all-laid .nodes)
 
-    fields : Fields (tableOf S) m3
-    unfolding tableOf nodeAt
+    fields : Fields (matrixOf S) m3
+    unfolding matrixOf nodeAt
     fields =
         record {
           long = long;
@@ -268,17 +242,17 @@ module _ (d : Dims) (work heads images scans kinds pieces : List ℕ) where
           row = λ x h. ap (λ (n : Node). n .row) (node-is x h) ∙ sym (List·getD-map (λ (n : Node). n .row) (linkNodes S) x noNode);
         }
 
-    copy-cell : (j : ℕ) → j < d .cells → copies m3 j ≡ 0
-    copy-cell j h = let l = few in three .between (24576 + j) (omega arith) (omega arith) ∙ two .cells j h
+    copy-cell : (j : ℕ) → j < d .cells → copiesOf m3 j ≡ 0
+    copy-cell j h = three .others (atCopies j) (beside-copies _ _ j) ∙ two .cells j h
 
-    copy-kind : (k : ℕ) → k < d .kinds → copies m3 (d .cells + k) ≡ getD (S .copies) k 0
+    copy-kind : (k : ℕ) → k < d .kinds → copiesOf m3 (d .cells + k) ≡ getD (S .copies) k 0
     copy-kind k h =
-        let l = few in three .between (24576 + (d .cells + k)) (omega arith) (omega arith) ∙ two .copies k h ∙ copies-at d work images scans kinds pieces k h
+        three .others (atCopies (d .cells + k)) (beside-copies _ _ (d .cells + k)) ∙ two .copies k h ∙ copies-at d work chart k h
 
-    few-copies : (j : ℕ) → j < columns S → copies m3 j < 4096
+    few-copies : (j : ℕ) → j < columns S → copiesOf m3 j < 4096
     few-copies j h = go (decide (ltb j (d .cells)))
       where
-        go : T (ltb j (d .cells)) ⊎ T (not (ltb j (d .cells))) → copies m3 j < 4096
+        go : T (ltb j (d .cells)) ⊎ T (not (ltb j (d .cells))) → copiesOf m3 j < 4096
         go (inl t) = let e = copy-cell j (ltb→lt j (d .cells) t) in omega arith
         go (inr t) =
             let l = nltb→le j (d .cells) t in
@@ -286,48 +260,54 @@ module _ (d : Dims) (work heads images scans kinds pieces : List ℕ) where
             let e : d .cells + (j - d .cells) ≡ j = omega arith in
             let a = at-most-sum (S .copies) (j - d .cells) in
             let b = law .fewCopies in
-            let f = ap (copies m3) e in
+            let f = ap (copiesOf m3) e in
             omega (arith, copy-kind (j - d .cells) (omega arith))
 
-    some-copies : (x : ℕ) → columns S ≤ x → x < tableOf S .nodes → 1 ≤ copies m3 (tableOf S .col (tableOf S .lo x))
-    unfolding systemIn
+    some-copies : (x : ℕ) → columns S ≤ x → x < matrixOf S .nodes → 1 ≤ copiesOf m3 (matrixOf S .col (matrixOf S .lo x))
+    unfolding systemIn systemOver
     some-copies x g h =
-        let n = table-rows S x g h in
+        let n = matrix-rows S x g h in
         let a = n .stocked in
         let b = row-lawful S law x g h .ofKind in
-        let e = kinds-many d work images scans kinds pieces in
-        let f = ap (copies m3) (n .kind) in
-        omega (arith, copy-kind (rowOf S (tableOf S .row x) .kind) (omega arith))
+        let e = kinds-many d work chart in
+        let f = ap (copiesOf m3) (n .kind) in
+        omega (arith, copy-kind (rowOf S (matrixOf S .row x) .kind) (omega arith))
 
-    stocked : Stocked (tableOf S) m3
-    unfolding tableOf
+    stocked : Stocked (matrixOf S) m3
+    unfolding matrixOf
     stocked = record { few = few-copies; some = some-copies }
 
-    shape : Shape (tableOf S) (d .cells)
-    unfolding systemIn
-    shape = table-shape S law
+    shape : Shape (matrixOf S) (d .cells)
+    unfolding systemIn systemOver
+    shape = matrix-shape S law
 
     module _ (nodes : ℕ) (n-is : nodes ≡ length (linkNodes S)) where
       pub posed : Posed m3 (d .cells) (d .cells + d .kinds) nodes
-      unfolding tableOf
+      unfolding matrixOf
       posed =
           record {
-            table = record { t = tableOf S; law = table-lawful S law fits; fields = fields; c-is = sym columns-are; n-is = n-is };
+            stored = record { t = matrixOf S; law = matrix-lawful S law fits; fields = fields; c-is = sym columns-are; n-is = n-is };
             shape = shape;
             stocked = stocked;
           }
 
       pub begun : (m4 : List ℕ)
-          → ((t : Table) (l : LawfulTable t) → Fields t m3 → Shape t (d .cells) → Stocked t m3 → d .cells + d .kinds ≡ t .cols → nodes ≡ t .nodes → Seek (whole t l) all (copies m3) (d .cells) (d .cells) m4)
+          → ((t : Matrix) (l : LawfulMatrix t) → Fields t m3 → Shape t (d .cells) → Stocked t m3 → d .cells + d .kinds ≡ t .cols → nodes ≡ t .nodes
+          → Seek (whole t l) everyColumn (copiesOf m3) (d .cells) (d .cells) m4)
           → Begun S m4
-      unfolding tableOf systemIn
+      unfolding matrixOf systemIn systemOver
       begun m4 f =
           record {
-            law = table-lawful S law fits;
-            cp = copies m3;
-            seek = f (tableOf S) (table-lawful S law fits) fields shape stocked (sym columns-are) n-is;
-            stock = λ k h. copy-kind k (let e = kinds-many d work images scans kinds pieces in omega arith);
+            law = matrix-lawful S law fits;
+            copies = copiesOf m3;
+            seek = f (matrixOf S) (matrix-lawful S law fits) fields shape stocked (sym columns-are) n-is;
+            stock = λ k h. copy-kind k (let e = kinds-many d work chart in omega arith);
           }
 
-    pub built-behind : (m4 : List ℕ) → ((i : ℕ) → 24576 ≤ i → getD m4 i 0 ≡ getD m3 i 0) → (i : ℕ) → 32768 ≤ i → getD m4 i 0 ≡ getD m0 i 0
-    built-behind m4 f i h = let l = few in f i (omega arith) ∙ three .behind i h ∙ two .others i (inr (omega arith)) ∙ one .behind i h
+    pub built-behind : (m4 : List ℕ) → ((i : ℕ) → Still i → getD m4 i 0 ≡ getD m3 i 0) → (i : ℕ) → 32768 ≤ i → getD m4 i 0 ≡ getD m0 i 0
+    built-behind m4 f i h =
+        let l = few in
+        let n = links-length S in
+        let k = heads-length (d .cells + d .kinds) in
+        f i (still-behind i h) ∙ three .others i (beside-behind _ _ i (omega arith) h)
+        ∙ two .others i (λ j g e. omega arith) ∙ one .others i (beside-behind _ _ i (omega arith) h)

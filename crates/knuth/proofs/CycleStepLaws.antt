@@ -6,107 +6,112 @@ use mathlib.Core.Path.{_≡_, refl, sym, ap, _∙_, subst}
 use mathlib.Core.Logic.{⊎-elim}
 use native.Mathlib.Omega.{arith}
 use lib.Dec.{T, ltb, lt→ltb}
-use lib.ListN.{length, take, set, getD, length-take, length-map, length-set}
-use Rattle.definitions.specs.Lists.{all, below}
+use lib.ListN.{length, take, set, length-take, length-set}
+use Rattle.lists.specs.Lists.{all}
+use Rattle.lists.proofs.ListLaws.{all-at, all-of, take-set-next}
 use Rattle.definitions.specs.Kept.{Identify}
 use Rattle.definitions.specs.Emission.{Emitted}
-use Rattle.definitions.proofs.ListLaws.{all-at, all-of, length-below}
-use Rattle.rows.specs.Rows.{rowsIn, rowAt}
-use Rattle.rows.specs.Systems.{System, systemIn, ownedIn}
+use Rattle.rows.specs.Charts.{scansPart, piecesPart}
+use Rattle.rows.specs.Rows.{rowAt}
+use Rattle.rows.specs.Systems.{System, systemIn, ownedIn, systemOver}
 use Rattle.rows.specs.Shown.{Shown, showsRow}
 use Rattle.rows.specs.Lawful.{Lawful}
 use Rattle.rows.specs.declared.Dims.{Dims}
 use Rattle.kept.specs.Emission.{emitKept}
 use Rattle.kept.specs.Normal.{rowOf}
-use Rattle.kept.specs.Ready.{Fillable, OfRows}
-use Rattle.kept.proofs.ReadyLaws.{row-is as row-stands, row-in as row-here, row-cells, few-cells}
-use Rattle.links.specs.Cover.{World, cnt, worldTo}
-use Rattle.links.specs.Search.{Seek, At, selected, spend, start, pivot}
-use Rattle.links.proofs.Search.{choose-at, sel-unc, try-live, try-sub, try-seek, try-at}
-use Rattle.knuth.specs.Tables.{tableOf}
+use Rattle.kept.specs.Ready.{Fillable, OfRows, Restored}
+use Rattle.kept.proofs.ReadyLaws.{rows-many, row-is as row-stands, row-in as row-here, row-cells, few-cells}
+use Rattle.links.specs.Links.{down, firstOf, endOf, sizeOf, rowNumber}
+use Rattle.links.specs.Cover.{Reduced, reducedTo}
+use Rattle.links.specs.Search.{Seek, At, selected, spend, firstCovered, pivot}
+use Rattle.links.proofs.Search.{choose-at, sel-uncovered, try-live, try-sub, try-seek, try-at}
+use Rattle.knuth.specs.Tables.{matrixOf}
 use Rattle.knuth.specs.Listing.{Chosen, Choosable, Tryable, emitAll, knuthBelow, knuthRows}
 use Rattle.knuth.proofs.ChosenLaws.{all-fill, row-number, row-small, chosen-next, room-next}
-use Rattle.knuth.proofs.CycleLaws.{path-longer, leaf, none, below-rows, no-rows, stops, goes-on}
+use Rattle.knuth.proofs.CycleLaws.{leaf, none, below-rows, no-rows, stops, goes-on}
 use Rattle.knuth.proofs.UnmetLaws.{passed-over}
 
-module _ (d : Dims) (work images scans kinds pieces : List ℕ) where
+module _ (d : Dims) (work chart : List ℕ) where
   abbrev S : System
-  S = systemIn d work images scans kinds pieces
+  S = systemIn d work chart
 
   size-is : S .size ≡ d .cells
-  unfolding systemIn
+  unfolding systemIn systemOver
   size-is = refl
 
-  rows-are : length (S .rows) ≡ d .rows
-  unfolding systemIn rowsIn
-  rows-are = length-map (below (d .rows)) (rowAt work) ∙ length-below (d .rows)
-
-  pub to-seek : {w : World} {unc : ℕ → Bool} {cp : ℕ → ℕ} {left : ℕ} {m : List ℕ} → Seek w unc cp (d .cells) left m → Seek w unc cp (S .size) left m
-  unfolding systemIn
+  pub to-seek : {w : Reduced} {uncovered : ℕ → Bool} {copies : ℕ → ℕ} {left : ℕ} {m : List ℕ} → Seek w uncovered copies (d .cells) left m → Seek w uncovered copies (S .size) left m
+  unfolding systemIn systemOver
   to-seek q = q
 
-  pub of-seek : {w : World} {unc : ℕ → Bool} {cp : ℕ → ℕ} {left : ℕ} {m : List ℕ} → Seek w unc cp (S .size) left m → Seek w unc cp (d .cells) left m
-  unfolding systemIn
+  pub of-seek : {w : Reduced} {uncovered : ℕ → Bool} {copies : ℕ → ℕ} {left : ℕ} {m : List ℕ} → Seek w uncovered copies (S .size) left m → Seek w uncovered copies (d .cells) left m
+  unfolding systemIn systemOver
   of-seek q = q
 
-  to-at : {w : World} {c k : ℕ} → At w (d .cells) c k → At w (S .size) c k
-  unfolding systemIn
+  to-at : {w : Reduced} {c k : ℕ} → At w (d .cells) c k → At w (S .size) c k
+  unfolding systemIn systemOver
   to-at q = q
 
-  to-shown : {last shown : List ℕ} → Shown (d .cells) (take (d .places) scans) last shown → Shown (S .size) (S .scans) last shown
-  unfolding systemIn
+  to-shown : {last shown : List ℕ} → Shown (d .cells) (take (d .places) (scansPart chart)) last shown → Shown (S .size) (S .scans) last shown
+  unfolding systemIn systemOver
   to-shown q = q
 
   -- ---- choosing a column
   pub leaf-fills : {m : List ℕ} {left : ℕ} {rs : List ℕ} → Choosable S m left rs → Fillable S rs
   leaf-fills p = all-fill S (p .seek) (p .chosen)
 
-  pub column-tryable : {m : List ℕ} {left : ℕ} {rs : List ℕ} → Choosable S m left rs → (left ≡ 0 → ⊥) → (c : ℕ) → c ≡ pivot (cnt m) (d .cells) → (c ≡ 4096 → ⊥) → (k : ℕ) → k ≡ getD m (4096 + c) 0
+  pub column-tryable : {m : List ℕ} {left : ℕ} {rs : List ℕ} → Choosable S m left rs → (left ≡ 0 → ⊥) → (c : ℕ) → c ≡ pivot (sizeOf m) (d .cells) → (c ≡ 4096 → ⊥) → (k : ℕ) → k ≡ down m c
       → Tryable S m left c k rs
-  unfolding systemIn
-  column-tryable p nz c ec cf k ek = record { w = p .w; unc = p .unc; cp = p .cp; seek = p .seek; stand = choose-at (p .seek) nz c ec cf k ek; chosen = p .chosen }
+  unfolding systemIn systemOver
+  column-tryable p nz c ec cf k ek = record { w = p .w; uncovered = p .uncovered; copies = p .copies; seek = p .seek; stand = choose-at (p .seek) nz c ec cf k ek; chosen = p .chosen }
 
-  module _ (i : Identify) (capacity : ℕ) {w : World} {unc : ℕ → Bool} {cp : ℕ → ℕ} {left : ℕ} {m : List ℕ} (q : Seek w unc cp (d .cells) left m) (rs : List ℕ) (before : Emitted) where
-    pub found-leaf : (after : Emitted) (g : ℕ) → left < g → left ≡ 0 → after ≡ emitKept S i capacity rs before → after ≡ emitAll S i capacity (knuthBelow S rs g w cp left) before
+  module _ (i : Identify) (capacity : ℕ) {w : Reduced} {uncovered : ℕ → Bool} {copies : ℕ → ℕ} {left : ℕ} {m : List ℕ}
+      (q : Seek w uncovered copies (d .cells) left m) (rs : List ℕ) (before : Emitted) where
+    pub found-leaf : (after : Emitted) (g : ℕ) → left < g → left ≡ 0 → after ≡ emitKept S i capacity rs before → after ≡ emitAll S i capacity (knuthBelow S rs g w copies left) before
     found-leaf after g h z e = e ∙ leaf S i capacity (to-seek q) rs g h z before
 
-    module _ (nz : left ≡ 0 → ⊥) (c : ℕ) (ec : c ≡ pivot (cnt m) (d .cells)) where
-      column-is : c ≡ pivot (cnt m) (S .size)
-      column-is = ec ∙ ap (pivot (cnt m)) (sym size-is)
+    module _ (nz : left ≡ 0 → ⊥) (c : ℕ) (ec : c ≡ pivot (sizeOf m) (d .cells)) where
+      column-is : c ≡ pivot (sizeOf m) (S .size)
+      column-is = ec ∙ ap (pivot (sizeOf m)) (sym size-is)
 
-      pub found-none : c ≡ 4096 → (g : ℕ) → left < g → before ≡ emitAll S i capacity (knuthBelow S rs g w cp left) before
+      pub found-none : c ≡ 4096 → (g : ℕ) → left < g → before ≡ emitAll S i capacity (knuthBelow S rs g w copies left) before
       found-none cf g h = none S i capacity (to-seek q) rs nz c column-is cf g h before
 
-      pub found-rows : (after : Emitted) → (c ≡ 4096 → ⊥) → (k : ℕ) → k ≡ getD m (4096 + c) 0 → w .t ≡ tableOf S
-          → ((w : World) (unc : ℕ → Bool) (cp : ℕ → ℕ) (g : ℕ) → Seek w unc cp (d .cells) left m → At w (d .cells) c k → w .t ≡ tableOf S → left ≤ g → after ≡ emitAll S i capacity (knuthRows S rs g w cp left c k) before)
-          → (g : ℕ) → left < g → after ≡ emitAll S i capacity (knuthBelow S rs g w cp left) before
+      pub found-rows : (after : Emitted) → (c ≡ 4096 → ⊥) → (k : ℕ) → k ≡ down m c → w .t ≡ matrixOf S
+          → ((w : Reduced) (uncovered : ℕ → Bool) (copies : ℕ → ℕ) (g : ℕ) → Seek w uncovered copies (d .cells) left m → At w (d .cells) c k → w .t ≡ matrixOf S
+          → left ≤ g → after ≡ emitAll S i capacity (knuthRows S rs g w copies left c k) before)
+          → (g : ℕ) → left < g → after ≡ emitAll S i capacity (knuthBelow S rs g w copies left) before
       found-rows after cf k ek isT f zero h = absurd (omega arith)
       found-rows after cf k ek isT f (suc g) h =
-          f w unc cp g q (choose-at q nz c ec cf k ek) isT (omega arith)
+          f w uncovered copies g q (choose-at q nz c ec cf k ek) isT (omega arith)
           ∙ ap (λ (l : List (List ℕ)). emitAll S i capacity l before) (sym (below-rows S i capacity (to-seek q) rs nz c column-is cf k ek g h))
 
-  pub found-head : (i : Identify) (capacity : ℕ) {w : World} {unc : ℕ → Bool} {cp : ℕ → ℕ} {left : ℕ} {m : List ℕ} (q : Seek w unc cp (d .cells) left m) (rs : List ℕ) (before : Emitted) (c k : ℕ) → k ≡ c → (g : ℕ)
-      → before ≡ emitAll S i capacity (knuthRows S rs g w cp left c k) before
+  pub found-head : (i : Identify) (capacity : ℕ) {w : Reduced} {uncovered : ℕ → Bool} {copies : ℕ → ℕ} {left : ℕ} {m : List ℕ}
+      (q : Seek w uncovered copies (d .cells) left m) (rs : List ℕ) (before : Emitted) (c k : ℕ) → k ≡ c → (g : ℕ)
+      → before ≡ emitAll S i capacity (knuthRows S rs g w copies left c k) before
   found-head i capacity q rs before c k kc g = no-rows S i capacity (to-seek q) rs c k kc g before
 
   -- ---- trying the row of k
-  pub path-same : {path : List ℕ} {n : ℕ} → OfRows d path n → (after : List ℕ) → length after ≡ length path → take n after ≡ take n path → OfRows d after n
-  path-same {path} {n} isRows after e same =
-      record { within = (let a = isRows .within in omega arith); few = isRows .few; areRows = subst (λ (l : List ℕ). T (all (λ r. ltb r (d .rows)) l)) (sym same) (isRows .areRows) }
+  pub path-same : {path : List ℕ} {n : ℕ} → OfRows d path n → (after : List ℕ) → Restored n path after → OfRows d after n
+  path-same isRows after e =
+      record {
+        within = (let a = isRows .within in let b = e .long in omega arith);
+        few = isRows .few;
+        areRows = subst (λ (l : List ℕ). T (all (λ r. ltb r (d .rows)) l)) (sym (e .rows)) (isRows .areRows);
+      }
 
   module _ (law : Lawful S) (path : List ℕ) (n : ℕ) (long : length path ≡ 128) (isRows : OfRows d path n) {m : List ℕ} {left c k : ℕ} (p : Tryable S m left c k (take n path)) (kc : k ≡ c → ⊥) where
-    abbrev live : p .w .liv k ≡ true
+    abbrev live : p .w .alive k ≡ true
     live = try-live (p .seek) (p .stand) kc
 
-    module _ (r : ℕ) (er : r ≡ getD m (28672 + k) 0) where
-      row-is : r ≡ tableOf S .row k
-      row-is = er ∙ row-number S (p .seek) (p .chosen .isTable) k live
+    module _ (r : ℕ) (er : r ≡ rowNumber m k) where
+      row-is : r ≡ matrixOf S .row k
+      row-is = er ∙ row-number S (p .seek) (p .chosen .isMatrix) k live
 
       row-in : r < length (S .rows)
       row-in = subst (λ (i : ℕ). i < length (S .rows)) (sym row-is) (row-small S (p .seek) (p .chosen) live)
 
       row-below : r < d .rows
-      row-below = let a = row-in in let b = rows-are in omega arith
+      row-below = let a = row-in in let b = rows-many d work chart in omega arith
 
       pub row-bound : r < 1024
       row-bound = let a = row-in in let b = law .fewRows in omega arith
@@ -117,35 +122,37 @@ module _ (d : Dims) (work images scans kinds pieces : List ℕ) where
 
       pub row-first : rowAt work r .p < 128
       row-first =
-          let a = row-cells d work images scans kinds pieces law r row-below (rowAt work r .p) (law .row (rowAt work r) (row-here d work images scans kinds pieces r row-below) .coversP) in
-          let b = few-cells d work images scans kinds pieces law in
+          let a = row-cells d work chart law r row-below (rowAt work r .p) (law .row (rowAt work r) (row-here d work chart r row-below) .coversP) in
+          let b = few-cells d work chart law in
           omega arith
 
       -- the row is passed over: the rest of the column from the next node on
-      module _ (shown : List ℕ) (before : Emitted) (sh : Shown (d .cells) (take (d .places) scans) (before .last) shown) (b : Bool)
-          (is : b ≡ not (before .waiting) || showsRow (ownedIn pieces (d .pieces)) shown (rowAt work r)) (passed : b ≡ false) where
+      module _ (shown : List ℕ) (before : Emitted) (sh : Shown (d .cells) (take (d .places) (scansPart chart)) (before .last) shown) (b : Bool)
+          (is : b ≡ not (before .waiting) || showsRow (ownedIn (piecesPart chart) (d .pieces)) shown (rowAt work r)) (passed : b ≡ false) where
         waits : before .waiting ≡ true
-        waits = go (before .waiting) (showsRow (ownedIn pieces (d .pieces)) shown (rowAt work r)) (sym is ∙ passed)
+        waits = go (before .waiting) (showsRow (ownedIn (piecesPart chart) (d .pieces)) shown (rowAt work r)) (sym is ∙ passed)
           where
             go : (a o : Bool) → not a || o ≡ false → a ≡ true
             go true o e = refl
             go false o e = absurd (true≢false e)
 
-        hidden : showsRow (S .pieces) shown (rowOf S (tableOf S .row k)) ≡ false
-        unfolding systemIn
+        hidden : showsRow (S .pieces) shown (rowOf S (matrixOf S .row k)) ≡ false
+        unfolding systemIn systemOver
         hidden =
-            ap (λ (i : ℕ). showsRow (ownedIn pieces (d .pieces)) shown (rowOf S i)) (sym row-is)
-            ∙ ap (showsRow (ownedIn pieces (d .pieces)) shown) (row-stands d work images scans kinds pieces r row-below)
-            ∙ sym (ap (λ (a : Bool). not a || showsRow (ownedIn pieces (d .pieces)) shown (rowAt work r)) waits) ∙ sym is ∙ passed
+            ap (λ (i : ℕ). showsRow (ownedIn (piecesPart chart) (d .pieces)) shown (rowOf S i)) (sym row-is)
+            ∙ ap (showsRow (ownedIn (piecesPart chart) (d .pieces)) shown) (row-stands d work chart r row-below)
+            ∙ sym (ap (λ (a : Bool). not a || showsRow (ownedIn (piecesPart chart) (d .pieces)) shown (rowAt work r)) waits) ∙ sym is ∙ passed
 
-        pub found-passed : (i : Identify) (capacity : ℕ) {w : World} {unc : ℕ → Bool} {cp : ℕ → ℕ} → Seek w unc cp (d .cells) left m → At w (d .cells) c k → w .t ≡ tableOf S → (k′ : ℕ) → k′ ≡ getD m (4096 + k) 0 → (end : Emitted)
-            → ((w : World) (unc : ℕ → Bool) (cp : ℕ → ℕ) (g : ℕ) → Seek w unc cp (d .cells) left m → At w (d .cells) c k′ → w .t ≡ tableOf S → left ≤ g → end ≡ emitAll S i capacity (knuthRows S (take n path) g w cp left c k′) before)
-            → (g : ℕ) → left ≤ g → end ≡ emitAll S i capacity (knuthRows S (take n path) g w cp left c k) before
-        found-passed i capacity {w} {unc} {cp} q st isT k′ ek end rest g h =
-            rest w unc cp g q (try-at q st kc m refl k′ ek) isT h
+        pub found-passed : (i : Identify) (capacity : ℕ) {w : Reduced} {uncovered : ℕ → Bool} {copies : ℕ → ℕ} → Seek w uncovered copies (d .cells) left m
+            → At w (d .cells) c k → w .t ≡ matrixOf S → (k′ : ℕ) → k′ ≡ down m k → (end : Emitted)
+            → ((w : Reduced) (uncovered : ℕ → Bool) (copies : ℕ → ℕ) (g : ℕ) → Seek w uncovered copies (d .cells) left m → At w (d .cells) c k′ → w .t ≡ matrixOf S
+            → left ≤ g → end ≡ emitAll S i capacity (knuthRows S (take n path) g w copies left c k′) before)
+            → (g : ℕ) → left ≤ g → end ≡ emitAll S i capacity (knuthRows S (take n path) g w copies left c k) before
+        found-passed i capacity {w} {uncovered} {copies} q st isT k′ ek end rest g h =
+            rest w uncovered copies g q (try-at q st kc m refl k′ ek) isT h
             ∙ sym (passed-over S law (to-seek q) isT (to-at st) (p .seek) (p .stand) (p .chosen) kc i capacity before waits shown (to-shown sh) hidden m refl k′ ek g)
 
-    module _ (cells : ℕ) (en : cells ≡ getD m (16384 + k) 0 - getD m (12288 + k) 0 - 1) where
+    module _ (cells : ℕ) (en : cells ≡ endOf m k - firstOf m k - 1) where
       pub path-room : n + 1 ≤ 128
       path-room =
           let a = room-next S (p .seek) (p .chosen) live cells (try-sub (p .seek) (p .stand) kc cells en) in
@@ -154,11 +161,11 @@ module _ (d : Dims) (work images scans kinds pieces : List ℕ) where
           let f = law .fewCells in
           omega arith
 
-      module _ (r : ℕ) (er : r ≡ getD m (28672 + k) 0) where
+      module _ (r : ℕ) (er : r ≡ rowNumber m k) where
         longer : take (n + 1) (set path n r) ≡ take n path ++ (r ∷ [])
-        longer = let a = path-room in path-longer path n r (omega arith)
+        longer = let a = path-room in take-set-next path n r (omega arith)
 
-        is-longer : take (n + 1) (set path n r) ≡ take n path ++ (tableOf S .row k ∷ [])
+        is-longer : take (n + 1) (set path n r) ≡ take n path ++ (matrixOf S .row k ∷ [])
         is-longer = longer ∙ ap (λ (i : ℕ). take n path ++ (i ∷ [])) (row-is r er)
 
         pub path-rows : OfRows d (set path n r) (n + 1)
@@ -176,41 +183,47 @@ module _ (d : Dims) (work images scans kinds pieces : List ℕ) where
                 (λ (j : List·Memᴰ x (r ∷ [])). let e = List·Memᴰ·eq-of-singleton j in let a = row-below r er in lt→ltb x (d .rows) (omega arith))
                 (List·Memᴰ·append-cases (take n path) i)
 
-        module _ (m₁ : List ℕ) (g₁ : (w : World) (unc : ℕ → Bool) (cp : ℕ → ℕ) (cells left : ℕ) → Seek w unc cp cells left m → w .liv k ≡ true → m₁ ≡ selected w cp k m) where
+        module _ (m₁ : List ℕ) (g₁ : (w : Reduced) (uncovered : ℕ → Bool) (copies : ℕ → ℕ) (cells left : ℕ) → Seek w uncovered copies cells left m
+            → w .alive k ≡ true → m₁ ≡ selected w copies k m) where
           pub row-choosable : Choosable S m₁ (left - cells) (take (n + 1) (set path n r))
           row-choosable =
               record {
-                w = worldTo (p .w) (start (p .w .t) (p .cp) k) (p .w .t .hi k - start (p .w .t) (p .cp) k);
-                unc = sel-unc (p .seek) k live;
-                cp = spend (p .w .t) (p .cp) k;
+                w = reducedTo (p .w) (firstCovered (p .w .t) (p .copies) k) (p .w .t .hi k - firstCovered (p .w .t) (p .copies) k);
+                uncovered = sel-uncovered (p .seek) k live;
+                copies = spend (p .w .t) (p .copies) k;
                 seek = try-seek (p .seek) (p .stand) kc cells en m₁ g₁;
-                chosen = subst (λ (l : List ℕ). Chosen S (worldTo (p .w) (start (p .w .t) (p .cp) k) (p .w .t .hi k - start (p .w .t) (p .cp) k)) (spend (p .w .t) (p .cp) k) (left - cells) l)
+                chosen = subst (λ (l : List ℕ). Chosen S (reducedTo (p .w) (firstCovered (p .w .t) (p .copies) k)
+                    (p .w .t .hi k - firstCovered (p .w .t) (p .copies) k)) (spend (p .w .t) (p .copies) k) (left - cells) l)
                     (sym is-longer)
                     (chosen-next S (p .seek) (p .chosen) live law cells (try-sub (p .seek) (p .stand) kc cells en));
               }
 
-          module _ (i : Identify) (capacity : ℕ) {w : World} {unc : ℕ → Bool} {cp : ℕ → ℕ} (q : Seek w unc cp (d .cells) left m) (st : At w (d .cells) c k) (isT : w .t ≡ tableOf S) (before after : Emitted)
-              (f : (w : World) (unc : ℕ → Bool) (cp : ℕ → ℕ) (g : ℕ) → Seek w unc cp (d .cells) (left - cells) m₁ → w .t ≡ tableOf S → left - cells < g
-              → after ≡ emitAll S i capacity (knuthBelow S (take (n + 1) (set path n r)) g w cp (left - cells)) before) (g : ℕ) (h : left ≤ g) where
-            pub found-stop : after .further ≡ true → after ≡ emitAll S i capacity (knuthRows S (take n path) g w cp left c k) before
+          module _ (i : Identify) (capacity : ℕ) {w : Reduced} {uncovered : ℕ → Bool} {copies : ℕ → ℕ} (q : Seek w uncovered copies (d .cells) left m)
+              (st : At w (d .cells) c k) (isT : w .t ≡ matrixOf S) (before after : Emitted)
+              (f : (w : Reduced) (uncovered : ℕ → Bool) (copies : ℕ → ℕ) (g : ℕ) → Seek w uncovered copies (d .cells) (left - cells) m₁ → w .t ≡ matrixOf S → left - cells < g
+              → after ≡ emitAll S i capacity (knuthBelow S (take (n + 1) (set path n r)) g w copies (left - cells)) before) (g : ℕ) (h : left ≤ g) where
+            pub found-stop : after .further ≡ true → after ≡ emitAll S i capacity (knuthRows S (take n path) g w copies left c k) before
             found-stop done =
-                stops S i capacity (to-seek q) (take n path) (to-at st) kc cells en m₁ g₁ (take (n + 1) (set path n r)) is-longer isT before after (λ w unc cp g u. f w unc cp g (of-seek u)) done g h
+                stops S i capacity (to-seek q) (take n path) (to-at st) kc cells en m₁ g₁ (take (n + 1) (set path n r)) is-longer isT before after
+                (λ w uncovered copies g u. f w uncovered copies g (of-seek u)) done g h
 
-            pub found-on : (m₃ : List ℕ) → m₃ ≡ m → (k′ : ℕ) → k′ ≡ getD m₃ (4096 + k) 0 → (rs : List ℕ) → rs ≡ take n path → (end : Emitted)
-                → ((w : World) (unc : ℕ → Bool) (cp : ℕ → ℕ) (g : ℕ) → Seek w unc cp (d .cells) left m₃ → At w (d .cells) c k′ → w .t ≡ tableOf S → left ≤ g → end ≡ emitAll S i capacity (knuthRows S rs g w cp left c k′) after)
-                → end ≡ emitAll S i capacity (knuthRows S (take n path) g w cp left c k) before
+            pub found-on : (m₃ : List ℕ) → m₃ ≡ m → (k′ : ℕ) → k′ ≡ down m₃ k → (rs : List ℕ) → rs ≡ take n path → (end : Emitted)
+                → ((w : Reduced) (uncovered : ℕ → Bool) (copies : ℕ → ℕ) (g : ℕ) → Seek w uncovered copies (d .cells) left m₃ → At w (d .cells) c k′
+                → w .t ≡ matrixOf S → left ≤ g → end ≡ emitAll S i capacity (knuthRows S rs g w copies left c k′) after)
+                → end ≡ emitAll S i capacity (knuthRows S (take n path) g w copies left c k) before
             found-on m₃ back k′ ek rs same end rest =
-                goes-on S i capacity (to-seek q) (take n path) (to-at st) kc cells en m₁ g₁ (take (n + 1) (set path n r)) is-longer isT before after (λ w unc cp g u. f w unc cp g (of-seek u)) m₃ back k′ ek end g h
-                (rest w unc cp g (subst (λ (l : List ℕ). Seek w unc cp (d .cells) left l) (sym back) q) (try-at q st kc m₃ back k′ ek) isT h
-                ∙ ap (λ (l : List ℕ). emitAll S i capacity (knuthRows S l g w cp left c k′) after) same)
+                goes-on S i capacity (to-seek q) (take n path) (to-at st) kc cells en m₁ g₁ (take (n + 1) (set path n r)) is-longer isT before after
+                (λ w uncovered copies g u. f w uncovered copies g (of-seek u)) m₃ back k′ ek end g h
+                (rest w uncovered copies g (subst (λ (l : List ℕ). Seek w uncovered copies (d .cells) left l) (sym back) q) (try-at q st kc m₃ back k′ ek) isT h
+                ∙ ap (λ (l : List ℕ). emitAll S i capacity (knuthRows S l g w copies left c k′) after) same)
 
-    pub next-tryable : (m₃ : List ℕ) → m₃ ≡ m → (k′ : ℕ) → k′ ≡ getD m₃ (4096 + k) 0 → (rs : List ℕ) → rs ≡ take n path → Tryable S m₃ left c k′ rs
+    pub next-tryable : (m₃ : List ℕ) → m₃ ≡ m → (k′ : ℕ) → k′ ≡ down m₃ k → (rs : List ℕ) → rs ≡ take n path → Tryable S m₃ left c k′ rs
     next-tryable m₃ back k′ ek rs same =
         record {
           w = p .w;
-          unc = p .unc;
-          cp = p .cp;
-          seek = subst (λ (l : List ℕ). Seek (p .w) (p .unc) (p .cp) (S .size) left l) (sym back) (p .seek);
+          uncovered = p .uncovered;
+          copies = p .copies;
+          seek = subst (λ (l : List ℕ). Seek (p .w) (p .uncovered) (p .copies) (S .size) left l) (sym back) (p .seek);
           stand = try-at (p .seek) (p .stand) kc m₃ back k′ ek;
-          chosen = subst (λ (l : List ℕ). Chosen S (p .w) (p .cp) left l) (sym same) (p .chosen);
+          chosen = subst (λ (l : List ℕ). Chosen S (p .w) (p .copies) left l) (sym same) (p .chosen);
         }

@@ -1,19 +1,19 @@
 -- What a search over a system's links finds, on the page: the rows of each list of nodes differ, since a row that is chosen leaves no node of its own possible; so they are a packing's rows, and what is emitted is document 01's list. Assumes nothing.
 use Prim.Native.Nat.{ℕ, zero, suc, _+_, _-_, _≤_, _<_}
-use mathlib.Core.Bool.{Bool, true, false}
-use mathlib.Core.List.{List, [], _∷_, _++_, map, List·Memᴰ, List·Memᴰ·head, List·Memᴰ·tail, List·Memᴰ·not-nil, List·Memᴰ·cases-cons, List·Memᴰ·append-cases, List·Memᴰ·eq-of-singleton, Memᴰ·of-map}
+use mathlib.Core.Bool.{Bool, true, false, cond}
+use mathlib.Core.List.{List, [], _∷_, _++_, map, List·Memᴰ, List·Memᴰ·head, List·Memᴰ·tail, List·Memᴰ·not-nil, List·Memᴰ·cases-cons, List·Memᴰ·append-cases, List·Memᴰ·eq-of-singleton, Memᴰ·of-map, map-map}
 use mathlib.Core.Logic.{_⊎_, inl, inr}
 use mathlib.Core.Path.{_≡_, refl, sym, ap, _∙_, subst}
 use native.Mathlib.Omega.{arith}
 use lib.Dec.{T, ltb, eqb, lt→ltb}
 use lib.ListN.{length, getD, length-append}
-use Rattle.definitions.specs.Lists.{consIf, all, keep, sum, below, Apart}
+use Rattle.lists.specs.Lists.{consIf, all, keep, sum, below, Apart}
+use Rattle.lists.proofs.TestLaws.{both-left}
+use Rattle.lists.proofs.ListLaws.{all-of, keep-map}
+use Rattle.lists.proofs.RangeLaws.{by-number}
 use Rattle.definitions.specs.Placements.{Placement}
 use Rattle.definitions.specs.Kept.{Identify}
 use Rattle.definitions.specs.Emission.{Emitted, emits}
-use Rattle.definitions.specs.Orders.{search, knuthChoices}
-use Rattle.definitions.proofs.ListLaws.{all-of, keep-map}
-use Rattle.definitions.proofs.MapLaws.{map-map-of}
 use Rattle.definitions.proofs.EmissionLaws.{emits-append}
 use Rattle.rows.specs.Systems.{System}
 use Rattle.rows.specs.Answering.{answerBy}
@@ -22,16 +22,16 @@ use Rattle.kept.specs.Normal.{noRow, rowOf, normal}
 use Rattle.kept.specs.Emission.{emitKept}
 use Rattle.kept.specs.Entries.{numbersOf, entries, putAll}
 use Rattle.kept.proofs.LeafLaws.{packing-emits}
-use Rattle.links.specs.Links.{LawfulTable}
-use Rattle.links.specs.Cover.{pick, tally, here}
+use Rattle.links.specs.Links.{LawfulMatrix}
+use Rattle.links.specs.Cover.{tally, here}
 use Rattle.links.specs.Search.{select, spend, pivot}
-use Rattle.links.specs.Packings.{listFrom, rowsFrom, packings}
+use Rattle.links.specs.Packings.{listFrom, rowsFrom, exactCovers}
 use Rattle.links.specs.Build.{every, whole}
-use Rattle.knuth.specs.Tables.{nodesFrom, rowNodes, stockedRows, columns, linkNodes, tableOf, startOf}
-use Rattle.knuth.specs.Listing.{emitAll, foundRows, knuthBelow}
-use Rattle.knuth.proofs.TableOfLaws.{table-rows, row-some, same-row}
-use Rattle.knuth.proofs.KnuthStateLaws.{starts, both-left}
-use Rattle.knuth.proofs.KnuthListLaws.{by-number, knuth-rows}
+use Rattle.knuth.specs.Tables.{nodesFrom, rowNodes, stockedRows, columns, linkNodes, matrixOf}
+use Rattle.knuth.specs.Listing.{emitAll, foundRows, knuthBelow, knuthAnswers}
+use Rattle.knuth.proofs.TableOfLaws.{matrix-rows, row-some, same-row}
+use Rattle.knuth.proofs.KnuthStateLaws.{starts}
+use Rattle.knuth.proofs.KnuthListLaws.{knuth-rows}
 use Rattle.knuth.proofs.ChosenLaws.{was-live, other-row}
 use Rattle.knuth.proofs.BuildingLaws.{row-length, links-length}
 
@@ -58,21 +58,21 @@ module _ (s : System) where
       let a = links-length s in
       let b = nodes-length (columns s) (stockedRows s) in
       let c : sum (map (λ r. suc (length (rowOf s r .cells))) (stockedRows s)) ≡ sum (map (λ q. suc (length (q .cells))) (keep (λ q. ltb 0 (getD (s .copies) (q .kind) 0)) (s .rows))) =
-      ap sum (sym (map-map-of (λ (q : Placement). suc (length (q .cells))) (rowOf s) (stockedRows s)) ∙ ap (map (λ (q : Placement). suc (length (q .cells)))) stocked-are) in
+      ap sum (sym (map-map (λ (q : Placement). suc (length (q .cells))) (rowOf s) (stockedRows s)) ∙ ap (map (λ (q : Placement). suc (length (q .cells)))) stocked-are) in
       omega arith
 
 -- ---- where a list of nodes comes from
-pub pick-at : {ks : List ℕ} (a b : Bool) (L : List (List ℕ)) → List·Memᴰ ks (pick a ([] ∷ []) (pick b [] L)) → (ks ≡ []) ⊎ List·Memᴰ ks L
-pick-at true b L m = inl (List·Memᴰ·eq-of-singleton m)
-pick-at false true L m = absurd (List·Memᴰ·not-nil m)
-pick-at false false L m = inr m
+pub cond-at : {ks : List ℕ} (a b : Bool) (L : List (List ℕ)) → List·Memᴰ ks (cond a ([] ∷ []) (cond b [] L)) → (ks ≡ []) ⊎ List·Memᴰ ks L
+cond-at true b L m = inl (List·Memᴰ·eq-of-singleton m)
+cond-at false true L m = absurd (List·Memᴰ·not-nil m)
+cond-at false false L m = inr m
 
 pub list-at : (f : ℕ → List (List ℕ)) (p : ℕ → Bool) (n i : ℕ) {ks : List ℕ} → List·Memᴰ ks (listFrom f p n i) → (k : ℕ) × (p k ≡ true) × List·Memᴰ ks (f k)
 unfolding listFrom
 list-at f p zero i m = absurd (List·Memᴰ·not-nil m)
-list-at f p (suc n) i {ks} m = go (p i) refl (List·Memᴰ·append-cases (pick (p i) (f i) []) m) (λ (j : List·Memᴰ ks (listFrom f p n (suc i))). list-at f p n (suc i) j)
+list-at f p (suc n) i {ks} m = go (p i) refl (List·Memᴰ·append-cases (cond (p i) (f i) []) m) (λ (j : List·Memᴰ ks (listFrom f p n (suc i))). list-at f p n (suc i) j)
   where
-    go : (b : Bool) → p i ≡ b → List·Memᴰ ks (pick b (f i) []) ⊎ List·Memᴰ ks (listFrom f p n (suc i)) → (List·Memᴰ ks (listFrom f p n (suc i)) → (k : ℕ) × (p k ≡ true) × List·Memᴰ ks (f k))
+    go : (b : Bool) → p i ≡ b → List·Memᴰ ks (cond b (f i) []) ⊎ List·Memᴰ ks (listFrom f p n (suc i)) → (List·Memᴰ ks (listFrom f p n (suc i)) → (k : ℕ) × (p k ≡ true) × List·Memᴰ ks (f k))
         → (k : ℕ) × (p k ≡ true) × List·Memᴰ ks (f k)
     go true e (inl j) h = (i, e, j)
     go false e (inl j) h = absurd (List·Memᴰ·not-nil j)
@@ -81,57 +81,57 @@ list-at f p (suc n) i {ks} m = go (p i) refl (List·Memᴰ·append-cases (pick (
 module _ (s : System) (law : Lawful s) where
   -- every node of the list is possible, and no two are of one row
   abbrev Differ : (ℕ → Bool) → List ℕ → Type 0
-  Differ liv ks = ((x : ℕ) → List·Memᴰ x ks → liv x ≡ true) × Apart (map (tableOf s .row) ks)
+  Differ alive ks = ((x : ℕ) → List·Memᴰ x ks → alive x ≡ true) × Apart (map (matrixOf s .row) ks)
 
   abbrev Nodes : (ℕ → Bool) → Type 0
-  Nodes liv = (x : ℕ) → liv x ≡ true → (columns s ≤ x) × (x < tableOf s .nodes)
+  Nodes alive = (x : ℕ) → alive x ≡ true → (columns s ≤ x) × (x < matrixOf s .nodes)
 
-  other : (liv : ℕ → Bool) (cp : ℕ → ℕ) → Nodes liv → (k x : ℕ) → liv k ≡ true → select (tableOf s) liv cp k x ≡ true → tableOf s .row x ≡ tableOf s .row k → ⊥
-  other liv cp on k x lk h e =
+  other : (alive : ℕ → Bool) (copies : ℕ → ℕ) → Nodes alive → (k x : ℕ) → alive k ≡ true → select (matrixOf s) alive copies k x ≡ true → matrixOf s .row x ≡ matrixOf s .row k → ⊥
+  other alive copies on k x lk h e =
       let a = on k lk in
-      let b = on x (was-live (tableOf s) liv cp k x h) in
-      let p = table-rows s k (a .0) (a .1) .size in
-      let q = table-rows s x (b .0) (b .1) .size in
+      let b = on x (was-live (matrixOf s) alive copies k x h) in
+      let p = matrix-rows s k (a .0) (a .1) .size in
+      let q = matrix-rows s x (b .0) (b .1) .size in
       let r = row-some s law k (a .0) (a .1) in
       let f = same-row s x k (b .0) (b .1) (a .0) (a .1) e in
       let c = ap (λ (n : ℕ). length (rowOf s n .cells)) e in
-      other-row (tableOf s) liv cp k x (omega arith) f (omega arith) h
+      other-row (matrixOf s) alive copies k x (omega arith) f (omega arith) h
 
-  found-differ : (g : ℕ) (liv : ℕ → Bool) (cp : ℕ → ℕ) (m : ℕ) → Nodes liv → (ks : List ℕ) → List·Memᴰ ks (packings (tableOf s) (s .size) g liv cp m) → Differ liv ks
-  unfolding packings rowsFrom here
-  found-differ zero liv cp m on ks i = absurd (List·Memᴰ·not-nil i)
-  found-differ (suc g) liv cp m on ks i =
-      go (pick-at (eqb m 0) (eqb c 4096) (rowsFrom (tableOf s) (packings (tableOf s) (s .size) g) liv cp m c 0) i)
-      (λ k on′ js j. found-differ g (select (tableOf s) liv cp k) (spend (tableOf s) cp k) (m - (tableOf s .hi k - tableOf s .lo k - 1)) on′ js j)
+  found-differ : (g : ℕ) (alive : ℕ → Bool) (copies : ℕ → ℕ) (m : ℕ) → Nodes alive → (ks : List ℕ) → List·Memᴰ ks (exactCovers (matrixOf s) (s .size) g alive copies m) → Differ alive ks
+  unfolding exactCovers rowsFrom here
+  found-differ zero alive copies m on ks i = absurd (List·Memᴰ·not-nil i)
+  found-differ (suc g) alive copies m on ks i =
+      go (cond-at (eqb m 0) (eqb c 4096) (rowsFrom (matrixOf s) (exactCovers (matrixOf s) (s .size) g) alive copies m c 0) i)
+      (λ k on′ js j. found-differ g (select (matrixOf s) alive copies k) (spend (matrixOf s) copies k) (m - (matrixOf s .hi k - matrixOf s .lo k - 1)) on′ js j)
     where
       c : ℕ
-      c = pivot (λ j. tally (here (tableOf s) liv j) (tableOf s .nodes)) (s .size)
+      c = pivot (λ j. tally (here (matrixOf s) alive j) (matrixOf s .nodes)) (s .size)
 
       below-row : ℕ → List (List ℕ)
-      below-row k = packings (tableOf s) (s .size) g (select (tableOf s) liv cp k) (spend (tableOf s) cp k) (m - (tableOf s .hi k - tableOf s .lo k - 1))
+      below-row k = exactCovers (matrixOf s) (s .size) g (select (matrixOf s) alive copies k) (spend (matrixOf s) copies k) (m - (matrixOf s .hi k - matrixOf s .lo k - 1))
 
-      none : Differ liv []
+      none : Differ alive []
       none = (λ x j. absurd (List·Memᴰ·not-nil j), tt)
 
-      more : (k : ℕ) (js : List ℕ) → liv k ≡ true → Differ (select (tableOf s) liv cp k) js → Differ liv (k ∷ js)
-      more k js lk d = (λ x j. at x (List·Memᴰ·cases-cons j), (λ j. not-again (Memᴰ·of-map (tableOf s .row) js j), d .1))
+      more : (k : ℕ) (js : List ℕ) → alive k ≡ true → Differ (select (matrixOf s) alive copies k) js → Differ alive (k ∷ js)
+      more k js lk d = (λ x j. at x (List·Memᴰ·cases-cons j), (λ j. not-again (Memᴰ·of-map (matrixOf s .row) js j), d .1))
         where
-          at : (x : ℕ) → (x ≡ k) ⊎ List·Memᴰ x js → liv x ≡ true
-          at x (inl e) = ap liv e ∙ lk
-          at x (inr j) = was-live (tableOf s) liv cp k x (d .0 x j)
+          at : (x : ℕ) → (x ≡ k) ⊎ List·Memᴰ x js → alive x ≡ true
+          at x (inl e) = ap alive e ∙ lk
+          at x (inr j) = was-live (matrixOf s) alive copies k x (d .0 x j)
 
-          not-again : (x : ℕ) × List·Memᴰ x js × (tableOf s .row x ≡ tableOf s .row k) → ⊥
-          not-again x = other liv cp on k (x .0) lk (d .0 (x .0) (x .1)) (x .2)
+          not-again : (x : ℕ) × List·Memᴰ x js × (matrixOf s .row x ≡ matrixOf s .row k) → ⊥
+          not-again x = other alive copies on k (x .0) lk (d .0 (x .0) (x .1)) (x .2)
 
-      go : (ks ≡ []) ⊎ List·Memᴰ ks (rowsFrom (tableOf s) (packings (tableOf s) (s .size) g) liv cp m c 0)
-          → ((k : ℕ) → Nodes (select (tableOf s) liv cp k) → (js : List ℕ) → List·Memᴰ js (below-row k) → Differ (select (tableOf s) liv cp k) js) → Differ liv ks
-      go (inl e) again = subst (Differ liv) (sym e) none
+      go : (ks ≡ []) ⊎ List·Memᴰ ks (rowsFrom (matrixOf s) (exactCovers (matrixOf s) (s .size) g) alive copies m c 0)
+          → ((k : ℕ) → Nodes (select (matrixOf s) alive copies k) → (js : List ℕ) → List·Memᴰ js (below-row k) → Differ (select (matrixOf s) alive copies k) js) → Differ alive ks
+      go (inl e) again = subst (Differ alive) (sym e) none
       go (inr j) again =
-          let x = list-at (λ k. map (λ ks. k ∷ ks) (below-row k)) (here (tableOf s) liv c) (tableOf s .nodes - 0) 0 j in
+          let x = list-at (λ k. map (λ ks. k ∷ ks) (below-row k)) (here (matrixOf s) alive c) (matrixOf s .nodes - 0) 0 j in
           let k = x .0 in
-          let lk = both-left (liv k) (eqb (tableOf s .col k) c) (x .1) in
+          let lk = both-left (alive k) (eqb (matrixOf s .col k) c) (x .1) in
           let y = Memᴰ·of-map (λ ks. k ∷ ks) (below-row k) (x .2) in
-          subst (Differ liv) (y .2) (more k (y .0) lk (again k (λ z h. on z (was-live (tableOf s) liv cp k z h)) (y .0) (y .1)))
+          subst (Differ alive) (y .2) (more k (y .0) lk (again k (λ z h. on z (was-live (matrixOf s) alive copies k z h)) (y .0) (y .1)))
 
   -- ---- what is emitted
   entries-cons : (i : Identify) (P : List Placement) (L : List (List Placement)) → entries s i (P ∷ L) ≡ entries s i (P ∷ []) ++ entries s i L
@@ -143,7 +143,7 @@ module _ (s : System) (law : Lawful s) where
       go false = refl
 
   abbrev row : ℕ → ℕ
-  row = tableOf s .row
+  row = matrixOf s .row
 
   emit-all : (i : Identify) (capacity : ℕ) (kss : List (List ℕ)) → ((ks : List ℕ) → List·Memᴰ ks kss → T (all (λ r. ltb r (length (s .rows))) (map row ks)) × Apart (map row ks)) → (e : Emitted)
       → emitAll s i capacity (foundRows s [] kss) e ≡ emits capacity (entries s i (map (λ ks. putAll [] (map (rowOf s) (map row ks))) kss)) e
@@ -158,22 +158,23 @@ module _ (s : System) (law : Lawful s) where
       ∙ sym (emits-append capacity (entries s i (P ∷ [])) (entries s i L) e)
       ∙ ap (λ (l : List (List ℕ)). emits capacity l e) (sym (entries-cons i P L))
 
-  pub found-emits : (l : LawfulTable (tableOf s)) (cp : ℕ → ℕ) → ((k : ℕ) → k < length (s .copies) → cp (s .size + k) ≡ getD (s .copies) k 0) → (g : ℕ) → s .size < g → (i : Identify) (capacity : ℕ) (e : Emitted)
-      → emitAll s i capacity (knuthBelow s [] g (whole (tableOf s) l) cp (s .size)) e ≡ emits capacity (entries s i (search (knuthChoices (s .rows)) (s .size) (startOf s))) e
-  unfolding knuthBelow
-  found-emits l cp held g h i capacity e =
-      emit-all i capacity (packings (tableOf s) (s .size) g (every (tableOf s)) cp (s .size)) fine e
-      ∙ ap (λ (L : List (List Placement)). emits capacity (entries s i L) e) (knuth-rows s law cp held g h)
+  pub found-emits : (l : LawfulMatrix (matrixOf s)) (copies : ℕ → ℕ) → ((k : ℕ) → k < length (s .copies) → copies (s .size + k) ≡ getD (s .copies) k 0)
+      → (g : ℕ) → s .size < g → (i : Identify) (capacity : ℕ) (e : Emitted)
+      → emitAll s i capacity (knuthBelow s [] g (whole (matrixOf s) l) copies (s .size)) e ≡ emits capacity (knuthAnswers s i) e
+  unfolding knuthBelow knuthAnswers
+  found-emits l copies held g h i capacity e =
+      emit-all i capacity (exactCovers (matrixOf s) (s .size) g (every (matrixOf s)) copies (s .size)) fine e
+      ∙ ap (λ (L : List (List Placement)). emits capacity (entries s i L) e) (knuth-rows s law copies held g h)
     where
-      on : Nodes (every (tableOf s))
-      on = starts s law cp held .node
+      on : Nodes (every (matrixOf s))
+      on = starts s law copies held .node
 
-      fine : (ks : List ℕ) → List·Memᴰ ks (packings (tableOf s) (s .size) g (every (tableOf s)) cp (s .size)) → T (all (λ r. ltb r (length (s .rows))) (map row ks)) × Apart (map row ks)
+      fine : (ks : List ℕ) → List·Memᴰ ks (exactCovers (matrixOf s) (s .size) g (every (matrixOf s)) copies (s .size)) → T (all (λ r. ltb r (length (s .rows))) (map row ks)) × Apart (map row ks)
       fine ks j =
-          let d = found-differ g (every (tableOf s)) cp (s .size) on ks j in (
+          let d = found-differ g (every (matrixOf s)) copies (s .size) on ks j in (
             all-of (λ r. ltb r (length (s .rows))) (map row ks) (λ r z.
                 let x = Memᴰ·of-map row ks z in
                 let n = on (x .0) (d .0 (x .0) (x .1)) in
-                subst (λ (r : ℕ). T (ltb r (length (s .rows)))) (x .2) (lt→ltb (row (x .0)) (length (s .rows)) (table-rows s (x .0) (n .0) (n .1) .isRow))),
+                subst (λ (r : ℕ). T (ltb r (length (s .rows)))) (x .2) (lt→ltb (row (x .0)) (length (s .rows)) (matrix-rows s (x .0) (n .0) (n .1) .isRow))),
             d .1,
           )

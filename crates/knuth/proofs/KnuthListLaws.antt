@@ -1,66 +1,35 @@
 -- The list that a search over a system's links walks is the list of document 01's Knuth: at each step the live rows are the possible ones, the column that is tried is the cell that is taken, and its rows come in the same order. Assumes nothing.
 use Prim.Native.Nat.{ℕ, zero, suc, _+_, _-_, _≤_, _<_}
 use mathlib.Core.Bool.{Bool, true, false, cond, _&&_}
-use mathlib.Core.List.{List, [], _∷_, _++_, map, List·Memᴰ, List·Memᴰ·head, List·Memᴰ·tail, Memᴰ·cast, Memᴰ·map, Memᴰ·of-map}
+use mathlib.Core.List.{List, [], _∷_, _++_, map, List·Memᴰ, Memᴰ·cast, Memᴰ·map, Memᴰ·of-map, map-append, map-map}
 use mathlib.Core.Path.{_≡_, refl, sym, ap, _∙_, subst}
 use mathlib.Core.Logic.{_⊎_, inl, inr}
 use native.Mathlib.Omega.{arith}
 use lib.Dec.{T, ltb, eqb, ltb→lt, lt→ltb}
 use lib.ListN.{length, getD, length-map, take}
-use lib.Seq.{ext-getD}
 use borrow.Author.Tests.{eqb-true, eq-eqb, ne-eqb}
-use Rattle.definitions.specs.Lists.{consIf, all, howMany, keep, each, from, below, member, ascending, isEmpty, sort}
+use Rattle.lists.specs.Lists.{consIf, howMany, keep, each, from, below, member, isEmpty, sort}
+use Rattle.lists.proofs.TestLaws.{and-left, and-right, and-both, ltb-trans, ltb-irrefl, is-true, holds, by-eq, both, both-left, both-right}
+use Rattle.lists.proofs.ListLaws.{any-at, keep-at, keep-of, keep-keep, keep-length, howMany-any, keep-map, each-map, each-same-in}
+use Rattle.lists.proofs.SortLaws.{keep-ascending, ascending-unique, map-ascending}
+use Rattle.lists.proofs.RangeLaws.{by-number, below-at, below-of, from-ascending, member-at, member-of}
+use Rattle.lists.proofs.CountLaws.{howMany-length}
+use Rattle.links.proofs.Pivot.{pivot-same}
 use Rattle.definitions.specs.Placements.{Placement}
 use Rattle.definitions.specs.Orders.{State, possible, choose, search, knuthChoices, tallies, tallyAhead}
-use Rattle.definitions.proofs.ListLaws.{and-left, and-right, and-both, all-at, all-of, any-at, keep-at, keep-of, keep-keep, keep-ascending, keep-length, below-at, below-of, from-ascending, length-below, member-at, member-of, howMany-any, ascending-unique, ltb-trans, ltb-irrefl, is-true, holds, keep-map, each-map}
-use Rattle.definitions.proofs.CountLaws.{howMany-length}
-use Rattle.definitions.proofs.MapLaws.{map-map-of}
-use Rattle.definitions.proofs.OrderLaws.{each-same-in}
 use Rattle.rows.specs.Systems.{System}
 use Rattle.rows.specs.Lawful.{Lawful}
 use Rattle.kept.specs.Normal.{noRow, rowOf}
-use Rattle.kept.specs.Entries.{putAll}
-use Rattle.links.specs.Links.{Table}
-use Rattle.links.specs.Cover.{pick, bit, tally, here}
-use Rattle.links.specs.Search.{select, spend, better, least, pivot}
-use Rattle.links.specs.Packings.{listFrom, rowsFrom, packings}
+use Rattle.kept.specs.Entries.{putAll, startBy}
+use Rattle.links.specs.Links.{Matrix}
+use Rattle.links.specs.Cover.{bit, tally, here}
+use Rattle.links.specs.Search.{select, spend, pivot}
+use Rattle.links.specs.Packings.{listFrom, rowsFrom, exactCovers}
 use Rattle.links.specs.Build.{every}
-use Rattle.knuth.specs.Tables.{columns, tableOf, startOf}
-use Rattle.knuth.proofs.TableOfLaws.{RowNode, getD-map-in, getD-from, table-rows, row-later, node-of, in-stock, cell-in, cell-of, row-some, column-once}
+use Rattle.knuth.specs.Tables.{columns, matrixOf}
+use Rattle.knuth.proofs.TableOfLaws.{RowNode, matrix-rows, row-later, node-of, in-stock, cell-in, cell-of, row-some, column-once}
 use Rattle.knuth.proofs.KnuthPivotLaws.{Least, fewest-is, knuth-none, knuth-some}
-use Rattle.knuth.proofs.KnuthStateLaws.{Represents, starts, chosen, can-left, can-free, by-eq, both, both-left, both-right}
-
--- ---- lists
-map-append : {A B : Type 0} (f : A → B) (xs ys : List A) → map f (xs ++ ys) ≡ map f xs ++ map f ys
-map-append f [] ys = refl
-map-append f (x ∷ xs) ys = ap (λ (l : List _). f x ∷ l) (map-append f xs ys)
-
--- a list of numbers, each put elsewhere in the same order
-map-ascending : (f : ℕ → ℕ) (xs : List ℕ) → T (ascending ltb xs) → ((a b : ℕ) → List·Memᴰ a xs → List·Memᴰ b xs → a < b → f a < f b) → T (ascending ltb (map f xs))
-map-ascending f [] t h = tt
-map-ascending f (x ∷ xs) t h =
-    and-both (all (ltb (f x)) (map f xs)) (ascending ltb (map f xs))
-    (all-of (ltb (f x)) (map f xs) (λ y m.
-    let r = Memᴰ·of-map f xs m in
-    let l = h x (r .0) (List·Memᴰ·head refl) (List·Memᴰ·tail (r .1)) (ltb→lt x (r .0) (all-at (ltb x) xs (and-left (all (ltb x) xs) (ascending ltb xs) t) (r .1))) in
-    let e = r .2 in
-    lt→ltb (f x) y (omega arith)))
-    (map-ascending f xs (and-right (all (ltb x) xs) (ascending ltb xs) t) (λ a b m k. h a b (List·Memᴰ·tail m) (List·Memᴰ·tail k)))
-
--- all entries by their numbers
-pub by-number : {A : Type 0} (d : A) (xs : List A) → map (λ i. getD xs i d) (below (length xs)) ≡ xs
-by-number {A} d xs =
-    ext-getD d (map (λ i. getD xs i d) (below (length xs))) xs (len ∙ length-below (length xs))
-    (λ i h. let l = len in let b = length-below (length xs) in at i (omega arith))
-  where
-    len : length (map (λ i. getD xs i d) (below (length xs))) ≡ length (below (length xs))
-    len = length-map (below (length xs)) (λ i. getD xs i d)
-
-    at : (i : ℕ) → i < length xs → getD (map (λ i. getD xs i d) (below (length xs))) i d ≡ getD xs i d
-    at i h =
-        let b = length-below (length xs) in
-        let e : getD (below (length xs)) i 0 ≡ i = (let g = getD-from 0 (length xs) i 0 h in omega arith) in
-        getD-map-in (λ i. getD xs i d) (below (length xs)) i 0 d (omega arith) ∙ ap (λ (n : ℕ). getD xs n d) e
+use Rattle.knuth.proofs.KnuthStateLaws.{Represents, starts, chosen, can-left, can-free}
 
 -- ---- counting and listing from below
 keep-last : (p : ℕ → Bool) (i n : ℕ) → length (keep p (from i (suc n))) ≡ bit (p (i + n)) + length (keep p (from i n))
@@ -91,67 +60,47 @@ tally-length p (suc n) =
 list-each : {B : Type 0} (h : List ℕ → B) (f : ℕ → List (List ℕ)) (p : ℕ → Bool) (n i : ℕ) → map h (listFrom f p n i) ≡ each (keep p (from i n)) (λ k. map h (f k))
 unfolding listFrom
 list-each h f p zero i = refl
-list-each {B} h f p (suc n) i = map-append h (pick (p i) (f i) []) (listFrom f p n (suc i)) ∙ go (p i) (list-each h f p n (suc i))
+list-each {B} h f p (suc n) i = map-append h (cond (p i) (f i) []) (listFrom f p n (suc i)) ∙ go (p i) (list-each h f p n (suc i))
   where
     go : (b : Bool) → map h (listFrom f p n (suc i)) ≡ each (keep p (from (suc i) n)) (λ k. map h (f k))
-        → map h (pick b (f i) []) ++ map h (listFrom f p n (suc i)) ≡ each (consIf b i (keep p (from (suc i) n))) (λ k. map h (f k))
+        → map h (cond b (f i) []) ++ map h (listFrom f p n (suc i)) ≡ each (consIf b i (keep p (from (suc i) n))) (λ k. map h (f k))
     go true e = ap (λ (l : List B). map h (f i) ++ l) e
     go false e = e
 
--- the same counts give the same column
-least-same : (f g : ℕ → ℕ) (n : ℕ) → ((k : ℕ) → k < n → f k ≡ g k) → least f n ≡ least g n
-unfolding least
-least-same f g zero h = refl
-least-same f g (suc n) h =
-    let a : f n ≡ g n = h n (omega arith) in
-    let b : least f n ≡ least g n = least-same f g n (λ k l. h k (omega arith)) in
-    ap (λ (k : ℕ). pick (better k (least f n)) k (least f n)) a ∙ ap (λ (k : ℕ). pick (better (g n) k) (g n) k) b
-
-pivot-same : (f g : ℕ → ℕ) (n : ℕ) → ((k : ℕ) → k < n → f k ≡ g k) → pivot f n ≡ pivot g n
-unfolding pivot
-pivot-same f g zero h = refl
-pivot-same f g (suc n) h =
-    let a : f n ≡ g n = h n (omega arith) in
-    let b : least f n ≡ least g n = least-same f g n (λ k l. h k (omega arith)) in
-    let c : pivot f n ≡ pivot g n = pivot-same f g n (λ k l. h k (omega arith)) in
-    ap (λ (k : ℕ). pick (better k (least f n)) n (pivot f n)) a
-    ∙ ap (λ (k : ℕ). pick (better (g n) k) n (pivot f n)) b
-    ∙ ap (λ (k : ℕ). pick (better (g n) (least g n)) n k) c
-
 -- ---- the live nodes of a cell's column, and the possible rows that cover the cell
-module _ (s : System) (law : Lawful s) (liv : ℕ → Bool) (cp : ℕ → ℕ) (m : ℕ) (t : State) (w : Represents s liv cp m t) where
-  abbrev T₀ : Table
-  T₀ = tableOf s
+module _ (s : System) (law : Lawful s) (alive : ℕ → Bool) (copies : ℕ → ℕ) (m : ℕ) (t : State) (w : Represents s alive copies m t) where
+  abbrev T₀ : Matrix
+  T₀ = matrixOf s
 
   abbrev can : ℕ → ℕ → Bool
   can c r = possible t (rowOf s r) && member c (rowOf s r .cells)
 
-  here-at : (c k : ℕ) → here T₀ liv c k ≡ true → (liv k ≡ true) × (T₀ .col k ≡ c)
+  here-at : (c k : ℕ) → here T₀ alive c k ≡ true → (alive k ≡ true) × (T₀ .col k ≡ c)
   unfolding here
-  here-at c k h = (both-left (liv k) (eqb (T₀ .col k) c) h, eqb-true (T₀ .col k) c (both-right (liv k) (eqb (T₀ .col k) c) h))
+  here-at c k h = (both-left (alive k) (eqb (T₀ .col k) c) h, eqb-true (T₀ .col k) c (both-right (alive k) (eqb (T₀ .col k) c) h))
 
-  here-of : (c k : ℕ) → liv k ≡ true → T₀ .col k ≡ c → here T₀ liv c k ≡ true
+  here-of : (c k : ℕ) → alive k ≡ true → T₀ .col k ≡ c → here T₀ alive c k ≡ true
   unfolding here
-  here-of c k h e = both (liv k) (eqb (T₀ .col k) c) h (eq-eqb (T₀ .col k) c e)
+  here-of c k h e = both (alive k) (eqb (T₀ .col k) c) h (eq-eqb (T₀ .col k) c e)
 
   module _ (c : ℕ) (small : c < s .size) where
     nodes : List ℕ
-    nodes = keep (here T₀ liv c) (below (T₀ .nodes))
+    nodes = keep (here T₀ alive c) (below (T₀ .nodes))
 
     numbers : List ℕ
     numbers = keep (can c) (below (length (s .rows)))
 
-    node-at : {k : ℕ} → List·Memᴰ k nodes → (liv k ≡ true) × (T₀ .col k ≡ c)
+    node-at : {k : ℕ} → List·Memᴰ k nodes → (alive k ≡ true) × (T₀ .col k ≡ c)
     unfolding nodes
-    node-at {k} i = here-at c k (is-true (here T₀ liv c k) (keep-at (here T₀ liv c) (below (T₀ .nodes)) i .1))
+    node-at {k} i = here-at c k (is-true (here T₀ alive c k) (keep-at (here T₀ alive c) (below (T₀ .nodes)) i .1))
 
     rise : (a b : ℕ) → List·Memᴰ a nodes → List·Memᴰ b nodes → a < b → T₀ .row a < T₀ .row b
     rise a b i j h = go (row-later s a b (na .0) h (nb .1))
       where
-        x : (liv a ≡ true) × (T₀ .col a ≡ c)
+        x : (alive a ≡ true) × (T₀ .col a ≡ c)
         x = node-at i
 
-        y : (liv b ≡ true) × (T₀ .col b ≡ c)
+        y : (alive b ≡ true) × (T₀ .col b ≡ c)
         y = node-at j
 
         na : (columns s ≤ a) × (a < T₀ .nodes)
@@ -161,10 +110,10 @@ module _ (s : System) (law : Lawful s) (liv : ℕ → Bool) (cp : ℕ → ℕ) (
         nb = w .node b (y .0)
 
         ra : RowNode s a
-        ra = table-rows s a (na .0) (na .1)
+        ra = matrix-rows s a (na .0) (na .1)
 
         rb : RowNode s b
-        rb = table-rows s b (nb .0) (nb .1)
+        rb = matrix-rows s b (nb .0) (nb .1)
 
         go : (T₀ .lo a ≡ T₀ .lo b) ⊎ (T₀ .row a < T₀ .row b) → T₀ .row a < T₀ .row b
         go (inl e) =
@@ -186,7 +135,7 @@ module _ (s : System) (law : Lawful s) (liv : ℕ → Bool) (cp : ℕ → ℕ) (
         of-node k j =
             let h = node-at j in
             let n = w .node k (h .0) in
-            let p = table-rows s k (n .0) (n .1) in
+            let p = matrix-rows s k (n .0) (n .1) in
             let l = p .behind in
             let e = h .1 in
             let cell = by-eq k (T₀ .lo k)
@@ -210,7 +159,7 @@ module _ (s : System) (law : Lawful s) (liv : ℕ → Bool) (cp : ℕ → ℕ) (
 
         at-row : (x : ℕ) → columns s ≤ x → x < T₀ .nodes → T₀ .row x ≡ r → (y : ℕ) × List·Memᴰ y nodes × (T₀ .row y ≡ r)
         at-row x a b e =
-            let p = table-rows s x a b in
+            let p = matrix-rows s x a b in
             let f = cell-of s law x a b (subst (λ (n : ℕ). List·Memᴰ c (rowOf s n .cells)) (sym e) covers) in
             let g = p .same (f .0) (let u = f .1 in omega arith) (f .2) in
             let d = p .first in
@@ -219,7 +168,7 @@ module _ (s : System) (law : Lawful s) (liv : ℕ → Bool) (cp : ℕ → ℕ) (
             let v = f .2 in
             let same-r : T₀ .row (f .0) ≡ r = g .2 ∙ e in
             let live = w .back (f .0) (omega arith) (omega arith) (subst (λ (n : ℕ). T (possible t (rowOf s n))) (sym same-r) possibly) in
-            (f .0, keep-of (here T₀ liv c) (below (T₀ .nodes)) (below-of (T₀ .nodes) (omega arith)) (holds (here T₀ liv c (f .0)) (here-of c (f .0) live (f .3))), same-r)
+            (f .0, keep-of (here T₀ alive c) (below (T₀ .nodes)) (below-of (T₀ .nodes) (omega arith)) (holds (here T₀ alive c (f .0)) (here-of c (f .0) live (f .3))), same-r)
 
         of-row : (x : ℕ) × (columns s ≤ x) × (x < T₀ .nodes) × (T₀ .lo x ≡ x) × (T₀ .row x ≡ r) → List·Memᴰ r (map (T₀ .row) nodes)
         of-row x = let y = at-row (x .0) (x .1) (x .2) (x .4) in Memᴰ·cast (sym (y .2)) (Memᴰ·map (T₀ .row) (y .1))
@@ -228,7 +177,7 @@ module _ (s : System) (law : Lawful s) (liv : ℕ → Bool) (cp : ℕ → ℕ) (
     unfolding nodes numbers
     rows-of =
         ascending-unique ltb ltb-trans ltb-irrefl (map (T₀ .row) nodes) numbers
-        (map-ascending (T₀ .row) nodes (keep-ascending ltb (here T₀ liv c) (below (T₀ .nodes)) (from-ascending 0 (T₀ .nodes))) rise)
+        (map-ascending ltb ltb (T₀ .row) nodes (keep-ascending ltb (here T₀ alive c) (below (T₀ .nodes)) (from-ascending 0 (T₀ .nodes))) (λ a b m k u. lt→ltb (T₀ .row a) (T₀ .row b) (rise a b m k (ltb→lt a b u))))
         (keep-ascending ltb (can c) (below (length (s .rows))) (from-ascending 0 (length (s .rows)))) to-number to-node
 
     -- the possible rows on a cell, by their numbers
@@ -240,18 +189,18 @@ module _ (s : System) (law : Lawful s) (liv : ℕ → Bool) (cp : ℕ → ℕ) (
         ∙ keep-map (rowOf s) (λ q. possible t q && member c (q .cells)) (below (length (s .rows)))
 
     -- as many nodes as rows
-    tally-is : tally (here T₀ liv c) (T₀ .nodes) ≡ howMany (λ q. member c (q .cells)) (keep (possible t) (s .rows))
+    tally-is : tally (here T₀ alive c) (T₀ .nodes) ≡ howMany (λ q. member c (q .cells)) (keep (possible t) (s .rows))
     unfolding nodes
     tally-is =
-        tally-length (here T₀ liv c) (T₀ .nodes) ∙ sym (length-map nodes (T₀ .row)) ∙ ap length rows-of ∙ sym (length-map numbers (rowOf s)) ∙ ap length (sym choices-are)
+        tally-length (here T₀ alive c) (T₀ .nodes) ∙ sym (length-map nodes (T₀ .row)) ∙ ap length rows-of ∙ sym (length-map numbers (rowOf s)) ∙ ap length (sym choices-are)
         ∙ sym (howMany-length (λ q. member c (q .cells)) (keep (possible t) (s .rows)))
 
     -- the rows of the column, tried one after the other
-    tried : {B : Type 0} (h : List ℕ → B) (f : ℕ → List (List ℕ)) (g : Placement → List B) → ((k : ℕ) → liv k ≡ true → map h (f k) ≡ g (rowOf s (T₀ .row k)))
-        → map h (listFrom f (here T₀ liv c) (T₀ .nodes) 0) ≡ each (keep (λ q. member c (q .cells)) (keep (possible t) (s .rows))) g
+    tried : {B : Type 0} (h : List ℕ → B) (f : ℕ → List (List ℕ)) (g : Placement → List B) → ((k : ℕ) → alive k ≡ true → map h (f k) ≡ g (rowOf s (T₀ .row k)))
+        → map h (listFrom f (here T₀ alive c) (T₀ .nodes) 0) ≡ each (keep (λ q. member c (q .cells)) (keep (possible t) (s .rows))) g
     unfolding nodes
     tried {B} h f g same =
-        list-each h f (here T₀ liv c) (T₀ .nodes) 0
+        list-each h f (here T₀ alive c) (T₀ .nodes) 0
         ∙ each-same-in (λ k. map h (f k)) (λ k. g (rowOf s (T₀ .row k))) nodes (λ k i. same k (node-at i .0))
         ∙ sym (each-map (T₀ .row) (λ r. g (rowOf s r)) nodes)
         ∙ ap (λ (l : List ℕ). each l (λ r. g (rowOf s r))) rows-of
@@ -266,10 +215,10 @@ module _ (s : System) (law : Lawful s) (liv : ℕ → Bool) (cp : ℕ → ℕ) (
   many n = howMany (λ q. member n (q .cells)) ps
 
   abbrev column : ℕ
-  column = pivot (λ j. tally (here T₀ liv j) (T₀ .nodes)) (s .size)
+  column = pivot (λ j. tally (here T₀ alive j) (T₀ .nodes)) (s .size)
 
   column-is : column ≡ pivot many (s .size)
-  column-is = pivot-same (λ j. tally (here T₀ liv j) (T₀ .nodes)) many (s .size) (λ c h. tally-is c h)
+  column-is = pivot-same (λ j. tally (here T₀ alive j) (T₀ .nodes)) many (s .size) (λ c h. tally-is c h)
 
   reach : (n : ℕ) → n < s .size → 0 < many n → List·Memᴰ n (t .free)
   reach n l h =
@@ -319,83 +268,86 @@ module _ (choices : State → List Placement) (t : State) where
   unfolding search
   search-on f d = ap (λ (b : Bool). cond b (t .chosen ∷ []) (each (choices t) (λ q. search choices f (choose t q)))) (is-some (t .free) d)
 
-module _ (t : Table) (cells g : ℕ) (liv : ℕ → Bool) (cp : ℕ → ℕ) (m : ℕ) where
+module _ (t : Matrix) (cells g : ℕ) (alive : ℕ → Bool) (copies : ℕ → ℕ) (m : ℕ) where
   abbrev c₀ : ℕ
-  c₀ = pivot (λ j. tally (here t liv j) (t .nodes)) cells
+  c₀ = pivot (λ j. tally (here t alive j) (t .nodes)) cells
 
   abbrev below-row : ℕ → List (List ℕ)
-  below-row k = map (λ ks. k ∷ ks) (packings t cells g (select t liv cp k) (spend t cp k) (m - (t .hi k - t .lo k - 1)))
+  below-row k = map (λ ks. k ∷ ks) (exactCovers t cells g (select t alive copies k) (spend t copies k) (m - (t .hi k - t .lo k - 1)))
 
-  packings-done : m ≡ 0 → packings t cells (suc g) liv cp m ≡ [] ∷ []
-  unfolding packings
-  packings-done e = ap (λ (b : Bool). pick b ([] ∷ []) (pick (eqb c₀ 4096) [] (rowsFrom t (packings t cells g) liv cp m c₀ 0))) (eq-eqb m 0 e)
+  packings-done : m ≡ 0 → exactCovers t cells (suc g) alive copies m ≡ [] ∷ []
+  unfolding exactCovers
+  packings-done e = ap (λ (b : Bool). cond b ([] ∷ []) (cond (eqb c₀ 4096) [] (rowsFrom t (exactCovers t cells g) alive copies m c₀ 0))) (eq-eqb m 0 e)
 
-  packings-none : (m ≡ 0 → ⊥) → c₀ ≡ 4096 → packings t cells (suc g) liv cp m ≡ []
-  unfolding packings
+  packings-none : (m ≡ 0 → ⊥) → c₀ ≡ 4096 → exactCovers t cells (suc g) alive copies m ≡ []
+  unfolding exactCovers
   packings-none d e =
-      ap (λ (b : Bool). pick b ([] ∷ []) (pick (eqb c₀ 4096) [] (rowsFrom t (packings t cells g) liv cp m c₀ 0))) (ne-eqb m 0 d)
-      ∙ ap (λ (b : Bool). pick b [] (rowsFrom t (packings t cells g) liv cp m c₀ 0)) (eq-eqb c₀ 4096 e)
+      ap (λ (b : Bool). cond b ([] ∷ []) (cond (eqb c₀ 4096) [] (rowsFrom t (exactCovers t cells g) alive copies m c₀ 0))) (ne-eqb m 0 d)
+      ∙ ap (λ (b : Bool). cond b [] (rowsFrom t (exactCovers t cells g) alive copies m c₀ 0)) (eq-eqb c₀ 4096 e)
 
-  packings-rows : (m ≡ 0 → ⊥) → (c₀ ≡ 4096 → ⊥) → packings t cells (suc g) liv cp m ≡ listFrom below-row (here t liv c₀) (t .nodes) 0
-  unfolding packings rowsFrom
+  packings-rows : (m ≡ 0 → ⊥) → (c₀ ≡ 4096 → ⊥) → exactCovers t cells (suc g) alive copies m ≡ listFrom below-row (here t alive c₀) (t .nodes) 0
+  unfolding exactCovers rowsFrom
   packings-rows d e =
-      ap (λ (b : Bool). pick b ([] ∷ []) (pick (eqb c₀ 4096) [] (rowsFrom t (packings t cells g) liv cp m c₀ 0))) (ne-eqb m 0 d)
-      ∙ ap (λ (b : Bool). pick b [] (rowsFrom t (packings t cells g) liv cp m c₀ 0)) (ne-eqb c₀ 4096 e)
-      ∙ ap (λ (n : ℕ). listFrom below-row (here t liv c₀) n 0) (let z : t .nodes - 0 ≡ t .nodes = omega arith in z)
+      ap (λ (b : Bool). cond b ([] ∷ []) (cond (eqb c₀ 4096) [] (rowsFrom t (exactCovers t cells g) alive copies m c₀ 0))) (ne-eqb m 0 d)
+      ∙ ap (λ (b : Bool). cond b [] (rowsFrom t (exactCovers t cells g) alive copies m c₀ 0)) (ne-eqb c₀ 4096 e)
+      ∙ ap (λ (n : ℕ). listFrom below-row (here t alive c₀) n 0) (let z : t .nodes - 0 ≡ t .nodes = omega arith in z)
 
 -- ---- the two lists
 module _ (s : System) (law : Lawful s) where
   -- the rows of a list of nodes put to those chosen
   abbrev placed : List Placement → List ℕ → List Placement
-  placed P ks = putAll P (map (rowOf s) (map (tableOf s .row) ks))
+  placed P ks = putAll P (map (rowOf s) (map (matrixOf s .row) ks))
 
   abbrev choices : State → List Placement
   choices = knuthChoices (s .rows)
 
-  placed-first : (t : State) (k : ℕ) (L : List (List ℕ)) → map (placed (t .chosen)) (map (λ ks. k ∷ ks) L) ≡ map (placed (choose t (rowOf s (tableOf s .row k)) .chosen)) L
+  placed-first : (t : State) (k : ℕ) (L : List (List ℕ)) → map (placed (t .chosen)) (map (λ ks. k ∷ ks) L) ≡ map (placed (choose t (rowOf s (matrixOf s .row k)) .chosen)) L
   unfolding choose
-  placed-first t k L = map-map-of (placed (t .chosen)) (λ ks. k ∷ ks) L
+  placed-first t k L = map-map (placed (t .chosen)) (λ ks. k ∷ ks) L
 
-  pub same-list : (g f : ℕ) (liv : ℕ → Bool) (cp : ℕ → ℕ) (m : ℕ) (t : State) → Represents s liv cp m t → m < g → m ≤ f
-      → map (placed (t .chosen)) (packings (tableOf s) (s .size) g liv cp m) ≡ search choices f t
-  same-list zero f liv cp m t w h k = absurd (omega arith)
-  same-list (suc g) zero liv cp m t w h k =
+  pub same-list : (g f : ℕ) (alive : ℕ → Bool) (copies : ℕ → ℕ) (m : ℕ) (t : State) → Represents s alive copies m t → m < g → m ≤ f
+      → map (placed (t .chosen)) (exactCovers (matrixOf s) (s .size) g alive copies m) ≡ search choices f t
+  same-list zero f alive copies m t w h k = absurd (omega arith)
+  same-list (suc g) zero alive copies m t w h k =
       let e : m ≡ 0 = omega arith in
-      ap (map (placed (t .chosen))) (packings-done (tableOf s) (s .size) g liv cp m e) ∙ sym (search-done choices t 0 (sym (w .rest) ∙ e))
-  same-list (suc g) (suc f) liv cp m t w h k =
+      ap (map (placed (t .chosen))) (packings-done (matrixOf s) (s .size) g alive copies m e) ∙ sym (search-done choices t 0 (sym (w .rest) ∙ e))
+  same-list (suc g) (suc f) alive copies m t w h k =
       by-eq m 0
-      (λ e. ap (map (placed (t .chosen))) (packings-done (tableOf s) (s .size) g liv cp m e) ∙ sym (search-done choices t (suc f) (sym (w .rest) ∙ e)))
-      (λ d. go d (decided s law liv cp m t w) (λ liv cp m t w h k. same-list g f liv cp m t w h k))
+      (λ e. ap (map (placed (t .chosen))) (packings-done (matrixOf s) (s .size) g alive copies m e) ∙ sym (search-done choices t (suc f) (sym (w .rest) ∙ e)))
+      (λ d. go d (decided s law alive copies m t w) (λ alive copies m t w h k. same-list g f alive copies m t w h k))
     where
       go : (m ≡ 0 → ⊥)
-          → ((column s law liv cp m t w ≡ 4096) × (choices t ≡ [])) ⊎ ((column s law liv cp m t w < s .size) × (choices t ≡ keep (λ q. member (column s law liv cp m t w) (q .cells)) (keep (possible t) (s .rows))))
-          → ((liv : ℕ → Bool) (cp : ℕ → ℕ) (m : ℕ) (t : State) → Represents s liv cp m t → m < g → m ≤ f → map (placed (t .chosen)) (packings (tableOf s) (s .size) g liv cp m) ≡ search choices f t)
-          → map (placed (t .chosen)) (packings (tableOf s) (s .size) (suc g) liv cp m) ≡ search choices (suc f) t
+          → ((column s law alive copies m t w ≡ 4096) × (choices t ≡ [])) ⊎
+          ((column s law alive copies m t w < s .size) × (choices t ≡ keep (λ q. member (column s law alive copies m t w) (q .cells)) (keep (possible t) (s .rows))))
+          → ((alive : ℕ → Bool) (copies : ℕ → ℕ) (m : ℕ) (t : State) → Represents s alive copies m t → m < g → m ≤ f
+          → map (placed (t .chosen)) (exactCovers (matrixOf s) (s .size) g alive copies m) ≡ search choices f t)
+          → map (placed (t .chosen)) (exactCovers (matrixOf s) (s .size) (suc g) alive copies m) ≡ search choices (suc f) t
       go d (inl e) again =
-          ap (map (placed (t .chosen))) (packings-none (tableOf s) (s .size) g liv cp m d (e .0))
+          ap (map (placed (t .chosen))) (packings-none (matrixOf s) (s .size) g alive copies m d (e .0))
           ∙ sym (search-on choices t f (λ i. d (w .rest ∙ i)) ∙ ap (λ (l : List Placement). each l (λ q. search choices f (choose t q))) (e .1))
       go d (inr e) again =
           let l = e .0 in
           let n = law .fewCells in
-          let c = column s law liv cp m t w in
-          ap (map (placed (t .chosen))) (packings-rows (tableOf s) (s .size) g liv cp m d (λ i. omega arith))
-          ∙ tried s law liv cp m t w c l (placed (t .chosen)) (below-row (tableOf s) (s .size) g liv cp m) (λ q. search choices f (choose t q)) row-same
+          let c = column s law alive copies m t w in
+          ap (map (placed (t .chosen))) (packings-rows (matrixOf s) (s .size) g alive copies m d (λ i. omega arith))
+          ∙ tried s law alive copies m t w c l (placed (t .chosen)) (below-row (matrixOf s) (s .size) g alive copies m) (λ q. search choices f (choose t q)) row-same
           ∙ sym (search-on choices t f (λ i. d (w .rest ∙ i)) ∙ ap (λ (z : List Placement). each z (λ q. search choices f (choose t q))) (e .1))
         where
-          row-same : (x : ℕ) → liv x ≡ true → map (placed (t .chosen)) (below-row (tableOf s) (s .size) g liv cp m x) ≡ search choices f (choose t (rowOf s (tableOf s .row x)))
+          row-same : (x : ℕ) → alive x ≡ true → map (placed (t .chosen)) (below-row (matrixOf s) (s .size) g alive copies m x) ≡ search choices f (choose t (rowOf s (matrixOf s .row x)))
           row-same x lx =
-              placed-first t x (packings (tableOf s) (s .size) g (select (tableOf s) liv cp x) (spend (tableOf s) cp x) (m - (tableOf s .hi x - tableOf s .lo x - 1)))
-              ∙ again (select (tableOf s) liv cp x) (spend (tableOf s) cp x) (m - (tableOf s .hi x - tableOf s .lo x - 1)) (choose t (rowOf s (tableOf s .row x))) (chosen s law liv cp m t w x lx)
+              placed-first t x (exactCovers (matrixOf s) (s .size) g (select (matrixOf s) alive copies x) (spend (matrixOf s) copies x) (m - (matrixOf s .hi x - matrixOf s .lo x - 1)))
+              ∙ again (select (matrixOf s) alive copies x) (spend (matrixOf s) copies x) (m - (matrixOf s .hi x - matrixOf s .lo x - 1))
+              (choose t (rowOf s (matrixOf s .row x))) (chosen s law alive copies m t w x lx)
               (smaller .0) (smaller .1)
             where
-              smaller : (m - (tableOf s .hi x - tableOf s .lo x - 1) < g) × (m - (tableOf s .hi x - tableOf s .lo x - 1) ≤ f)
+              smaller : (m - (matrixOf s .hi x - matrixOf s .lo x - 1) < g) × (m - (matrixOf s .hi x - matrixOf s .lo x - 1) ≤ f)
               smaller =
                   let n = w .node x lx in
-                  let a = table-rows s x (n .0) (n .1) .size in
+                  let a = matrix-rows s x (n .0) (n .1) .size in
                   let b = row-some s law x (n .0) (n .1) in
                   (omega arith, omega arith)
 
-  pub knuth-rows : (cp : ℕ → ℕ) → ((k : ℕ) → k < length (s .copies) → cp (s .size + k) ≡ getD (s .copies) k 0) → (g : ℕ) → s .size < g
-      → map (λ ks. putAll [] (map (rowOf s) (map (tableOf s .row) ks))) (packings (tableOf s) (s .size) g (every (tableOf s)) cp (s .size)) ≡ search (knuthChoices (s .rows)) (s .size) (startOf s)
-  unfolding startOf
-  knuth-rows cp held g h = same-list g (s .size) (every (tableOf s)) cp (s .size) (startOf s) (starts s law cp held) h (omega arith)
+  pub knuth-rows : (copies : ℕ → ℕ) → ((k : ℕ) → k < length (s .copies) → copies (s .size + k) ≡ getD (s .copies) k 0) → (g : ℕ) → s .size < g
+      → map (λ ks. putAll [] (map (rowOf s) (map (matrixOf s .row) ks))) (exactCovers (matrixOf s) (s .size) g (every (matrixOf s)) copies (s .size)) ≡ search (knuthChoices (s .rows)) (s .size) (startBy s)
+  unfolding startBy
+  knuth-rows copies held g h = same-list g (s .size) (every (matrixOf s)) copies (s .size) (startBy s) (starts s law copies held) h (omega arith)

@@ -1,19 +1,19 @@
 -- The first column with the fewest rows, but at least one, is the cell that Knuth's choices take: both are the least in the order of count, then cell. Assumes nothing.
 use Prim.Native.Nat.{ℕ, zero, suc, _≤_, _<_}
-use mathlib.Core.Bool.{Bool, true, false, not, _&&_, _||_}
+use mathlib.Core.Bool.{Bool, true, false, not, _&&_, _||_, cond}
 use mathlib.Core.List.{List, [], _∷_, map, List·Memᴰ, List·Memᴰ·head, List·Memᴰ·not-nil, List·Memᴰ·cases-cons, Memᴰ·map, Memᴰ·of-map}
 use mathlib.Core.Path.{_≡_, refl, sym, ap, _∙_}
 use mathlib.Core.Logic.{_⊎_, inl, inr}
 use native.Mathlib.Omega.{arith}
 use lib.Dec.{T, ltb, eqb, ltb→lt, lt→ltb, nltb→le, eqb→eq}
-use lib.ListN.{getD, take}
-use Rattle.definitions.specs.Lists.{all, any, howMany, keep, member, less, sort, ascending}
+use lib.ListN.{take}
+use Rattle.lists.specs.Lists.{all, any, howMany, keep, member, less, sort, ascending}
+use Rattle.lists.proofs.TestLaws.{or-no, and-left, and-right, or-cases, decide, holds}
+use Rattle.lists.proofs.ListLaws.{nothing-in, all-at, keep-at, keep-of, keep-same}
+use Rattle.lists.proofs.SortLaws.{sort-ascending, sort-at, sort-of}
+use Rattle.definitions.proofs.KnuthOrderLaws.{tallies-tied, tally-trans}
 use Rattle.definitions.specs.Placements.{Placement}
 use Rattle.definitions.specs.Orders.{State, possible, Tally, tallyAhead, tallies, knuthChoices}
-use Rattle.definitions.proofs.ListLaws.{and-left, and-right, or-cases, all-at, keep-at, keep-of, keep-same, less-total, less-trans, sort-ascending, decide, clash, holds}
-use Rattle.definitions.proofs.EngineLaws.{sort-at}
-use Rattle.definitions.proofs.ShapeLaws.{sort-of}
-use Rattle.links.specs.Cover.{pick}
 use Rattle.links.specs.Search.{better, least, pivot}
 
 -- ---- what `pivot` finds
@@ -30,7 +30,7 @@ Found f n c l = ((c ≡ 4096) × (l ≡ 65536) × ((j : ℕ) → j < n → f j �
 better-yes : (n l : ℕ) → better n l ≡ true → (0 < n) × (n < l)
 better-yes n l e = go (ltb 0 n) refl (ltb n l) refl e
   where
-    go : (a : Bool) → ltb 0 n ≡ a → (b : Bool) → ltb n l ≡ b → pick a b false ≡ true → (0 < n) × (n < l)
+    go : (a : Bool) → ltb 0 n ≡ a → (b : Bool) → ltb n l ≡ b → cond a b false ≡ true → (0 < n) × (n < l)
     go true p true q h = (ltb→lt 0 n (holds (ltb 0 n) p), ltb→lt n l (holds (ltb n l) q))
     go true p false q h = absurd (holds false h)
     go false p b q h = absurd (holds false h)
@@ -38,7 +38,7 @@ better-yes n l e = go (ltb 0 n) refl (ltb n l) refl e
 better-no : (n l : ℕ) → better n l ≡ false → 0 < n → l ≤ n
 better-no n l e k = go (decide (ltb n l))
   where
-    both : (a b : Bool) → T a → T b → pick a b false ≡ false → ⊥
+    both : (a b : Bool) → T a → T b → cond a b false ≡ false → ⊥
     both true true s t h = holds false (sym h)
     both true false s t h = t
     both false b s t h = s
@@ -62,7 +62,7 @@ pivot-found f few (suc n) = go (better (f n) (least f n)) refl (pivot-found f fe
         cut (inl t) = inl (ltb→lt j n t)
         cut (inr t) = let l = nltb→le j n t in inr (omega arith)
 
-    go : (b : Bool) → better (f n) (least f n) ≡ b → Found f n (pivot f n) (least f n) → Found f (suc n) (pick b n (pivot f n)) (pick b (f n) (least f n))
+    go : (b : Bool) → better (f n) (least f n) ≡ b → Found f n (pivot f n) (least f n) → Found f (suc n) (cond b n (pivot f n)) (cond b (f n) (least f n))
     go true e (inl h) =
         let y = better-yes (f n) (least f n) e in
         inr (refl, record { small = omega arith; some = y .0; fewest = λ j l k. low j k (last-or j l); first = λ j l k. absurd (let z = h .2 j l in omega arith) })
@@ -104,23 +104,6 @@ pivot-found f few (suc n) = go (better (f n) (least f n)) refl (pivot-found f fe
             omega arith
 
 -- ---- the first of sorted tallies
-tally-trans : (x y z : Tally) → T (tallyAhead x y) → T (tallyAhead y z) → T (tallyAhead x z)
-unfolding tallyAhead
-tally-trans x y z = less-trans (x .placements ∷ x .cell ∷ []) (y .placements ∷ y .cell ∷ []) (z .placements ∷ z .cell ∷ [])
-
-tally-tied : (x y : Tally) → T (not (tallyAhead x y)) → T (not (tallyAhead y x)) → x ≡ y
-unfolding tallyAhead
-tally-tied x y s t = go (less-total (x .placements ∷ x .cell ∷ []) (y .placements ∷ y .cell ∷ []))
-  where
-    go : T (less (x .placements ∷ x .cell ∷ []) (y .placements ∷ y .cell ∷ []))
-        ⊎ ((_≡_ {A = List ℕ} (x .placements ∷ x .cell ∷ []) (y .placements ∷ y .cell ∷ [])) ⊎ T (less (y .placements ∷ y .cell ∷ []) (x .placements ∷ x .cell ∷ []))) → x ≡ y
-    go (inl u) = absurd (clash (less (x .placements ∷ x .cell ∷ []) (y .placements ∷ y .cell ∷ [])) u s)
-    go (inr (inl e)) =
-        let a : x .placements ≡ y .placements = ap (λ (l : List ℕ). getD l 0 0) e in
-        let b : x .cell ≡ y .cell = ap (λ (l : List ℕ). getD l 1 0) e in
-        λ i. record { placements = a i; cell = b i }
-    go (inr (inr u)) = absurd (clash (less (y .placements ∷ y .cell ∷ []) (x .placements ∷ x .cell ∷ [])) u t)
-
 first-of-sorted : (xs : List Tally) → T (ascending tallyAhead xs) → {y : Tally} → List·Memᴰ y xs
     → (x : Tally) × (take 1 xs ≡ x ∷ []) × List·Memᴰ x xs × ((y ≡ x) ⊎ T (tallyAhead x y))
 first-of-sorted [] t m = absurd (List·Memᴰ·not-nil m)
@@ -129,10 +112,6 @@ first-of-sorted (x ∷ xs) t {y} m = (x, refl, List·Memᴰ·head refl, go (List
     go : (y ≡ x) ⊎ List·Memᴰ y xs → (y ≡ x) ⊎ T (tallyAhead x y)
     go (inl e) = inl e
     go (inr k) = inr (all-at (tallyAhead x) xs (and-left (all (tallyAhead x) xs) (ascending tallyAhead xs) t) k)
-
-no-entry : {A : Type 0} (ys : List A) → ((x : A) → List·Memᴰ x ys → ⊥) → ys ≡ []
-no-entry [] g = refl
-no-entry (y ∷ ys) g = absurd (g y (List·Memᴰ·head refl))
 
 module _ (ps : List Placement) (free : List ℕ) (size : ℕ) where
   abbrev many : ℕ → ℕ
@@ -156,11 +135,11 @@ module _ (ps : List Placement) (free : List ℕ) (size : ℕ) where
     tally-of {n} m h = keep-of (λ (u : Tally). ltb 0 (u .placements)) (map counted free) (Memᴰ·map counted m) (lt→ltb 0 (many n) h)
 
     no-tallies : ((j : ℕ) → j < size → many j ≡ 0) → tallies ps free ≡ []
-    no-tallies h = no-entry (tallies ps free) (λ x m. let r = tally-at m in let z = h (r .0) (on (r .0) (r .1)) in let u = r .3 in omega arith)
+    no-tallies h = nothing-in (tallies ps free) (λ x m. let r = tally-at m in let z = h (r .0) (on (r .0) (r .1)) in let u = r .3 in omega arith)
 
     the-first : (c : ℕ) → Least many size c → take 1 (sort tallyAhead (tallies ps free)) ≡ counted c ∷ []
     unfolding tallyAhead
-    the-first c h = go (first-of-sorted (sort tallyAhead ts) (sort-ascending tallyAhead tally-trans ts) (sort-of tallyAhead tally-tied ts (tally-of (reach c (h .small) (h .some)) (h .some))))
+    the-first c h = go (first-of-sorted (sort tallyAhead ts) (sort-ascending tallyAhead tally-trans ts) (sort-of tallyAhead tallies-tied ts (tally-of (reach c (h .small) (h .some)) (h .some))))
       where
         ts : List Tally
         ts = tallies ps free
@@ -203,16 +182,12 @@ module _ (ps : List Placement) (free : List ℕ) (size : ℕ) where
         go (inr h) = inr (h .1, the-first (pivot many size) (h .1))
 
 -- ---- Knuth's choices by that cell
-or-no : (b : Bool) → (b || false) ≡ b
-or-no true = refl
-or-no false = refl
-
 module _ (rows : List Placement) (t : State) where
   pub knuth-none : tallies (keep (possible t) rows) (t .free) ≡ [] → knuthChoices rows t ≡ []
   unfolding knuthChoices
   knuth-none e =
       ap (λ (ts : List Tally). keep (λ q. any (λ u. member (u .cell) (q .cells)) (take 1 (sort tallyAhead ts))) (keep (possible t) rows)) e
-      ∙ no-entry (keep (λ q. false) (keep (possible t) rows)) (λ q m. keep-at (λ (z : Placement). false) (keep (possible t) rows) m .1)
+      ∙ nothing-in (keep (λ q. false) (keep (possible t) rows)) (λ q m. keep-at (λ (z : Placement). false) (keep (possible t) rows) m .1)
 
   pub knuth-some : (c n : ℕ) → take 1 (sort tallyAhead (tallies (keep (possible t) rows) (t .free))) ≡ record { placements = n; cell = c } ∷ []
       → knuthChoices rows t ≡ keep (λ q. member c (q .cells)) (keep (possible t) rows)

@@ -1,85 +1,50 @@
--- The live rows of a table stand for the rows that are still possible at a state, and stay so once a row is chosen. Assumes nothing.
+-- The live rows of a matrix stand for the rows that are still possible at a state, and stay so once a row is chosen. Assumes nothing.
 use Prim.Native.Nat.{ℕ, zero, suc, _+_, _-_, _≤_, _<_}
-use mathlib.Core.Bool.{Bool, true, false, not, false≢true}
-use mathlib.Core.List.{List, [], _∷_, List·Memᴰ, Memᴰ·cast}
+use mathlib.Core.Bool.{Bool, true, false, not, false≢true, cond}
+use mathlib.Core.List.{List·Memᴰ, Memᴰ·cast}
 use mathlib.Core.Path.{_≡_, refl, sym, ap, _∙_, subst}
-use native.Mathlib.Decide.{ℕ-discrete}
 use native.Mathlib.Omega.{arith}
 use lib.Dec.{T, ltb, leb, eqb, ltb→lt, lt→ltb, leb→le, le→leb}
 use lib.ListN.{length, getD}
 use lib.Seq.{getD-set-same, getD-set-other}
-use borrow.Author.Tests.{eq-eqb, ne-eqb}
-use Rattle.definitions.specs.Lists.{consIf, all, keep, member, ascending}
+use Rattle.lists.specs.Lists.{all, keep, member, ascending}
+use Rattle.lists.proofs.TestLaws.{both, both-right, both-left, cond-other, cond-same, by-eq, and-left, and-right, and-both, ltb-trans, ltb-irrefl, clash, is-true, holds}
+use Rattle.lists.proofs.ListLaws.{split-length, all-at, all-of, keep-at, keep-of, getD-pos}
+use Rattle.lists.proofs.SortLaws.{keep-ascending, ascending-unique}
+use Rattle.lists.proofs.RangeLaws.{below-at, below-of, from-ascending, length-below, member-at, member-of}
 use Rattle.definitions.specs.Placements.{Placement}
 use Rattle.definitions.specs.Orders.{State, possible, choose}
-use Rattle.definitions.proofs.ListLaws.{and-left, and-right, and-both, all-at, all-of, keep-at, keep-of, keep-ascending, below-at, below-of, from-ascending, length-below, member-at, member-of, ascending-unique, ltb-trans, ltb-irrefl, clash, is-true, holds}
-use Rattle.definitions.proofs.SearchLaws.{getD-pos}
 use Rattle.rows.specs.Systems.{System}
 use Rattle.rows.specs.Lawful.{Lawful, LawfulRow}
 use Rattle.kept.specs.Normal.{rowOf}
-use Rattle.links.specs.Links.{Table}
-use Rattle.links.specs.Cover.{pick}
-use Rattle.links.specs.Search.{free, apart, start, select, spend}
+use Rattle.kept.specs.Entries.{startBy}
+use Rattle.links.specs.Links.{Matrix}
+use Rattle.links.specs.Search.{free, apart, firstCovered, select, spend}
 use Rattle.links.specs.Build.{every}
-use Rattle.knuth.specs.Tables.{columns, tableOf, startOf}
-use Rattle.knuth.proofs.TableOfLaws.{RowNode, table-rows, cols-are, row-lawful, cell-in, cell-of, cell-small}
-
--- ---- tests
-pub by-eq : {P : Type 0} (a b : ℕ) → (a ≡ b → P) → ((a ≡ b → ⊥) → P) → P
-by-eq {P} a b p q = go (ℕ-discrete a b)
-  where
-    go : Dec (a ≡ b) → P
-    go (yes e) = p e
-    go (no n) = q n
-
-pick-true : {A : Type 0} (b : Bool) (u v : A) → b ≡ true → pick b u v ≡ u
-pick-true true u v e = refl
-pick-true false u v e = absurd (false≢true e)
-
-pick-false : {A : Type 0} (b : Bool) (u v : A) → b ≡ false → pick b u v ≡ v
-pick-false true u v e = absurd (false≢true (sym e))
-pick-false false u v e = refl
-
-pick-same : {A : Type 0} (a b : ℕ) (u v : A) → a ≡ b → pick (eqb a b) u v ≡ u
-pick-same a b u v e = pick-true (eqb a b) u v (eq-eqb a b e)
-
-pick-other : {A : Type 0} (a b : ℕ) (u v : A) → (a ≡ b → ⊥) → pick (eqb a b) u v ≡ v
-pick-other a b u v h = pick-false (eqb a b) u v (ne-eqb a b h)
-
--- both of two tests
-pub both-left : (a b : Bool) → pick a b false ≡ true → a ≡ true
-both-left true b e = refl
-both-left false b e = e
-
-pub both-right : (a b : Bool) → pick a b false ≡ true → b ≡ true
-both-right true b e = e
-both-right false b e = absurd (false≢true e)
-
-pub both : (a b : Bool) → a ≡ true → b ≡ true → pick a b false ≡ true
-both true b p q = q
-both false b p q = p
+use Rattle.knuth.specs.Tables.{columns, matrixOf}
+use Rattle.knuth.proofs.TableOfLaws.{RowNode, matrix-rows, cols-are, row-lawful, cell-in, cell-of, cell-small}
 
 -- ---- rows that share no column
-module _ (t : Table) where
+module _ (t : Matrix) where
   free-on : (j a n : ℕ) → free t j a n ≡ true → (y : ℕ) → a ≤ y → y < a + n → t .col y ≡ j → ⊥
   unfolding free
   free-on j a zero h y l g e = omega arith
   free-on j a (suc n) h y l g e =
-      let off : t .col (a + n) ≡ j → ⊥ = λ q. false≢true (sym (pick-same (t .col (a + n)) j false (free t j a n) q) ∙ h) in
-      let rest : y < a + n → ⊥ = λ k. free-on j a n (sym (pick-other (t .col (a + n)) j false (free t j a n) off) ∙ h) y l k e in
+      let off : t .col (a + n) ≡ j → ⊥ = λ q. false≢true (sym (cond-same (t .col (a + n)) j false (free t j a n) q) ∙ h) in
+      let rest : y < a + n → ⊥ = λ k. free-on j a n (sym (cond-other (t .col (a + n)) j false (free t j a n) off) ∙ h) y l k e in
       by-eq y (a + n) (λ q. off (ap (t .col) (sym q) ∙ e)) (λ q. rest (omega arith))
 
   in-free : (j a n : ℕ) → ((y : ℕ) → a ≤ y → y < a + n → t .col y ≡ j → ⊥) → free t j a n ≡ true
   unfolding free
   in-free j a zero h = refl
-  in-free j a (suc n) h = pick-other (t .col (a + n)) j false (free t j a n) (h (a + n) (omega arith) (omega arith)) ∙ in-free j a n (λ y l g. h y l (omega arith))
+  in-free j a (suc n) h = cond-other (t .col (a + n)) j false (free t j a n) (h (a + n) (omega arith) (omega arith)) ∙ in-free j a n (λ y l g. h y l (omega arith))
 
   apart-on : (k a n : ℕ) → apart t k a n ≡ true → (y z : ℕ) → a ≤ y → y < a + n → t .lo k ≤ z → z < t .hi k → t .col z ≡ t .col y → ⊥
   unfolding apart
   apart-on k a zero h y z l g i j e = omega arith
   apart-on k a (suc n) h y z l g i j e =
       let f = free t (t .col (a + n)) (t .lo k) (t .hi k - t .lo k) in
-      let both-f : pick f (apart t k a n) false ≡ true = h in
+      let both-f : cond f (apart t k a n) false ≡ true = h in
       let rest : y < a + n → ⊥ = λ q. apart-on k a n (both-right f (apart t k a n) both-f) y z l q i j e in
       by-eq y (a + n)
       (λ q. free-on (t .col (a + n)) (t .lo k) (t .hi k - t .lo k) (both-left f (apart t k a n) both-f) z i (omega arith) (e ∙ ap (t .col) q))
@@ -94,17 +59,17 @@ module _ (t : Table) where
       (in-apart k a n (λ y z l g. h y z l (omega arith)))
 
   -- the first node whose column is used up
-  start-last : (cp : ℕ → ℕ) (x : ℕ) → cp (t .col (t .lo x)) ≡ 1 → start t cp x ≡ t .lo x
-  unfolding start
-  start-last cp x e = pick-same (cp (t .col (t .lo x))) 1 (t .lo x) (t .lo x + 1) e
+  start-last : (copies : ℕ → ℕ) (x : ℕ) → copies (t .col (t .lo x)) ≡ 1 → firstCovered t copies x ≡ t .lo x
+  unfolding firstCovered
+  start-last copies x e = cond-same (copies (t .col (t .lo x))) 1 (t .lo x) (t .lo x + 1) e
 
-  start-more : (cp : ℕ → ℕ) (x : ℕ) → (cp (t .col (t .lo x)) ≡ 1 → ⊥) → start t cp x ≡ t .lo x + 1
-  unfolding start
-  start-more cp x d = pick-other (cp (t .col (t .lo x))) 1 (t .lo x) (t .lo x + 1) d
+  start-more : (copies : ℕ → ℕ) (x : ℕ) → (copies (t .col (t .lo x)) ≡ 1 → ⊥) → firstCovered t copies x ≡ t .lo x + 1
+  unfolding firstCovered
+  start-more copies x d = cond-other (copies (t .col (t .lo x))) 1 (t .lo x) (t .lo x + 1) d
 
-  start-first : (cp : ℕ → ℕ) (x : ℕ) → (t .lo x ≤ start t cp x) × (start t cp x ≤ t .lo x + 1)
-  start-first cp x =
-      by-eq (cp (t .col (t .lo x))) 1 (λ e. let z = start-last cp x e in (omega arith, omega arith)) (λ d. let z = start-more cp x d in (omega arith, omega arith))
+  start-first : (copies : ℕ → ℕ) (x : ℕ) → (t .lo x ≤ firstCovered t copies x) × (firstCovered t copies x ≤ t .lo x + 1)
+  start-first copies x =
+      by-eq (copies (t .col (t .lo x))) 1 (λ e. let z = start-last copies x e in (omega arith, omega arith)) (λ d. let z = start-more copies x d in (omega arith, omega arith))
 
 -- ---- what is possible at a state
 module _ (t : State) (q : Placement) where
@@ -149,49 +114,40 @@ module _ (t : State) (q : Placement) where
   unfolding choose
   choose-up h = keep-ascending ltb (λ (i : ℕ). not (member i (q .cells))) (t .free) h
 
--- ---- a table with its live rows, and a state
-pub record Represents (s : System) (liv : ℕ → Bool) (cp : ℕ → ℕ) (m : ℕ) (t : State) : Type 0 where
-  pub node : (x : ℕ) → liv x ≡ true → (columns s ≤ x) × (x < tableOf s .nodes)
-  pub can : (x : ℕ) → liv x ≡ true → T (possible t (rowOf s (tableOf s .row x)))
-  pub back : (x : ℕ) → columns s ≤ x → x < tableOf s .nodes → T (possible t (rowOf s (tableOf s .row x))) → liv x ≡ true
+-- ---- a matrix with its live rows, and a state
+pub record Represents (s : System) (alive : ℕ → Bool) (copies : ℕ → ℕ) (m : ℕ) (t : State) : Type 0 where
+  pub node : (x : ℕ) → alive x ≡ true → (columns s ≤ x) × (x < matrixOf s .nodes)
+  pub can : (x : ℕ) → alive x ≡ true → T (possible t (rowOf s (matrixOf s .row x)))
+  pub back : (x : ℕ) → columns s ≤ x → x < matrixOf s .nodes → T (possible t (rowOf s (matrixOf s .row x))) → alive x ≡ true
   pub stock : (k : ℕ) → getD (t .left) k 0 ≤ getD (s .copies) k 0
-  pub held : (k : ℕ) → k < length (s .copies) → cp (s .size + k) ≡ getD (t .left) k 0
+  pub held : (k : ℕ) → k < length (s .copies) → copies (s .size + k) ≡ getD (t .left) k 0
   pub rest : m ≡ length (t .free)
   pub up : T (ascending ltb (t .free))
   pub on : (n : ℕ) → List·Memᴰ n (t .free) → n < s .size
 
-split-length : (p : ℕ → Bool) (xs : List ℕ) → length (keep p xs) + length (keep (λ n. not (p n)) xs) ≡ length xs
-split-length p [] = omega arith
-split-length p (x ∷ xs) = go (p x) (split-length p xs)
-  where
-    go : (b : Bool) → length (keep p xs) + length (keep (λ n. not (p n)) xs) ≡ length xs
-        → length (consIf b x (keep p xs)) + length (consIf (not b) x (keep (λ n. not (p n)) xs)) ≡ suc (length xs)
-    go true e = omega arith
-    go false e = omega arith
-
 -- at the start
-every-at : (s : System) (x : ℕ) → every (tableOf s) x ≡ true → (columns s ≤ x) × (x < tableOf s .nodes)
+every-at : (s : System) (x : ℕ) → every (matrixOf s) x ≡ true → (columns s ≤ x) × (x < matrixOf s .nodes)
 unfolding every
 every-at s x h =
     let e = cols-are s in
-    let a = leb→le (tableOf s .cols) x (holds (leb (tableOf s .cols) x) (both-left (leb (tableOf s .cols) x) (ltb x (tableOf s .nodes)) h)) in
-    let b = ltb→lt x (tableOf s .nodes) (holds (ltb x (tableOf s .nodes)) (both-right (leb (tableOf s .cols) x) (ltb x (tableOf s .nodes)) h)) in
+    let a = leb→le (matrixOf s .cols) x (holds (leb (matrixOf s .cols) x) (both-left (leb (matrixOf s .cols) x) (ltb x (matrixOf s .nodes)) h)) in
+    let b = ltb→lt x (matrixOf s .nodes) (holds (ltb x (matrixOf s .nodes)) (both-right (leb (matrixOf s .cols) x) (ltb x (matrixOf s .nodes)) h)) in
     (omega arith, omega arith)
 
-every-of : (s : System) (x : ℕ) → columns s ≤ x → x < tableOf s .nodes → every (tableOf s) x ≡ true
+every-of : (s : System) (x : ℕ) → columns s ≤ x → x < matrixOf s .nodes → every (matrixOf s) x ≡ true
 unfolding every
 every-of s x a b =
     let e = cols-are s in
-    both (leb (tableOf s .cols) x) (ltb x (tableOf s .nodes)) (is-true (leb (tableOf s .cols) x) (le→leb (tableOf s .cols) x (omega arith)))
-    (is-true (ltb x (tableOf s .nodes)) (lt→ltb x (tableOf s .nodes) b))
+    both (leb (matrixOf s .cols) x) (ltb x (matrixOf s .nodes)) (is-true (leb (matrixOf s .cols) x) (le→leb (matrixOf s .cols) x (omega arith)))
+    (is-true (ltb x (matrixOf s .nodes)) (lt→ltb x (matrixOf s .nodes) b))
 
-module _ (s : System) (law : Lawful s) (cp : ℕ → ℕ) (held : (k : ℕ) → k < length (s .copies) → cp (s .size + k) ≡ getD (s .copies) k 0) where
-  pub starts : Represents s (every (tableOf s)) cp (s .size) (startOf s)
-  unfolding startOf
+module _ (s : System) (law : Lawful s) (copies : ℕ → ℕ) (held : (k : ℕ) → k < length (s .copies) → copies (s .size + k) ≡ getD (s .copies) k 0) where
+  pub starts : Represents s (every (matrixOf s)) copies (s .size) (startBy s)
+  unfolding startBy
   starts =
       record {
         node = every-at s;
-        can = λ x h. let a = every-at s x h in can-be (startOf s) (rowOf s (tableOf s .row x)) (table-rows s x (a .0) (a .1) .stocked)
+        can = λ x h. let a = every-at s x h in can-be (startBy s) (rowOf s (matrixOf s .row x)) (matrix-rows s x (a .0) (a .1) .stocked)
             (λ n m. below-of (s .size) (row-lawful s law x (a .0) (a .1) .onBoard n m));
         back = λ x a b h. every-of s x a b;
         stock = λ k. omega arith;
@@ -202,43 +158,43 @@ module _ (s : System) (law : Lawful s) (cp : ℕ → ℕ) (held : (k : ℕ) → 
       }
 
 -- once the row of x is chosen
-module _ (s : System) (law : Lawful s) (liv : ℕ → Bool) (cp : ℕ → ℕ) (m : ℕ) (t : State) (w : Represents s liv cp m t) (x : ℕ) (lx : liv x ≡ true) where
-  abbrev T₀ : Table
-  T₀ = tableOf s
+module _ (s : System) (law : Lawful s) (alive : ℕ → Bool) (copies : ℕ → ℕ) (m : ℕ) (t : State) (w : Represents s alive copies m t) (x : ℕ) (lx : alive x ≡ true) where
+  abbrev T₀ : Matrix
+  T₀ = matrixOf s
 
   abbrev q : Placement
-  q = rowOf s (tableOf s .row x)
+  q = rowOf s (matrixOf s .row x)
 
   is-row : LawfulRow s q
   is-row = row-lawful s law x (w .node x lx .0) (w .node x lx .1)
 
   node-x : RowNode s x
-  node-x = table-rows s x (w .node x lx .0) (w .node x lx .1)
+  node-x = matrix-rows s x (w .node x lx .0) (w .node x lx .1)
 
   some-left : 0 < getD (t .left) (q .kind) 0
   some-left = can-left t q (w .can x lx)
 
-  held-x : cp (T₀ .col (T₀ .lo x)) ≡ getD (t .left) (q .kind) 0
-  held-x = ap cp (node-x .kind) ∙ w .held (q .kind) (is-row .ofKind)
+  held-x : copies (T₀ .col (T₀ .lo x)) ≡ getD (t .left) (q .kind) 0
+  held-x = ap copies (node-x .kind) ∙ w .held (q .kind) (is-row .ofKind)
 
-  a-first : (T₀ .lo x ≤ start T₀ cp x) × (start T₀ cp x ≤ T₀ .lo x + 1)
-  a-first = start-first T₀ cp x
+  a-first : (T₀ .lo x ≤ firstCovered T₀ copies x) × (firstCovered T₀ copies x ≤ T₀ .lo x + 1)
+  a-first = start-first T₀ copies x
 
   long : T₀ .lo x + 1 ≤ T₀ .hi x
   long = let z = node-x .size in omega arith
 
   module _ (k : ℕ) (a : columns s ≤ k) (b : k < T₀ .nodes) where
     abbrev qk : Placement
-    qk = rowOf s (tableOf s .row k)
+    qk = rowOf s (matrixOf s .row k)
 
     node-k : RowNode s k
-    node-k = table-rows s k a b
+    node-k = matrix-rows s k a b
 
-    -- nodes from `start` on share no column with the row of k
+    -- nodes from `firstCovered` on share no column with the row of k
     abbrev Off : Type 0
-    Off = (y z : ℕ) → start T₀ cp x ≤ y → y < T₀ .hi x → T₀ .lo k ≤ z → z < T₀ .hi k → T₀ .col z ≡ T₀ .col y → ⊥
+    Off = (y z : ℕ) → firstCovered T₀ copies x ≤ y → y < T₀ .hi x → T₀ .lo k ≤ z → z < T₀ .hi k → T₀ .col z ≡ T₀ .col y → ⊥
 
-    off-can : liv k ≡ true → Off → T (possible (choose t q) qk)
+    off-can : alive k ≡ true → Off → T (possible (choose t q) qk)
     off-can lk off = can-be (choose t q) qk left-after (λ n i. free-stays t q (can-free t qk (w .can k lk) i) (λ j. not-shared n i j))
       where
         not-shared : (n : ℕ) → List·Memᴰ n (qk .cells) → List·Memᴰ n (q .cells) → ⊥
@@ -253,9 +209,9 @@ module _ (s : System) (law : Lawful s) (liv : ℕ → Bool) (cp : ℕ → ℕ) (
         left-after : 0 < getD (choose t q .left) (qk .kind) 0
         left-after =
             by-eq (qk .kind) (q .kind)
-            (λ e. by-eq (cp (T₀ .col (T₀ .lo x))) 1
+            (λ e. by-eq (copies (T₀ .col (T₀ .lo x))) 1
             (λ f.
-            let g = start-last T₀ cp x f in
+            let g = start-last T₀ copies x f in
             let h = long in
             let i = node-k .upto in
             let j = node-k .behind in
@@ -283,8 +239,8 @@ module _ (s : System) (law : Lawful s) (liv : ℕ → Bool) (cp : ℕ → ℕ) (
         col-z : z ≡ T₀ .lo k → T₀ .col z ≡ s .size + qk .kind
         col-z g = ap (T₀ .col) g ∙ node-k .kind
 
-        last-copy : y ≡ T₀ .lo x → cp (T₀ .col (T₀ .lo x)) ≡ 1
-        last-copy f = by-eq (cp (T₀ .col (T₀ .lo x))) 1 (λ g. g) (λ g. absurd (let u = start-more T₀ cp x g in omega arith))
+        last-copy : y ≡ T₀ .lo x → copies (T₀ .col (T₀ .lo x)) ≡ 1
+        last-copy f = by-eq (copies (T₀ .col (T₀ .lo x))) 1 (λ g. g) (λ g. absurd (let u = start-more T₀ copies x g in omega arith))
 
         kinds : y ≡ T₀ .lo x → z ≡ T₀ .lo k → ⊥
         kinds f g =
@@ -298,44 +254,45 @@ module _ (s : System) (law : Lawful s) (liv : ℕ → Bool) (cp : ℕ → ℕ) (
             let i = held-x in
             omega arith
 
-  select-is : (k : ℕ) → select T₀ liv cp x k ≡ pick (liv k) (apart T₀ k (start T₀ cp x) (T₀ .hi x - start T₀ cp x)) false
+  select-is : (k : ℕ) → select T₀ alive copies x k ≡ cond (alive k) (apart T₀ k (firstCovered T₀ copies x) (T₀ .hi x - firstCovered T₀ copies x)) false
   unfolding select
   select-is k = refl
 
-  spend-is : (j : ℕ) → spend T₀ cp x j ≡ pick (eqb j (T₀ .col (T₀ .lo x))) (cp j - 1) (cp j)
+  spend-is : (j : ℕ) → spend T₀ copies x j ≡ cond (eqb j (T₀ .col (T₀ .lo x))) (copies j - 1) (copies j)
   unfolding spend
   spend-is j = refl
 
-  was-live : (k : ℕ) → select T₀ liv cp x k ≡ true → liv k ≡ true
-  was-live k h = both-left (liv k) (apart T₀ k (start T₀ cp x) (T₀ .hi x - start T₀ cp x)) (sym (select-is k) ∙ h)
+  was-live : (k : ℕ) → select T₀ alive copies x k ≡ true → alive k ≡ true
+  was-live k h = both-left (alive k) (apart T₀ k (firstCovered T₀ copies x) (T₀ .hi x - firstCovered T₀ copies x)) (sym (select-is k) ∙ h)
 
-  select-can : (k : ℕ) → select T₀ liv cp x k ≡ true → T (possible (choose t q) (rowOf s (tableOf s .row k)))
+  select-can : (k : ℕ) → select T₀ alive copies x k ≡ true → T (possible (choose t q) (rowOf s (matrixOf s .row k)))
   select-can k h =
       let l = was-live k h in
       let f = a-first in
       let g = long in
       off-can k (w .node k l .0) (w .node k l .1) l
-      (λ y z i j. apart-on T₀ k (start T₀ cp x) (T₀ .hi x - start T₀ cp x) (both-right (liv k) (apart T₀ k (start T₀ cp x) (T₀ .hi x - start T₀ cp x)) (sym (select-is k) ∙ h)) y z i (omega arith))
+      (λ y z i j. apart-on T₀ k (firstCovered T₀ copies x) (T₀ .hi x - firstCovered T₀ copies x)
+      (both-right (alive k) (apart T₀ k (firstCovered T₀ copies x) (T₀ .hi x - firstCovered T₀ copies x)) (sym (select-is k) ∙ h)) y z i (omega arith))
 
-  can-select : (k : ℕ) → columns s ≤ k → k < T₀ .nodes → T (possible (choose t q) (rowOf s (tableOf s .row k))) → select T₀ liv cp x k ≡ true
+  can-select : (k : ℕ) → columns s ≤ k → k < T₀ .nodes → T (possible (choose t q) (rowOf s (matrixOf s .row k))) → select T₀ alive copies x k ≡ true
   can-select k a b h =
       let f = a-first in
       let g = long in
       select-is k
-      ∙ both (liv k) (apart T₀ k (start T₀ cp x) (T₀ .hi x - start T₀ cp x)) (w .back k a b (can-before k a b h))
-      (in-apart T₀ k (start T₀ cp x) (T₀ .hi x - start T₀ cp x) (λ y z i j. can-off k a b h y z i (omega arith)))
+      ∙ both (alive k) (apart T₀ k (firstCovered T₀ copies x) (T₀ .hi x - firstCovered T₀ copies x)) (w .back k a b (can-before k a b h))
+      (in-apart T₀ k (firstCovered T₀ copies x) (T₀ .hi x - firstCovered T₀ copies x) (λ y z i j. can-off k a b h y z i (omega arith)))
 
-  held-after : (k : ℕ) → k < length (s .copies) → spend T₀ cp x (s .size + k) ≡ getD (choose t q .left) k 0
+  held-after : (k : ℕ) → k < length (s .copies) → spend T₀ copies x (s .size + k) ≡ getD (choose t q .left) k 0
   held-after k h =
       by-eq k (q .kind)
       (λ e.
       let f : s .size + k ≡ T₀ .col (T₀ .lo x) = ap (λ (n : ℕ). s .size + n) e ∙ sym (node-x .kind) in
       let g = w .held k h in
-      spend-is (s .size + k) ∙ pick-same (s .size + k) (T₀ .col (T₀ .lo x)) (cp (s .size + k) - 1) (cp (s .size + k)) f
+      spend-is (s .size + k) ∙ cond-same (s .size + k) (T₀ .col (T₀ .lo x)) (copies (s .size + k) - 1) (copies (s .size + k)) f
       ∙ ap (λ (n : ℕ). n - 1) (g ∙ ap (λ (n : ℕ). getD (t .left) n 0) e) ∙ sym (left-same t q some-left) ∙ ap (λ (n : ℕ). getD (choose t q .left) n 0) (sym e))
       (λ d.
       let f : s .size + k ≡ T₀ .col (T₀ .lo x) → ⊥ = λ e. let g = node-x .kind in d (omega arith) in
-      spend-is (s .size + k) ∙ pick-other (s .size + k) (T₀ .col (T₀ .lo x)) (cp (s .size + k) - 1) (cp (s .size + k)) f ∙ w .held k h ∙ sym (left-other t q k d))
+      spend-is (s .size + k) ∙ cond-other (s .size + k) (T₀ .col (T₀ .lo x)) (copies (s .size + k) - 1) (copies (s .size + k)) f ∙ w .held k h ∙ sym (left-other t q k d))
 
   -- as many cells less as the row has
   pub cells-less : length (choose t q .free) + length (q .cells) ≡ length (t .free)
@@ -349,7 +306,7 @@ module _ (s : System) (law : Lawful s) (liv : ℕ → Bool) (cp : ℕ → ℕ) (
       let g : length (keep (λ n. member n (q .cells)) (t .free)) ≡ length (q .cells) = ap length e in
       omega arith
 
-  pub chosen : Represents s (select T₀ liv cp x) (spend T₀ cp x) (m - (T₀ .hi x - T₀ .lo x - 1)) (choose t q)
+  pub chosen : Represents s (select T₀ alive copies x) (spend T₀ copies x) (m - (T₀ .hi x - T₀ .lo x - 1)) (choose t q)
   chosen =
       record {
         node = λ k h. w .node k (was-live k h);

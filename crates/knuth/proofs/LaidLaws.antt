@@ -1,7 +1,7 @@
 -- Nodes laid behind nodes are laid as one list: each keeps what lies elsewhere. Assumes nothing.
 use Prim.Native.Nat.{ℕ, zero, suc, _+_, _-_, _*_, _≤_, _<_}
 use mathlib.Core.Bool.{Bool, true, false, not}
-use mathlib.Core.List.{List, [], _∷_, _++_, map, append-nil}
+use mathlib.Core.List.{List, [], _∷_, _++_, map, append-nil, map-append}
 use mathlib.Core.Logic.{_⊎_, inl, inr}
 use mathlib.Core.Path.{_≡_, refl, sym, ap, _∙_, subst}
 use native.Mathlib.Numerals.{add-one}
@@ -9,29 +9,18 @@ use native.Mathlib.Omega.{arith}
 use lib.Dec.{T, ltb, ltb→lt, nltb→le}
 use lib.ListN.{length, getD, set, length-append, length-map, length-set}
 use lib.Seq.{getD-set-same, getD-set-other}
-use Rattle.definitions.specs.Lists.{consIf, keep, howMany, below, from}
-use Rattle.definitions.proofs.ListLaws.{decide, length-below, keep-append}
-use Rattle.definitions.proofs.CountLaws.{howMany-length}
-use Rattle.definitions.proofs.GroupLaws.{from-append}
+use Rattle.lists.specs.Lists.{consIf, keep, howMany, below, from}
+use Rattle.lists.proofs.TestLaws.{decide}
+use Rattle.lists.proofs.ListLaws.{keep-append}
+use Rattle.lists.proofs.RangeLaws.{below-next, length-below, from-append}
+use Rattle.lists.proofs.CountLaws.{howMany-length}
 use Rattle.masks.specs.Masks.{has}
 use Rattle.masks.specs.declared.Mask.{Mask}
-use Rattle.knuth.specs.Tables.{Node, nodeAt, nodesIn, headNodes, rowNodes, Laid, StockLaid}
+use Rattle.rows.specs.Charts.{kindsPart}
+use Rattle.links.specs.Links.{columnOf, firstOf, endOf, copiesOf, rowNumber, atColumn, atFirst, atEnd, atCopies, atRow}
+use Rattle.knuth.specs.Tables.{Node, nodeAt, nodesIn, headNodes, rowNodes, Beside, Laid, StockLaid}
 
 -- ---- lists
-map-append : {A B : Type 0} (f : A → B) (xs ys : List A) → map f (xs ++ ys) ≡ map f xs ++ map f ys
-map-append f [] ys = refl
-map-append f (x ∷ xs) ys = ap (λ (l : List _). f x ∷ l) (map-append f xs ys)
-
--- the numbers below n and those from n on
-pub below-split : (n m : ℕ) → n ≤ m → below m ≡ below n ++ from n (m - n)
-below-split n m h =
-    let a : 0 + n ≡ n = omega arith in
-    let b : n + (m - n) ≡ m = omega arith in
-    sym (ap (λ (k : ℕ). below n ++ from k (m - n)) (sym a) ∙ from-append 0 n (m - n) ∙ ap below b)
-
-below-next : (n : ℕ) → below (n + 1) ≡ below n ++ (n ∷ [])
-below-next n = let a : n + 1 - n ≡ 1 = omega arith in below-split n (n + 1) (omega arith) ∙ ap (λ (k : ℕ). below n ++ from n k) a
-
 -- the entries kept below n, and one more
 module _ (p : ℕ → Bool) (n : ℕ) where
   keep-next : keep p (below (n + 1)) ≡ keep p (below n) ++ consIf (p n) n []
@@ -54,84 +43,62 @@ module _ (p : ℕ → Bool) (n : ℕ) where
   pub count-miss : p n ≡ false → howMany p (below (n + 1)) ≡ howMany p (below n)
   count-miss e = howMany-length p (below (n + 1)) ∙ ap length (keep-miss e) ∙ sym (howMany-length p (below n))
 
-pub count-more : (p : ℕ → Bool) (n m : ℕ) → n ≤ m → howMany p (below n) ≤ howMany p (below m)
-count-more p n m h =
-    let a = howMany-length p (below m) in
-    let b = howMany-length p (below n) in
-    let c = ap length (ap (keep p) (below-split n m h) ∙ keep-append p (below n) (from n (m - n))) in
-    let d = length-append (keep p (below n)) (keep p (from n (m - n))) in
-    omega arith
-
 -- ---- one node
 node-same : {a b c d e f g h : ℕ} → a ≡ e → b ≡ f → c ≡ g → d ≡ h → _≡_ {A = Node} (record { col = a; lo = b; hi = c; row = d }) (record { col = e; lo = f; hi = g; row = h })
 node-same p q r s = cc
 
 -- a node is as it was where its four fields are
-pub same-node : (m n : List ℕ) (y : ℕ) → getD n (8192 + y) 0 ≡ getD m (8192 + y) 0 → getD n (12288 + y) 0 ≡ getD m (12288 + y) 0 → getD n (16384 + y) 0 ≡ getD m (16384 + y) 0
-    → getD n (28672 + y) 0 ≡ getD m (28672 + y) 0 → nodeAt n y ≡ nodeAt m y
+pub same-node : (m n : List ℕ) (y : ℕ) → columnOf n y ≡ columnOf m y → firstOf n y ≡ firstOf m y → endOf n y ≡ endOf m y
+    → rowNumber n y ≡ rowNumber m y → nodeAt n y ≡ nodeAt m y
 unfolding nodeAt
 same-node m n y p q r s = node-same p q r s
 
 module _ (m : List ℕ) (x col lo hi row : ℕ) where
   abbrev m1 : List ℕ
-  m1 = set m (8192 + x) col
+  m1 = set m (atColumn x) col
 
   abbrev m2 : List ℕ
-  m2 = set m1 (12288 + x) lo
+  m2 = set m1 (atFirst x) lo
 
   abbrev m3 : List ℕ
-  m3 = set m2 (16384 + x) hi
+  m3 = set m2 (atEnd x) hi
 
   abbrev pub putNode : List ℕ
-  putNode = set m3 (28672 + x) row
+  putNode = set m3 (atRow x) row
 
-  elsewhere : (i : ℕ) → (i ≡ 8192 + x → ⊥) → (i ≡ 12288 + x → ⊥) → (i ≡ 16384 + x → ⊥) → (i ≡ 28672 + x → ⊥) → getD putNode i 0 ≡ getD m i 0
+  elsewhere : (i : ℕ) → (i ≡ atColumn x → ⊥) → (i ≡ atFirst x → ⊥) → (i ≡ atEnd x → ⊥) → (i ≡ atRow x → ⊥) → getD putNode i 0 ≡ getD m i 0
   elsewhere i a b c d =
-      getD-set-other m3 (28672 + x) i row 0 d ∙ getD-set-other m2 (16384 + x) i hi 0 c ∙ getD-set-other m1 (12288 + x) i lo 0 b ∙ getD-set-other m (8192 + x) i col 0 a
+      getD-set-other m3 (atRow x) i row 0 d ∙ getD-set-other m2 (atEnd x) i hi 0 c ∙ getD-set-other m1 (atFirst x) i lo 0 b ∙ getD-set-other m (atColumn x) i col 0 a
 
   module _ (long : 32768 ≤ length m) (small : x < 4096) where
-    col-now : getD putNode (8192 + x) 0 ≡ col
+    col-now : columnOf putNode x ≡ col
     col-now =
-        getD-set-other m3 (28672 + x) (8192 + x) row 0 (λ e. omega arith) ∙ getD-set-other m2 (16384 + x) (8192 + x) hi 0 (λ e. omega arith)
-        ∙ getD-set-other m1 (12288 + x) (8192 + x) lo 0 (λ e. omega arith) ∙ getD-set-same m (8192 + x) col 0 (omega arith)
+        getD-set-other m3 (atRow x) (atColumn x) row 0 (λ e. omega arith) ∙ getD-set-other m2 (atEnd x) (atColumn x) hi 0 (λ e. omega arith)
+        ∙ getD-set-other m1 (atFirst x) (atColumn x) lo 0 (λ e. omega arith) ∙ getD-set-same m (atColumn x) col 0 (omega arith)
 
-    lo-now : getD putNode (12288 + x) 0 ≡ lo
+    lo-now : firstOf putNode x ≡ lo
     lo-now =
-        getD-set-other m3 (28672 + x) (12288 + x) row 0 (λ e. omega arith) ∙ getD-set-other m2 (16384 + x) (12288 + x) hi 0 (λ e. omega arith)
-        ∙ getD-set-same m1 (12288 + x) lo 0 (let a = length-set m (8192 + x) col in omega arith)
+        getD-set-other m3 (atRow x) (atFirst x) row 0 (λ e. omega arith) ∙ getD-set-other m2 (atEnd x) (atFirst x) hi 0 (λ e. omega arith)
+        ∙ getD-set-same m1 (atFirst x) lo 0 (let a = length-set m (atColumn x) col in omega arith)
 
-    hi-now : getD putNode (16384 + x) 0 ≡ hi
+    hi-now : endOf putNode x ≡ hi
     hi-now =
-        getD-set-other m3 (28672 + x) (16384 + x) row 0 (λ e. omega arith)
-        ∙ getD-set-same m2 (16384 + x) hi 0 (let a = length-set m (8192 + x) col in let b = length-set m1 (12288 + x) lo in omega arith)
+        getD-set-other m3 (atRow x) (atEnd x) row 0 (λ e. omega arith)
+        ∙ getD-set-same m2 (atEnd x) hi 0 (let a = length-set m (atColumn x) col in let b = length-set m1 (atFirst x) lo in omega arith)
 
-    row-now : getD putNode (28672 + x) 0 ≡ row
+    row-now : rowNumber putNode x ≡ row
     row-now =
-        getD-set-same m3 (28672 + x) row 0
-        (let a = length-set m (8192 + x) col in let b = length-set m1 (12288 + x) lo in let c = length-set m2 (16384 + x) hi in omega arith)
-
-    other-node : (y : ℕ) → y < 4096 → (y ≡ x → ⊥) → nodeAt putNode y ≡ nodeAt m y
-    other-node y h k =
-        let ne : (a : ℕ) → a + y ≡ a + x → ⊥ = λ a e. k (omega arith) in
-        same-node m putNode y
-        (elsewhere (8192 + y) (ne 8192) (λ e. omega arith) (λ e. omega arith) (λ e. omega arith))
-        (elsewhere (12288 + y) (λ e. omega arith) (ne 12288) (λ e. omega arith) (λ e. omega arith))
-        (elsewhere (16384 + y) (λ e. omega arith) (λ e. omega arith) (ne 16384) (λ e. omega arith))
-        (elsewhere (28672 + y) (λ e. omega arith) (λ e. omega arith) (λ e. omega arith) (ne 28672))
-
-    apart : (y : ℕ) → (y < x) ⊎ (x + 1 ≤ y) → y ≡ x → ⊥
-    apart y (inl h) e = omega arith
-    apart y (inr h) e = omega arith
+        getD-set-same m3 (atRow x) row 0
+        (let a = length-set m (atColumn x) col in let b = length-set m1 (atFirst x) lo in let c = length-set m2 (atEnd x) hi in omega arith)
 
     pub laid-one : Laid m x putNode (record { col = col; lo = lo; hi = hi; row = row } ∷ [])
     unfolding nodesIn nodeAt
     laid-one =
         record {
           nodes = ap (λ (n : Node). n ∷ []) (node-same col-now lo-now hi-now row-now);
-          others = λ y h o. other-node y h (apart y o);
-          below = λ i h. elsewhere i (λ e. omega arith) (λ e. omega arith) (λ e. omega arith) (λ e. omega arith);
-          between = λ i h k. elsewhere i (λ e. omega arith) (λ e. omega arith) (λ e. omega arith) (λ e. omega arith);
-          behind = λ i h. elsewhere i (λ e. omega arith) (λ e. omega arith) (λ e. omega arith) (λ e. omega arith);
+          others = λ i s.
+              elsewhere i (s .column x (omega arith) (omega arith)) (s .first x (omega arith) (omega arith))
+              (s .end x (omega arith) (omega arith)) (s .row x (omega arith) (omega arith));
         }
 
 -- ---- nodes
@@ -148,19 +115,36 @@ nodes-append m x j k = ap (map (nodeAt m)) (sym (from-append x j k)) ∙ map-app
 
 pub laid-none : (m : List ℕ) (x : ℕ) → Laid m x m []
 unfolding nodesIn
-laid-none m x = record { nodes = refl; others = λ y h o. refl; below = λ i h. refl; between = λ i h k. refl; behind = λ i h. refl }
+laid-none m x = record { nodes = refl; others = λ i s. refl }
 
-module _ (a b c : List ℕ) (x z : ℕ) (ns ms : List Node) (at : z ≡ x + length ns) (fits : x + length ns ≤ 4096) (p : Laid a x b ns) (q : Laid b z c ms) where
+-- ---- what lies beside nodes
+beside-part : (x n z k i : ℕ) → x ≤ z → z + k ≤ x + n → Beside x n i → Beside z k i
+beside-part x n z k i g h s =
+    record {
+      column = λ y a b. s .column y (omega arith) (omega arith);
+      first = λ y a b. s .first y (omega arith) (omega arith);
+      end = λ y a b. s .end y (omega arith) (omega arith);
+      row = λ y a b. s .row y (omega arith) (omega arith);
+    }
+
+pub beside-copies : (x n j : ℕ) → Beside x n (atCopies j)
+beside-copies x n j = record { column = λ y a b e. omega arith; first = λ y a b e. omega arith; end = λ y a b e. omega arith; row = λ y a b e. omega arith }
+
+pub beside-behind : (x n i : ℕ) → x + n ≤ 4096 → 32768 ≤ i → Beside x n i
+beside-behind x n i g h = record { column = λ y a b e. omega arith; first = λ y a b e. omega arith; end = λ y a b e. omega arith; row = λ y a b e. omega arith }
+
+-- a node before those that are laid stays
+before-stays : (b c : List ℕ) (z : ℕ) (ms : List Node) → Laid b z c ms → (y : ℕ) → y < z → nodeAt c y ≡ nodeAt b y
+before-stays b c z ms q y h =
+    same-node b c y
+    (q .others (atColumn y) (record { column = λ k g l e. omega arith; first = λ k g l e. omega arith; end = λ k g l e. omega arith; row = λ k g l e. omega arith }))
+    (q .others (atFirst y) (record { column = λ k g l e. omega arith; first = λ k g l e. omega arith; end = λ k g l e. omega arith; row = λ k g l e. omega arith }))
+    (q .others (atEnd y) (record { column = λ k g l e. omega arith; first = λ k g l e. omega arith; end = λ k g l e. omega arith; row = λ k g l e. omega arith }))
+    (q .others (atRow y) (record { column = λ k g l e. omega arith; first = λ k g l e. omega arith; end = λ k g l e. omega arith; row = λ k g l e. omega arith }))
+
+module _ (a b c : List ℕ) (x z : ℕ) (ns ms : List Node) (at : z ≡ x + length ns) (p : Laid a x b ns) (q : Laid b z c ms) where
   first-stays : nodesIn c x (length ns) ≡ nodesIn b x (length ns)
-  first-stays = same-nodes b c x (length ns) (λ y g h. q .others y (omega arith) (inl (omega arith)))
-
-  before : (y : ℕ) → (y < x) ⊎ (x + length (ns ++ ms) ≤ y) → (y < z) ⊎ (z + length ms ≤ y)
-  before y (inl h) = inl (omega arith)
-  before y (inr h) = let e = length-append ns ms in inr (omega arith)
-
-  beside : (y : ℕ) → (y < x) ⊎ (x + length (ns ++ ms) ≤ y) → (y < x) ⊎ (x + length ns ≤ y)
-  beside y (inl h) = inl h
-  beside y (inr h) = let e = length-append ns ms in inr (omega arith)
+  first-stays = same-nodes b c x (length ns) (λ y g h. before-stays b c z ms q y (omega arith))
 
   pub laid-more : Laid a x c (ns ++ ms)
   laid-more =
@@ -169,10 +153,10 @@ module _ (a b c : List ℕ) (x z : ℕ) (ns ms : List Node) (at : z ≡ x + leng
             ∙ ap (λ (l : List Node). l ++ nodesIn c (x + length ns) (length ms)) (first-stays ∙ p .nodes)
             ∙ ap (λ (k : ℕ). ns ++ nodesIn c k (length ms)) (sym at)
             ∙ ap (λ (l : List Node). ns ++ l) (q .nodes);
-        others = λ y h o. q .others y h (before y o) ∙ p .others y h (beside y o);
-        below = λ i h. q .below i h ∙ p .below i h;
-        between = λ i h k. q .between i h k ∙ p .between i h k;
-        behind = λ i h. q .behind i h ∙ p .behind i h;
+        others = λ i s.
+            let e = length-append ns ms in
+            q .others i (beside-part x (length (ns ++ ms)) z (length ms) i (omega arith) (omega arith) s)
+            ∙ p .others i (beside-part x (length (ns ++ ms)) x (length ns) i (omega arith) (omega arith) s);
       }
 
 -- ---- heads
@@ -191,12 +175,12 @@ pub heads-none : (m : List ℕ) (j : ℕ) → j ≡ 0 → Laid m 0 m (headNodes 
 unfolding headNodes
 heads-none m j e = subst (λ (k : ℕ). Laid m 0 m (map headNode (below k))) (sym e) (laid-none m 0)
 
-pub heads-more : (a b c : List ℕ) (j : ℕ) → j < 4096 → Laid a 0 b (headNodes j) → Laid b j c (record { col = j; lo = j; hi = j + 1; row = 0 } ∷ []) → Laid a 0 c (headNodes (j + 1))
-heads-more a b c j h p q =
+pub heads-more : (a b c : List ℕ) (j : ℕ) → Laid a 0 b (headNodes j) → Laid b j c (record { col = j; lo = j; hi = j + 1; row = 0 } ∷ []) → Laid a 0 c (headNodes (j + 1))
+heads-more a b c j p q =
     let l = heads-length j in
     let e : headNodes j ++ (record { col = j; lo = j; hi = j + 1; row = 0 } ∷ []) ≡ headNodes (j + 1) =
     ap (λ (k : ℕ). headNodes j ++ (record { col = j; lo = j; hi = k; row = 0 } ∷ [])) (add-one j) ∙ sym (heads-next j) in
-    subst (Laid a 0 c) e (laid-more a b c 0 j (headNodes j) (record { col = j; lo = j; hi = j + 1; row = 0 } ∷ []) (omega arith) (omega arith) p q)
+    subst (Laid a 0 c) e (laid-more a b c 0 j (headNodes j) (record { col = j; lo = j; hi = j + 1; row = 0 } ∷ []) (omega arith) p q)
 
 -- ---- cells
 module _ (p : ℕ → Bool) (first end row : ℕ) where
@@ -210,11 +194,11 @@ module _ (p : ℕ → Bool) (first end row : ℕ) where
   cells-length n = length-map (keep p (below n)) cellNode ∙ sym (howMany-length p (below n))
 
   module _ (a b c : List ℕ) (x at n : ℕ) (is : at ≡ x + howMany p (below n)) (laid : Laid a x b (cellNodes n)) where
-    pub cells-hit : p n ≡ true → at ≤ 4096 → Laid b at c (cellNode n ∷ []) → Laid a x c (cellNodes (n + 1))
-    cells-hit e h q =
+    pub cells-hit : p n ≡ true → Laid b at c (cellNode n ∷ []) → Laid a x c (cellNodes (n + 1))
+    cells-hit e q =
         let l = cells-length n in
         subst (Laid a x c) (sym (ap (map cellNode) (keep-hit p n e) ∙ map-append cellNode (keep p (below n)) (n ∷ [])))
-        (laid-more a b c x at (cellNodes n) (cellNode n ∷ []) (omega arith) (omega arith) laid q)
+        (laid-more a b c x at (cellNodes n) (cellNode n ∷ []) (omega arith) laid q)
 
     pub cells-miss : p n ≡ false → c ≡ b → Laid a x c (cellNodes (n + 1))
     cells-miss e s = subst (Laid a x c) (ap (map cellNode) (sym (keep-miss p n e))) (subst (λ (m : List ℕ). Laid a x m (cellNodes n)) (sym s) laid)
@@ -230,66 +214,66 @@ module _ (n x r : ℕ) (mask here : Mask) (m-is : here ≡ mask) (kind k count e
   abbrev nodesWith : ℕ → Mask → ℕ → List Node
   nodesWith j m z = map (λ c. record { col = c; lo = x; hi = z; row = r }) ((n + j) ∷ keep (has m) (below n))
 
-  pub row-laid : (a b c : List ℕ) → x < 4096 → Laid a x b (record { col = n + k; lo = x; hi = end; row = r } ∷ []) → Laid b (x + 1) c (cellNodes (has here) x end r n)
+  pub row-laid : (a b c : List ℕ) → Laid a x b (record { col = n + k; lo = x; hi = end; row = r } ∷ []) → Laid b (x + 1) c (cellNodes (has here) x end r n)
       → Laid a x c (rowNodes n x r kind (keep (has mask) (below n)))
   unfolding rowNodes
-  row-laid a b c h q s =
+  row-laid a b c q s =
       let z : end ≡ x + suc (length (keep (has mask) (below n))) = let e = size-is in let l = howMany-length (has mask) (below n) in omega arith in
       subst (Laid a x c) (ap (λ (j : ℕ). nodesWith j here end) k-is ∙ ap (λ (m : Mask). nodesWith kind m end) m-is ∙ ap (nodesWith kind mask) z)
-      (laid-more a b c x (x + 1) (record { col = n + k; lo = x; hi = end; row = r } ∷ []) (cellNodes (has here) x end r n) refl (omega arith) q s)
+      (laid-more a b c x (x + 1) (record { col = n + k; lo = x; hi = end; row = r } ∷ []) (cellNodes (has here) x end r n) refl q s)
 
--- ---- copies: those of the columns below j
-pub record StockTo (old new : List ℕ) (size j : ℕ) (kinds : List ℕ) : Type 0 where
-  pub cells : (i : ℕ) → i < size → i < j → getD new (24576 + i) 0 ≡ 0
-  pub copies : (k : ℕ) → size + k < j → getD new (24576 + (size + k)) 0 ≡ getD kinds (2 * k) 0
-  pub others : (i : ℕ) → (i < 24576) ⊎ (24576 + j ≤ i) → getD new i 0 ≡ getD old i 0
+-- ---- copies
+-- those of the columns below j
+pub record StockTo (old new : List ℕ) (size j : ℕ) (chart : List ℕ) : Type 0 where
+  pub cells : (i : ℕ) → i < size → i < j → copiesOf new i ≡ 0
+  pub copies : (k : ℕ) → size + k < j → copiesOf new (size + k) ≡ getD (kindsPart chart) (3 * k) 0
+  pub others : (i : ℕ) → ((k : ℕ) → k < j → i ≡ atCopies k → ⊥) → getD new i 0 ≡ getD old i 0
 
-pub stock-none : (m : List ℕ) (size j : ℕ) (kinds : List ℕ) → j ≡ 0 → StockTo m m size j kinds
-stock-none m size j kinds e = record { cells = λ i h k. absurd (omega arith); copies = λ k h. absurd (omega arith); others = λ i h. refl }
+pub stock-none : (m : List ℕ) (size j : ℕ) (chart : List ℕ) → j ≡ 0 → StockTo m m size j chart
+stock-none m size j chart e = record { cells = λ i h k. absurd (omega arith); copies = λ k h. absurd (omega arith); others = λ i h. refl }
 
-module _ (old m : List ℕ) (size j v : ℕ) (kinds : List ℕ) (st : StockTo old m size j kinds) (long : 24576 + j < length m) where
+module _ (old m : List ℕ) (size j v : ℕ) (chart : List ℕ) (st : StockTo old m size j chart) (long : atCopies j < length m) where
   abbrev new : List ℕ
-  new = set m (24576 + j) v
+  new = set m (atCopies j) v
 
-  there : (i : ℕ) → (i ≡ j → ⊥) → getD new (24576 + i) 0 ≡ getD m (24576 + i) 0
-  there i h = getD-set-other m (24576 + j) (24576 + i) v 0 (λ e. h (omega arith))
+  there : (i : ℕ) → (i ≡ j → ⊥) → copiesOf new i ≡ copiesOf m i
+  there i h = getD-set-other m (atCopies j) (atCopies i) v 0 (λ e. h (omega arith))
 
-  here : (i : ℕ) → i ≡ j → getD new (24576 + i) 0 ≡ v
-  here i e = ap (λ (k : ℕ). getD new (24576 + k) 0) e ∙ getD-set-same m (24576 + j) v 0 long
+  here : (i : ℕ) → i ≡ j → copiesOf new i ≡ v
+  here i e = ap (λ (k : ℕ). copiesOf new k) e ∙ getD-set-same m (atCopies j) v 0 long
 
-  rest : (i : ℕ) → (i < 24576) ⊎ (24576 + (j + 1) ≤ i) → getD new i 0 ≡ getD old i 0
-  rest i (inl h) = getD-set-other m (24576 + j) i v 0 (λ e. omega arith) ∙ st .others i (inl h)
-  rest i (inr h) = getD-set-other m (24576 + j) i v 0 (λ e. omega arith) ∙ st .others i (inr (omega arith))
+  rest : (i : ℕ) → ((k : ℕ) → k < j + 1 → i ≡ atCopies k → ⊥) → getD new i 0 ≡ getD old i 0
+  rest i h = getD-set-other m (atCopies j) i v 0 (h j (omega arith)) ∙ st .others i (λ k l. h k (omega arith))
 
-  module _ (is-cell : j < size → v ≡ 0) (is-kind : (k : ℕ) → size + k ≡ j → v ≡ getD kinds (2 * k) 0) where
-    cell-now : (i : ℕ) → i < size → i < j + 1 → getD new (24576 + i) 0 ≡ 0
+  module _ (is-cell : j < size → v ≡ 0) (is-kind : (k : ℕ) → size + k ≡ j → v ≡ getD (kindsPart chart) (3 * k) 0) where
+    cell-now : (i : ℕ) → i < size → i < j + 1 → copiesOf new i ≡ 0
     cell-now i h k = go (decide (ltb i j))
       where
-        go : T (ltb i j) ⊎ T (not (ltb i j)) → getD new (24576 + i) 0 ≡ 0
+        go : T (ltb i j) ⊎ T (not (ltb i j)) → copiesOf new i ≡ 0
         go (inl t) = let l = ltb→lt i j t in there i (λ e. omega arith) ∙ st .cells i h l
         go (inr t) = let l = nltb→le i j t in let e : i ≡ j = omega arith in here i e ∙ is-cell (omega arith)
 
-    kind-now : (k : ℕ) → size + k < j + 1 → getD new (24576 + (size + k)) 0 ≡ getD kinds (2 * k) 0
+    kind-now : (k : ℕ) → size + k < j + 1 → copiesOf new (size + k) ≡ getD (kindsPart chart) (3 * k) 0
     kind-now k h = go (decide (ltb (size + k) j))
       where
-        go : T (ltb (size + k) j) ⊎ T (not (ltb (size + k) j)) → getD new (24576 + (size + k)) 0 ≡ getD kinds (2 * k) 0
+        go : T (ltb (size + k) j) ⊎ T (not (ltb (size + k) j)) → copiesOf new (size + k) ≡ getD (kindsPart chart) (3 * k) 0
         go (inl t) = let l = ltb→lt (size + k) j t in there (size + k) (λ e. omega arith) ∙ st .copies k l
         go (inr t) = let l = nltb→le (size + k) j t in let e : size + k ≡ j = omega arith in here (size + k) e ∙ is-kind k e
 
-    pub stock-more : StockTo old new size (j + 1) kinds
+    pub stock-more : StockTo old new size (j + 1) chart
     stock-more = record { cells = cell-now; copies = kind-now; others = rest }
 
-  pub stock-cell : j < size → v ≡ 0 → StockTo old new size (j + 1) kinds
+  pub stock-cell : j < size → v ≡ 0 → StockTo old new size (j + 1) chart
   stock-cell h e = stock-more (λ k. e) (λ k q. absurd (omega arith))
 
-  pub stock-kind : size ≤ j → v ≡ getD kinds (2 * (j - size)) 0 → StockTo old new size (j + 1) kinds
+  pub stock-kind : size ≤ j → v ≡ getD (kindsPart chart) (3 * (j - size)) 0 → StockTo old new size (j + 1) chart
   stock-kind h e =
-      stock-more (λ k. absurd (omega arith)) (λ k q. let z : j - size ≡ k = omega arith in e ∙ ap (λ (i : ℕ). getD kinds (2 * i) 0) z)
+      stock-more (λ k. absurd (omega arith)) (λ k q. let z : j - size ≡ k = omega arith in e ∙ ap (λ (i : ℕ). getD (kindsPart chart) (3 * i) 0) z)
 
-pub stock-all : (old new : List ℕ) (size n j : ℕ) (kinds : List ℕ) → j ≡ size + n → StockTo old new size j kinds → StockLaid old new size n kinds
-stock-all old new size n j kinds e st =
+pub stock-all : (old new : List ℕ) (size n j : ℕ) (chart : List ℕ) → j ≡ size + n → StockTo old new size j chart → StockLaid old new size n chart
+stock-all old new size n j chart e st =
     record {
       cells = λ i h. st .cells i h (omega arith);
       copies = λ k h. st .copies k (omega arith);
-      others = λ i h. st .others i (subst (λ (k : ℕ). (i < 24576) ⊎ (24576 + k ≤ i)) (sym e) h);
+      others = λ i h. st .others i (λ k l. h k (omega arith));
     }

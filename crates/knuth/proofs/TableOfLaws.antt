@@ -1,43 +1,26 @@
--- The nodes of a row system stand row by row, a row's kind first, then its cells ascending: so they are a lawful table, and row numbers rise with nodes. Assumes nothing.
-use Prim.Native.Nat.{ℕ, zero, suc, _+_, _-_, _≤_, _<_}
+-- The nodes of a row system stand row by row, a row's kind first, then its cells ascending: so they are a lawful matrix, and row numbers rise with nodes. Assumes nothing.
+use Prim.Native.Nat.{ℕ, suc, _+_, _-_, _≤_, _<_}
 use mathlib.Core.Bool.{not}
-use mathlib.Core.List.{List, [], _∷_, _++_, map, List·Memᴰ, List·Memᴰ·head, List·Memᴰ·tail, List·Memᴰ·not-nil, List·Memᴰ·cases-cons, Memᴰ·cast}
+use mathlib.Core.List.{List, [], _∷_, _++_, List·Memᴰ, List·Memᴰ·head, List·Memᴰ·tail, List·Memᴰ·not-nil, List·Memᴰ·cases-cons, Memᴰ·cast}
 use mathlib.Core.Path.{_≡_, refl, sym, ap, _∙_, subst}
 use mathlib.Core.Logic.{_⊎_, inl, inr}
 use native.Mathlib.Omega.{arith}
 use lib.Dec.{T, ltb, ltb→lt, lt→ltb, nltb→le}
 use lib.ListN.{length, getD, length-append, length-map, List·getD-append, List·getD-map}
 use lib.Seq.{getD-append-add}
-use Rattle.definitions.specs.Lists.{all, below, from, ascending}
+use Rattle.lists.specs.Lists.{all, below, ascending}
+use Rattle.lists.proofs.TestLaws.{and-left, and-right, decide}
+use Rattle.lists.proofs.ListLaws.{all-at, keep-at, keep-of, getD-mem, mem-getD, getD-map}
+use Rattle.lists.proofs.SortLaws.{keep-ascending, getD-ahead}
+use Rattle.lists.proofs.RangeLaws.{getD-number, below-at, below-of, from-ascending, length-below}
 use Rattle.definitions.specs.Placements.{Placement}
-use Rattle.definitions.proofs.ListLaws.{and-left, and-right, all-at, keep-at, keep-of, keep-ascending, below-at, below-of, from-ascending, length-below, decide}
 use Rattle.rows.specs.Systems.{System}
 use Rattle.rows.specs.Lawful.{Lawful, LawfulRow}
 use Rattle.kept.specs.Normal.{rowOf}
-use Rattle.links.specs.Links.{LawfulTable}
+use Rattle.links.specs.Links.{LawfulMatrix}
 use Rattle.links.specs.Search.{Shape}
-use Rattle.knuth.specs.Tables.{Node, headNodes, rowNodes, nodesFrom, stockedRows, columns, linkNodes, tableOf}
-use Rattle.kept.proofs.NormalRowLaws.{getD-in, getD-ahead, row-in, comparable}
-
--- ---- lists
-pub getD-map-in : {A B : Type 0} (f : A → B) (xs : List A) (i : ℕ) (d : A) (e : B) → i < length xs → getD (map f xs) i e ≡ f (getD xs i d)
-getD-map-in f [] i d e h = absurd (omega arith)
-getD-map-in f (x ∷ xs) zero d e h = refl
-getD-map-in f (x ∷ xs) (suc i) d e h = getD-map-in f xs i d e (omega arith)
-
-pub getD-from : (i n k d : ℕ) → k < n → getD (from i n) k d ≡ i + k
-getD-from i zero k d h = absurd (omega arith)
-getD-from i (suc n) zero d h = omega arith
-getD-from i (suc n) (suc k) d h = let e = getD-from (suc i) n k d (omega arith) in omega arith
-
--- where an entry stands
-index-of : (xs : List ℕ) {n : ℕ} → List·Memᴰ n xs → (i : ℕ) × (i < length xs) × (getD xs i 0 ≡ n)
-index-of [] m = absurd (List·Memᴰ·not-nil m)
-index-of (x ∷ xs) {n} m = go (List·Memᴰ·cases-cons m) (λ (k : List·Memᴰ n xs). index-of xs k)
-  where
-    go : (n ≡ x) ⊎ List·Memᴰ n xs → (List·Memᴰ n xs → (i : ℕ) × (i < length xs) × (getD xs i 0 ≡ n)) → (i : ℕ) × (i < suc (length xs)) × (getD (x ∷ xs) i 0 ≡ n)
-    go (inl e) f = (0, omega arith, sym e)
-    go (inr k) f = let r = f k in let h = r .1 in (suc (r .0), omega arith, r .2)
+use Rattle.knuth.specs.Tables.{Node, headNodes, rowNodes, nodesFrom, stockedRows, columns, linkNodes, matrixOf}
+use Rattle.kept.proofs.NormalRowLaws.{row-of-in}
 
 -- ---- the nodes of rows, one row behind the other
 abbrev pub noNode : Node
@@ -76,7 +59,7 @@ module _ (s : System) (at : ℕ → Node) where
   firstRow-at : (x r k : ℕ) → k < suc (length (cellsAt s r)) → getD (firstRow x r) k noNode ≡ nodeIn s x r k
   unfolding rowNodes
   firstRow-at x r k h =
-      getD-map-in (λ c. record { col = c; lo = x; hi = x + suc (length (cellsAt s r)); row = r }) ((s .size + rowOf s r .kind) ∷ cellsAt s r) k 0 noNode h
+      getD-map 0 noNode (λ c. record { col = c; lo = x; hi = x + suc (length (cellsAt s r)); row = r }) ((s .size + rowOf s r .kind) ∷ cellsAt s r) k h
 
   abbrev after : ℕ → ℕ → ℕ
   after x r = x + suc (length (cellsAt s r))
@@ -181,37 +164,37 @@ module _ (s : System) (at : ℕ → Node) where
           let b = g .2 in
           (g .0, omega arith, omega arith, g .3, g .4)
 
--- ---- the table
+-- ---- the matrix
 pub record RowNode (s : System) (x : ℕ) : Type 0 where
-  pub isRow : tableOf s .row x < length (s .rows)
-  pub stocked : 0 < getD (s .copies) (rowOf s (tableOf s .row x) .kind) 0
-  pub first : columns s ≤ tableOf s .lo x
-  pub behind : tableOf s .lo x ≤ x
-  pub upto : x < tableOf s .hi x
-  pub last : tableOf s .hi x ≤ tableOf s .nodes
-  pub size : tableOf s .hi x ≡ tableOf s .lo x + suc (length (cellsAt s (tableOf s .row x)))
-  pub kind : tableOf s .col (tableOf s .lo x) ≡ s .size + rowOf s (tableOf s .row x) .kind
-  pub cell : (i : ℕ) → i < length (cellsAt s (tableOf s .row x)) → tableOf s .col (tableOf s .lo x + suc i) ≡ getD (cellsAt s (tableOf s .row x)) i 0
-  pub same : (y : ℕ) → tableOf s .lo x ≤ y → y < tableOf s .hi x → (tableOf s .lo y ≡ tableOf s .lo x) × (tableOf s .hi y ≡ tableOf s .hi x) × (tableOf s .row y ≡ tableOf s .row x)
+  pub isRow : matrixOf s .row x < length (s .rows)
+  pub stocked : 0 < getD (s .copies) (rowOf s (matrixOf s .row x) .kind) 0
+  pub first : columns s ≤ matrixOf s .lo x
+  pub behind : matrixOf s .lo x ≤ x
+  pub upto : x < matrixOf s .hi x
+  pub last : matrixOf s .hi x ≤ matrixOf s .nodes
+  pub size : matrixOf s .hi x ≡ matrixOf s .lo x + suc (length (cellsAt s (matrixOf s .row x)))
+  pub kind : matrixOf s .col (matrixOf s .lo x) ≡ s .size + rowOf s (matrixOf s .row x) .kind
+  pub cell : (i : ℕ) → i < length (cellsAt s (matrixOf s .row x)) → matrixOf s .col (matrixOf s .lo x + suc i) ≡ getD (cellsAt s (matrixOf s .row x)) i 0
+  pub same : (y : ℕ) → matrixOf s .lo x ≤ y → y < matrixOf s .hi x → (matrixOf s .lo y ≡ matrixOf s .lo x) × (matrixOf s .hi y ≡ matrixOf s .hi x) × (matrixOf s .row y ≡ matrixOf s .row x)
 
 module _ (s : System) where
   abbrev nodeAt : ℕ → Node
   nodeAt x = getD (linkNodes s) x noNode
 
-  col-is : (x : ℕ) → tableOf s .col x ≡ nodeAt x .col
-  unfolding tableOf
+  col-is : (x : ℕ) → matrixOf s .col x ≡ nodeAt x .col
+  unfolding matrixOf
   col-is x = List·getD-map (λ (n : Node). n .col) (linkNodes s) x noNode
 
-  lo-is : (x : ℕ) → tableOf s .lo x ≡ nodeAt x .lo
-  unfolding tableOf
+  lo-is : (x : ℕ) → matrixOf s .lo x ≡ nodeAt x .lo
+  unfolding matrixOf
   lo-is x = List·getD-map (λ (n : Node). n .lo) (linkNodes s) x noNode
 
-  hi-is : (x : ℕ) → tableOf s .hi x ≡ nodeAt x .hi
-  unfolding tableOf
+  hi-is : (x : ℕ) → matrixOf s .hi x ≡ nodeAt x .hi
+  unfolding matrixOf
   hi-is x = List·getD-map (λ (n : Node). n .hi) (linkNodes s) x noNode
 
-  row-is : (x : ℕ) → tableOf s .row x ≡ nodeAt x .row
-  unfolding tableOf
+  row-is : (x : ℕ) → matrixOf s .row x ≡ nodeAt x .row
+  unfolding matrixOf
   row-is x = List·getD-map (λ (n : Node). n .row) (linkNodes s) x noNode
 
   heads-length : length (headNodes (columns s)) ≡ columns s
@@ -221,22 +204,22 @@ module _ (s : System) where
   abbrev body : List Node
   body = nodesFrom s (columns s) (stockedRows s)
 
-  pub nodes-are : tableOf s .nodes ≡ columns s + length body
-  unfolding tableOf linkNodes
+  pub nodes-are : matrixOf s .nodes ≡ columns s + length body
+  unfolding matrixOf linkNodes
   nodes-are = let a = length-append (headNodes (columns s)) body in let b = heads-length in omega arith
 
-  pub cols-are : tableOf s .cols ≡ columns s
-  unfolding tableOf
+  pub cols-are : matrixOf s .cols ≡ columns s
+  unfolding matrixOf
   cols-are = refl
 
-  head-col : (x : ℕ) → x < columns s → tableOf s .col x ≡ x
+  head-col : (x : ℕ) → x < columns s → matrixOf s .col x ≡ x
   unfolding linkNodes headNodes
   head-col x h =
       let l = heads-length in
       let b = length-below (columns s) in
-      let e : getD (below (columns s)) x 0 ≡ 0 + x = getD-from 0 (columns s) x 0 h in
+      let e : getD (below (columns s)) x 0 ≡ 0 + x = getD-number 0 (columns s) x 0 h in
       col-is x ∙ ap (λ (n : Node). n .col) (List·getD-append (headNodes (columns s)) body noNode x (omega arith)
-      ∙ getD-map-in (λ j. record { col = j; lo = j; hi = suc j; row = 0 }) (below (columns s)) x 0 noNode (omega arith))
+      ∙ getD-map 0 noNode (λ j. record { col = j; lo = j; hi = suc j; row = 0 }) (below (columns s)) x (omega arith))
       ∙ (let z : getD (below (columns s)) x 0 ≡ x = omega arith in z)
 
   body-holds : Holds s nodeAt (columns s) body
@@ -260,20 +243,20 @@ module _ (s : System) where
     in-block : (y : ℕ) → b ≤ y → y < b + suc (length (cellsAt s r)) → nodeAt y ≡ nodeIn s b r (y - b)
     in-block y u v = let e : y ≡ b + (y - b) = omega arith in ap nodeAt e ∙ node (y - b) (omega arith)
 
-    lo-y : (y : ℕ) → b ≤ y → y < b + suc (length (cellsAt s r)) → tableOf s .lo y ≡ b
+    lo-y : (y : ℕ) → b ≤ y → y < b + suc (length (cellsAt s r)) → matrixOf s .lo y ≡ b
     lo-y y u v = lo-is y ∙ ap (λ (n : Node). n .lo) (in-block y u v)
 
-    hi-y : (y : ℕ) → b ≤ y → y < b + suc (length (cellsAt s r)) → tableOf s .hi y ≡ b + suc (length (cellsAt s r))
+    hi-y : (y : ℕ) → b ≤ y → y < b + suc (length (cellsAt s r)) → matrixOf s .hi y ≡ b + suc (length (cellsAt s r))
     hi-y y u v = hi-is y ∙ ap (λ (n : Node). n .hi) (in-block y u v)
 
-    row-y : (y : ℕ) → b ≤ y → y < b + suc (length (cellsAt s r)) → tableOf s .row y ≡ r
+    row-y : (y : ℕ) → b ≤ y → y < b + suc (length (cellsAt s r)) → matrixOf s .row y ≡ r
     row-y y u v = row-is y ∙ ap (λ (n : Node). n .row) (in-block y u v)
 
-    col-k : (k : ℕ) → k < suc (length (cellsAt s r)) → tableOf s .col (b + k) ≡ getD ((s .size + rowOf s r .kind) ∷ cellsAt s r) k 0
+    col-k : (k : ℕ) → k < suc (length (cellsAt s r)) → matrixOf s .col (b + k) ≡ getD ((s .size + rowOf s r .kind) ∷ cellsAt s r) k 0
     col-k k h = col-is (b + k) ∙ ap (λ (n : Node). n .col) (node k h)
 
-    first-col : tableOf s .col b ≡ s .size + rowOf s r .kind
-    first-col = let e : b ≡ b + 0 = omega arith in ap (tableOf s .col) e ∙ col-k 0 (omega arith)
+    first-col : matrixOf s .col b ≡ s .size + rowOf s r .kind
+    first-col = let e : b ≡ b + 0 = omega arith in ap (matrixOf s .col) e ∙ col-k 0 (omega arith)
 
     row-node : RowNode s x
     row-node =
@@ -290,29 +273,29 @@ module _ (s : System) where
           same = rw (lo-y x behind upto, hi-y x behind upto, row-y x behind upto) (λ y u v. (lo-y y u v, hi-y y u v, row-y y u v));
         }
 
-  block-of : (x : ℕ) → columns s ≤ x → x < tableOf s .nodes → Block s nodeAt (stockedRows s) (columns s) (columns s + length body) x
+  block-of : (x : ℕ) → columns s ≤ x → x < matrixOf s .nodes → Block s nodeAt (stockedRows s) (columns s) (columns s + length body) x
   block-of x a b = let e = nodes-are in blocks s nodeAt (columns s) (stockedRows s) body-holds x a (omega arith)
 
-  pub table-rows : (x : ℕ) → columns s ≤ x → x < tableOf s .nodes → RowNode s x
-  table-rows x a b = let k = block-of x a b in row-node x (k .r) (k .b) (k .isRow) (k .low) (k .behind) (k .upto) (k .high) (k .node)
+  pub matrix-rows : (x : ℕ) → columns s ≤ x → x < matrixOf s .nodes → RowNode s x
+  matrix-rows x a b = let k = block-of x a b in row-node x (k .r) (k .b) (k .isRow) (k .low) (k .behind) (k .upto) (k .high) (k .node)
 
   -- a later node is of the same row or of a later one
-  pub row-later : (x y : ℕ) → columns s ≤ x → x < y → y < tableOf s .nodes → (tableOf s .lo x ≡ tableOf s .lo y) ⊎ (tableOf s .row x < tableOf s .row y)
+  pub row-later : (x y : ℕ) → columns s ≤ x → x < y → y < matrixOf s .nodes → (matrixOf s .lo x ≡ matrixOf s .lo y) ⊎ (matrixOf s .row x < matrixOf s .row y)
   row-later x y a h d = go (rises s nodeAt (columns s) (stockedRows s) body-holds stocked-up x y a h (let e = nodes-are in omega arith))
     where
-      go : (nodeAt x .lo ≡ nodeAt y .lo) ⊎ (nodeAt x .row < nodeAt y .row) → (tableOf s .lo x ≡ tableOf s .lo y) ⊎ (tableOf s .row x < tableOf s .row y)
+      go : (nodeAt x .lo ≡ nodeAt y .lo) ⊎ (nodeAt x .row < nodeAt y .row) → (matrixOf s .lo x ≡ matrixOf s .lo y) ⊎ (matrixOf s .row x < matrixOf s .row y)
       go (inl e) = inl (lo-is x ∙ e ∙ sym (lo-is y))
       go (inr l) = let f = row-is x in let g = row-is y in inr (omega arith)
 
   -- row numbers rise with nodes
-  pub row-rises : (x y : ℕ) → columns s ≤ x → x < tableOf s .nodes → columns s ≤ y → y < tableOf s .nodes → tableOf s .lo x < tableOf s .lo y → tableOf s .row x < tableOf s .row y
+  pub row-rises : (x y : ℕ) → columns s ≤ x → x < matrixOf s .nodes → columns s ≤ y → y < matrixOf s .nodes → matrixOf s .lo x < matrixOf s .lo y → matrixOf s .row x < matrixOf s .row y
   row-rises x y a b c d h = go (row-later x y a order d)
     where
       p : RowNode s x
-      p = table-rows x a b
+      p = matrix-rows x a b
 
       q : RowNode s y
-      q = table-rows y c d
+      q = matrix-rows y c d
 
       order : x < y
       order = go (decide (ltb x y))
@@ -326,22 +309,22 @@ module _ (s : System) where
               let w = p .behind in
               absurd (omega (arith, p .same y (omega arith) (omega arith) .0))
 
-      go : (tableOf s .lo x ≡ tableOf s .lo y) ⊎ (tableOf s .row x < tableOf s .row y) → tableOf s .row x < tableOf s .row y
+      go : (matrixOf s .lo x ≡ matrixOf s .lo y) ⊎ (matrixOf s .row x < matrixOf s .row y) → matrixOf s .row x < matrixOf s .row y
       go (inl e) = absurd (omega arith)
       go (inr l) = l
 
   -- a row has one run of nodes
-  pub same-row : (x y : ℕ) → columns s ≤ x → x < tableOf s .nodes → columns s ≤ y → y < tableOf s .nodes → tableOf s .row x ≡ tableOf s .row y → tableOf s .lo x ≡ tableOf s .lo y
-  same-row x y a b c d e = go (decide (ltb (tableOf s .lo x) (tableOf s .lo y))) (decide (ltb (tableOf s .lo y) (tableOf s .lo x)))
+  pub same-row : (x y : ℕ) → columns s ≤ x → x < matrixOf s .nodes → columns s ≤ y → y < matrixOf s .nodes → matrixOf s .row x ≡ matrixOf s .row y → matrixOf s .lo x ≡ matrixOf s .lo y
+  same-row x y a b c d e = go (decide (ltb (matrixOf s .lo x) (matrixOf s .lo y))) (decide (ltb (matrixOf s .lo y) (matrixOf s .lo x)))
     where
-      go : T (ltb (tableOf s .lo x) (tableOf s .lo y)) ⊎ T (not (ltb (tableOf s .lo x) (tableOf s .lo y)))
-          → T (ltb (tableOf s .lo y) (tableOf s .lo x)) ⊎ T (not (ltb (tableOf s .lo y) (tableOf s .lo x))) → tableOf s .lo x ≡ tableOf s .lo y
-      go (inl t) u = absurd (let l = row-rises x y a b c d (ltb→lt (tableOf s .lo x) (tableOf s .lo y) t) in omega arith)
-      go (inr t) (inl u) = absurd (let l = row-rises y x c d a b (ltb→lt (tableOf s .lo y) (tableOf s .lo x) u) in omega arith)
-      go (inr t) (inr u) = let k = nltb→le (tableOf s .lo x) (tableOf s .lo y) t in let l = nltb→le (tableOf s .lo y) (tableOf s .lo x) u in omega arith
+      go : T (ltb (matrixOf s .lo x) (matrixOf s .lo y)) ⊎ T (not (ltb (matrixOf s .lo x) (matrixOf s .lo y)))
+          → T (ltb (matrixOf s .lo y) (matrixOf s .lo x)) ⊎ T (not (ltb (matrixOf s .lo y) (matrixOf s .lo x))) → matrixOf s .lo x ≡ matrixOf s .lo y
+      go (inl t) u = absurd (let l = row-rises x y a b c d (ltb→lt (matrixOf s .lo x) (matrixOf s .lo y) t) in omega arith)
+      go (inr t) (inl u) = absurd (let l = row-rises y x c d a b (ltb→lt (matrixOf s .lo y) (matrixOf s .lo x) u) in omega arith)
+      go (inr t) (inr u) = let k = nltb→le (matrixOf s .lo x) (matrixOf s .lo y) t in let l = nltb→le (matrixOf s .lo y) (matrixOf s .lo x) u in omega arith
 
   -- a stocked row has its nodes
-  pub node-of : (r : ℕ) → List·Memᴰ r (stockedRows s) → (x : ℕ) × (columns s ≤ x) × (x < tableOf s .nodes) × (tableOf s .lo x ≡ x) × (tableOf s .row x ≡ r)
+  pub node-of : (r : ℕ) → List·Memᴰ r (stockedRows s) → (x : ℕ) × (columns s ≤ x) × (x < matrixOf s .nodes) × (matrixOf s .lo x ≡ x) × (matrixOf s .row x ≡ r)
   node-of r m =
       let g = first-of s nodeAt (columns s) (stockedRows s) body-holds m in
       let e = nodes-are in
@@ -353,15 +336,15 @@ module _ (s : System) where
   in-stock r h k =
       keep-of (λ z. ltb 0 (getD (s .copies) (rowOf s z .kind) 0)) (below (length (s .rows))) (below-of (length (s .rows)) h) (lt→ltb 0 (getD (s .copies) (rowOf s r .kind) 0) k)
 
-module _ (s : System) (law : Lawful s) (x : ℕ) (a : columns s ≤ x) (b : x < tableOf s .nodes) where
+module _ (s : System) (law : Lawful s) (x : ℕ) (a : columns s ≤ x) (b : x < matrixOf s .nodes) where
   abbrev q : Placement
-  q = rowOf s (tableOf s .row x)
+  q = rowOf s (matrixOf s .row x)
 
   node : RowNode s x
-  node = table-rows s x a b
+  node = matrix-rows s x a b
 
   pub row-lawful : LawfulRow s q
-  row-lawful = law .row q (row-in s (comparable s law) (tableOf s .row x) (node .isRow))
+  row-lawful = law .row q (row-of-in s (matrixOf s .row x) (node .isRow))
 
   pub row-some : 0 < length (q .cells)
   row-some = some (q .cells) (row-lawful .coversP)
@@ -370,52 +353,52 @@ module _ (s : System) (law : Lawful s) (x : ℕ) (a : columns s ≤ x) (b : x < 
       some [] m = absurd (List·Memᴰ·not-nil m)
       some (y ∷ ys) m = omega arith
 
-  node-cell : (y : ℕ) → tableOf s .lo x < y → y < tableOf s .hi x → (y - tableOf s .lo x - 1 < length (q .cells)) × (tableOf s .col y ≡ getD (q .cells) (y - tableOf s .lo x - 1) 0)
+  node-cell : (y : ℕ) → matrixOf s .lo x < y → y < matrixOf s .hi x → (y - matrixOf s .lo x - 1 < length (q .cells)) × (matrixOf s .col y ≡ getD (q .cells) (y - matrixOf s .lo x - 1) 0)
   node-cell y g h =
       let z = node .size in
-      let e : y ≡ tableOf s .lo x + suc (y - tableOf s .lo x - 1) = omega arith in
-      let l : y - tableOf s .lo x - 1 < length (q .cells) = omega arith in
-      (l, ap (tableOf s .col) e ∙ node .cell (y - tableOf s .lo x - 1) l)
+      let e : y ≡ matrixOf s .lo x + suc (y - matrixOf s .lo x - 1) = omega arith in
+      let l : y - matrixOf s .lo x - 1 < length (q .cells) = omega arith in
+      (l, ap (matrixOf s .col) e ∙ node .cell (y - matrixOf s .lo x - 1) l)
 
   -- the nodes behind a row's first are its cells'
-  pub cell-in : (y : ℕ) → tableOf s .lo x < y → y < tableOf s .hi x → List·Memᴰ (tableOf s .col y) (q .cells)
-  cell-in y g h = let c = node-cell y g h in Memᴰ·cast (c .1) (getD-in 0 (q .cells) (y - tableOf s .lo x - 1) (c .0))
+  pub cell-in : (y : ℕ) → matrixOf s .lo x < y → y < matrixOf s .hi x → List·Memᴰ (matrixOf s .col y) (q .cells)
+  cell-in y g h = let c = node-cell y g h in Memᴰ·cast (c .1) (getD-mem 0 (q .cells) (y - matrixOf s .lo x - 1) (c .0))
 
-  pub cell-of : {n : ℕ} → List·Memᴰ n (q .cells) → (y : ℕ) × (tableOf s .lo x < y) × (y < tableOf s .hi x) × (tableOf s .col y ≡ n)
+  pub cell-of : {n : ℕ} → List·Memᴰ n (q .cells) → (y : ℕ) × (matrixOf s .lo x < y) × (y < matrixOf s .hi x) × (matrixOf s .col y ≡ n)
   cell-of m =
-      let r = index-of (q .cells) m in
+      let r = mem-getD 0 (q .cells) m in
       let h = r .1 in
       let z = node .size in
-      (tableOf s .lo x + suc (r .0), omega arith, omega arith, node .cell (r .0) h ∙ r .2)
+      (matrixOf s .lo x + suc (r .0), omega arith, omega arith, node .cell (r .0) h ∙ r .2)
 
-  pub cell-small : (y : ℕ) → tableOf s .lo x < y → y < tableOf s .hi x → tableOf s .col y < s .size
-  cell-small y g h = row-lawful .onBoard (tableOf s .col y) (cell-in y g h)
+  pub cell-small : (y : ℕ) → matrixOf s .lo x < y → y < matrixOf s .hi x → matrixOf s .col y < s .size
+  cell-small y g h = row-lawful .onBoard (matrixOf s .col y) (cell-in y g h)
 
   -- no column twice
-  cells-differ : (y z : ℕ) → tableOf s .lo x < y → y < z → z < tableOf s .hi x → tableOf s .col y < tableOf s .col z
+  cells-differ : (y z : ℕ) → matrixOf s .lo x < y → y < z → z < matrixOf s .hi x → matrixOf s .col y < matrixOf s .col z
   cells-differ y z g h k =
       let c = node-cell y g (omega arith) in
       let d = node-cell z (omega arith) k in
       let l = d .0 in
       let e = c .1 in
       let f = d .1 in
-      let i = getD-ahead 0 ltb (q .cells) (row-lawful .ascend) (y - tableOf s .lo x - 1) (z - tableOf s .lo x - 1) (omega arith) l in
-      let j = ltb→lt (getD (q .cells) (y - tableOf s .lo x - 1) 0) (getD (q .cells) (z - tableOf s .lo x - 1) 0) i in
+      let i = getD-ahead 0 ltb (q .cells) (row-lawful .ascend) (y - matrixOf s .lo x - 1) (z - matrixOf s .lo x - 1) (omega arith) l in
+      let j = ltb→lt (getD (q .cells) (y - matrixOf s .lo x - 1) 0) (getD (q .cells) (z - matrixOf s .lo x - 1) 0) i in
       omega arith
 
-  later-differ : (y z : ℕ) → tableOf s .lo x ≤ y → y < z → z < tableOf s .hi x → tableOf s .col y ≡ tableOf s .col z → ⊥
-  later-differ y z g h k e = go (decide (ltb (tableOf s .lo x) y))
+  later-differ : (y z : ℕ) → matrixOf s .lo x ≤ y → y < z → z < matrixOf s .hi x → matrixOf s .col y ≡ matrixOf s .col z → ⊥
+  later-differ y z g h k e = go (decide (ltb (matrixOf s .lo x) y))
     where
-      go : T (ltb (tableOf s .lo x) y) ⊎ T (not (ltb (tableOf s .lo x) y)) → ⊥
-      go (inl t) = let l = cells-differ y z (ltb→lt (tableOf s .lo x) y t) h k in omega arith
+      go : T (ltb (matrixOf s .lo x) y) ⊎ T (not (ltb (matrixOf s .lo x) y)) → ⊥
+      go (inl t) = let l = cells-differ y z (ltb→lt (matrixOf s .lo x) y t) h k in omega arith
       go (inr t) =
-          let i = nltb→le (tableOf s .lo x) y t in
-          let j : y ≡ tableOf s .lo x = omega arith in
-          let u : tableOf s .col y ≡ s .size + q .kind = ap (tableOf s .col) j ∙ node .kind in
+          let i = nltb→le (matrixOf s .lo x) y t in
+          let j : y ≡ matrixOf s .lo x = omega arith in
+          let u : matrixOf s .col y ≡ s .size + q .kind = ap (matrixOf s .col) j ∙ node .kind in
           let v = cell-small z (omega arith) k in
           omega arith
 
-  pub column-once : (y z : ℕ) → tableOf s .lo x ≤ y → y < tableOf s .hi x → tableOf s .lo x ≤ z → z < tableOf s .hi x → tableOf s .col y ≡ tableOf s .col z → y ≡ z
+  pub column-once : (y z : ℕ) → matrixOf s .lo x ≤ y → y < matrixOf s .hi x → matrixOf s .lo x ≤ z → z < matrixOf s .hi x → matrixOf s .col y ≡ matrixOf s .col z → y ≡ z
   column-once y z g h k l e = go (decide (ltb y z)) (decide (ltb z y))
     where
       go : T (ltb y z) ⊎ T (not (ltb y z)) → T (ltb z y) ⊎ T (not (ltb z y)) → y ≡ z
@@ -424,43 +407,43 @@ module _ (s : System) (law : Lawful s) (x : ℕ) (a : columns s ≤ x) (b : x < 
       go (inr t) (inr u) = let i = nltb→le y z t in let j = nltb→le z y u in omega arith
 
 module _ (s : System) (law : Lawful s) where
-  col-small : (x : ℕ) → columns s ≤ x → x < tableOf s .nodes → tableOf s .col x < columns s
+  col-small : (x : ℕ) → columns s ≤ x → x < matrixOf s .nodes → matrixOf s .col x < columns s
   unfolding columns
-  col-small x a b = go (decide (ltb (tableOf s .lo x) x))
+  col-small x a b = go (decide (ltb (matrixOf s .lo x) x))
     where
       p : RowNode s x
-      p = table-rows s x a b
+      p = matrix-rows s x a b
 
-      go : T (ltb (tableOf s .lo x) x) ⊎ T (not (ltb (tableOf s .lo x) x)) → tableOf s .col x < s .size + length (s .copies)
-      go (inl t) = let c = cell-small s law x a b x (ltb→lt (tableOf s .lo x) x t) (p .upto) in omega arith
+      go : T (ltb (matrixOf s .lo x) x) ⊎ T (not (ltb (matrixOf s .lo x) x)) → matrixOf s .col x < s .size + length (s .copies)
+      go (inl t) = let c = cell-small s law x a b x (ltb→lt (matrixOf s .lo x) x t) (p .upto) in omega arith
       go (inr t) =
-          let l = nltb→le (tableOf s .lo x) x t in
+          let l = nltb→le (matrixOf s .lo x) x t in
           let k = p .behind in
-          let e : x ≡ tableOf s .lo x = omega arith in
-          let u : tableOf s .col x ≡ s .size + rowOf s (tableOf s .row x) .kind = ap (tableOf s .col) e ∙ p .kind in
+          let e : x ≡ matrixOf s .lo x = omega arith in
+          let u : matrixOf s .col x ≡ s .size + rowOf s (matrixOf s .row x) .kind = ap (matrixOf s .col) e ∙ p .kind in
           let v = row-lawful s law x a b .ofKind in
           omega arith
 
-  pub table-lawful : length (linkNodes s) ≤ 4096 → LawfulTable (tableOf s)
-  unfolding tableOf
-  table-lawful fits =
+  pub matrix-lawful : length (linkNodes s) ≤ 4096 → LawfulMatrix (matrixOf s)
+  unfolding matrixOf
+  matrix-lawful fits =
       record {
-        fits = fits;
+        small = fits;
         some = let e = nodes-are s in omega arith;
         head = head-col s;
         inside = col-small;
-        low = λ x a b. let p = table-rows s x a b in (p .first, p .behind);
-        high = λ x a b. let p = table-rows s x a b in (p .upto, p .last);
-        row = λ x y a b u v. let p = table-rows s x a b .same y u v in (p .0, p .1);
-        once = λ x y a b u v e. let p = table-rows s x a b in column-once s law x a b y x u v (p .behind) (p .upto) e;
+        low = λ x a b. let p = matrix-rows s x a b in (p .first, p .behind);
+        high = λ x a b. let p = matrix-rows s x a b in (p .upto, p .last);
+        row = λ x y a b u v. let p = matrix-rows s x a b .same y u v in (p .0, p .1);
+        once = λ x y a b u v e. let p = matrix-rows s x a b in column-once s law x a b y x u v (p .behind) (p .upto) e;
       }
 
-  pub table-shape : Shape (tableOf s) (s .size)
-  unfolding tableOf columns
-  table-shape =
+  pub matrix-shape : Shape (matrixOf s) (s .size)
+  unfolding matrixOf columns
+  matrix-shape =
       record {
         few = omega arith;
-        kind = λ x a b. let p = table-rows s x a b .kind in omega arith;
+        kind = λ x a b. let p = matrix-rows s x a b .kind in omega arith;
         cell = λ x y a b u v. cell-small s law x a b y u v;
-        size = λ x a b. let p = table-rows s x a b .size in let k = row-some s law x a b in omega arith;
+        size = λ x a b. let p = matrix-rows s x a b .size in let k = row-some s law x a b in omega arith;
       }

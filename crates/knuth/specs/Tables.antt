@@ -1,16 +1,14 @@
--- The links of a row system as a table of nodes.
+-- The links of a row system as a matrix of nodes.
 use Prim.Native.Nat.{ℕ, suc, _+_, _*_, _≤_, _<_}
-use mathlib.Core.Bool.{Bool, true, false}
 use mathlib.Core.List.{List, [], _∷_, _++_, map}
-use mathlib.Core.Logic.{_⊎_}
 use mathlib.Core.Path.{_≡_}
-use lib.Dec.{ltb, leb}
+use lib.Dec.{ltb}
 use lib.ListN.{length, getD}
-use Rattle.definitions.specs.Lists.{keep, below, from}
-use Rattle.definitions.specs.Orders.{State}
+use Rattle.lists.specs.Lists.{keep, below, from}
+use Rattle.rows.specs.Charts.{kindsPart}
 use Rattle.rows.specs.Systems.{System}
 use Rattle.kept.specs.Normal.{rowOf}
-use Rattle.links.specs.Links.{Table}
+use Rattle.links.specs.Links.{columnOf, firstOf, endOf, copiesOf, rowNumber, atColumn, atFirst, atEnd, atCopies, atRow, Matrix}
 
 -- what of a node never changes: its column, the first node of its row and the one behind the row's last, and the row's number
 pub record Node : Type 0 where
@@ -41,8 +39,8 @@ columns s = s .size + length (s .copies)
 unfoldable pub linkNodes : System → List Node
 linkNodes s = headNodes (columns s) ++ nodesFrom s (columns s) (stockedRows s)
 
-unfoldable pub tableOf : System → Table
-tableOf s =
+unfoldable pub matrixOf : System → Matrix
+matrixOf s =
     let ns = linkNodes s in
     record {
       nodes = length ns;
@@ -53,27 +51,27 @@ tableOf s =
       row = λ x. getD (map (λ n. n .row) ns) x 0;
     }
 
--- where the search begins
-unfoldable pub startOf : System → State
-startOf s = record { left = s .copies; free = below (s .size); chosen = [] }
-
 -- ---- nodes in links
 unfoldable pub nodeAt : List ℕ → ℕ → Node
-nodeAt links x = record { col = getD links (8192 + x) 0; lo = getD links (12288 + x) 0; hi = getD links (16384 + x) 0; row = getD links (28672 + x) 0 }
+nodeAt links x = record { col = columnOf links x; lo = firstOf links x; hi = endOf links x; row = rowNumber links x }
 
 unfoldable pub nodesIn : List ℕ → ℕ → ℕ → List Node
 nodesIn links x n = map (nodeAt links) (from x n)
 
--- nodes laid from node x on; the other nodes, and every number that is no such field, are as they were
+-- none of these fields of the n nodes from x on stands at i
+pub record Beside (x n i : ℕ) : Type 0 where
+  pub column : (y : ℕ) → x ≤ y → y < x + n → i ≡ atColumn y → ⊥
+  pub first : (y : ℕ) → x ≤ y → y < x + n → i ≡ atFirst y → ⊥
+  pub end : (y : ℕ) → x ≤ y → y < x + n → i ≡ atEnd y → ⊥
+  pub row : (y : ℕ) → x ≤ y → y < x + n → i ≡ atRow y → ⊥
+
+-- nodes laid from node x on; every number that is no field of theirs is as it was
 pub record Laid (old : List ℕ) (x : ℕ) (new : List ℕ) (ns : List Node) : Type 0 where
   pub nodes : nodesIn new x (length ns) ≡ ns
-  pub others : (y : ℕ) → y < 4096 → (y < x) ⊎ (x + length ns ≤ y) → nodeAt new y ≡ nodeAt old y
-  pub below : (i : ℕ) → i < 8192 → getD new i 0 ≡ getD old i 0
-  pub between : (i : ℕ) → 20480 ≤ i → i < 28672 → getD new i 0 ≡ getD old i 0
-  pub behind : (i : ℕ) → 32768 ≤ i → getD new i 0 ≡ getD old i 0
+  pub others : (i : ℕ) → Beside x (length ns) i → getD new i 0 ≡ getD old i 0
 
 -- the copies of kinds, by their columns; none for the columns of cells; every other number is as it was
-pub record StockLaid (old new : List ℕ) (size n : ℕ) (kinds : List ℕ) : Type 0 where
-  pub cells : (j : ℕ) → j < size → getD new (24576 + j) 0 ≡ 0
-  pub copies : (k : ℕ) → k < n → getD new (24576 + (size + k)) 0 ≡ getD kinds (2 * k) 0
-  pub others : (i : ℕ) → (i < 24576) ⊎ (24576 + (size + n) ≤ i) → getD new i 0 ≡ getD old i 0
+pub record StockLaid (old new : List ℕ) (size n : ℕ) (chart : List ℕ) : Type 0 where
+  pub cells : (j : ℕ) → j < size → copiesOf new j ≡ 0
+  pub copies : (k : ℕ) → k < n → copiesOf new (size + k) ≡ getD (kindsPart chart) (3 * k) 0
+  pub others : (i : ℕ) → ((j : ℕ) → j < size + n → i ≡ atCopies j → ⊥) → getD new i 0 ≡ getD old i 0

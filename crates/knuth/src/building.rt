@@ -3,15 +3,22 @@ ghost use mathlib.Core.List.{[], _∷_, map};
 ghost use mathlib.Core.Path.{_≡_};
 ghost use Prim.Native.Nat.{ℕ, suc, _+_, _*_, _≤_, _<_};
 ghost use lib.ListN.{getD, length};
-ghost use Rattle.definitions.specs.Lists.{below, howMany, keep};
+ghost use Rattle.lists.specs.Lists.{below, howMany, keep};
 ghost use Rattle.masks.specs.Masks.{has};
+ghost use Rattle.rows.specs.Charts.{Charted};
 ghost use Rattle.rows.specs.Rows.{maskAt, rowAt};
 ghost use Rattle.rows.specs.Systems.{systemIn};
 ghost use Rattle.kept.specs.Ready.{Ready};
 ghost use Rattle.knuth.specs.Tables.{Laid, StockLaid, columns, headNodes, linkNodes, nodesFrom, rowNodes, stockedRows};
 ghost use Rattle.knuth.specs.Listing.{Begun};
+use links::COLUMN;
+use links::COPIES;
+use links::END;
+use links::FIRST;
+use links::ROW;
 use masks::Mask;
 use rows::Dims;
+use rows::chart;
 use rows::table;
 
 // The fields of node x that stay as they are.
@@ -19,10 +26,10 @@ fn put_node(links: &mut [u16], x: usize, column: usize, first: usize, end: usize
     requires { ⌜ (32768 ≤ length (now links)) × (x < 4096) × (column < 4096) × (first < 4096) × (end ≤ 4096) × (row < 4096) ⌝ }
     ensures { λ _. ⌜ Laid (now (links .entry)) x (now (links .exit)) (record { col = column; lo = first; hi = end; row = row } ∷ []) ⌝ }
 {
-    links[8192 + x] = column as u16;
-    links[12288 + x] = first as u16;
-    links[16384 + x] = end as u16;
-    links[28672 + x] = row as u16;
+    links[8 * x + COLUMN] = column as u16;
+    links[8 * x + FIRST] = first as u16;
+    links[8 * x + END] = end as u16;
+    links[8 * x + ROW] = row as u16;
 }
 
 // The heads of n columns.
@@ -64,11 +71,13 @@ fn put_cells(
     row: usize,
 )
     requires { ⌜ (32768 ≤ length (now links)) × (n ≤ 128) × (first < 4096) × (end ≤ 4096) × (row < 4096) × (x + howMany (has mask) (below n) ≤ 4096) ⌝ }
-    ensures { λ _. ⌜ Laid (now (links .entry)) x (now (links .exit)) (map (λ c. record { col = c; lo = first; hi = end; row = row }) (keep (has mask) (below n))) ⌝ }
+    ensures { λ _. ⌜ Laid (now (links .entry)) x (now (links .exit))
+        (map (λ c. record { col = c; lo = first; hi = end; row = row }) (keep (has mask) (below n))) ⌝ }
 {
     let mut at = x;
     let mut c = 0;
     while c < n {
+        // the nodes of the mask's cells below c stand before node `at`
         if mask.has_cell(c) {
             put_node(links, at, c, first, end, row);
             at += 1;
@@ -79,8 +88,13 @@ fn put_cells(
 
 // The nodes of row r from node x on; and the node behind them.
 fn put_row(d: Dims, work: &[u64], links: &mut [u16], x: usize, r: usize) -> usize
-    requires { ⌜ (32768 ≤ length (now links)) × (8 * r + 8 ≤ length (now work)) × (r < 4096) × (d .cells ≤ 128) × (d .cells + rowAt (now work) r .kind < 4096) × (x + suc (howMany (has (maskAt (now work) r)) (below (d .cells))) ≤ 4096) ⌝ }
-    ensures { λ y. ⌜ (y ≡ x + suc (howMany (has (maskAt (now (work .entry)) r)) (below (d .cells)))) × Laid (now (links .entry)) x (now (links .exit)) (rowNodes (d .cells) x r (rowAt (now (work .entry)) r .kind) (keep (has (maskAt (now (work .entry)) r)) (below (d .cells)))) ⌝ }
+    requires { ⌜ (32768 ≤ length (now links)) × (8 * r + 8 ≤ length (now work)) × (r < 4096) × (d .cells ≤ 128)
+        × (d .cells + rowAt (now work) r .kind < 4096) × (x + suc (howMany (has (maskAt (now work) r)) (below (d .cells))) ≤ 4096) ⌝ }
+    ensures { λ y. do
+      let inside = has (maskAt (now (work .entry)) r)
+      let kind = rowAt (now (work .entry)) r .kind
+      ⌜ (y ≡ x + suc (howMany inside (below (d .cells))))
+          × Laid (now (links .entry)) x (now (links .exit)) (rowNodes (d .cells) x r kind (keep inside (below (d .cells)))) ⌝ }
 {
     let mask = table::mask_at(work, r);
     let end = x + 1 + count_cells(mask, d.cells);
@@ -90,40 +104,37 @@ fn put_row(d: Dims, work: &[u64], links: &mut [u16], x: usize, r: usize) -> usiz
 }
 
 // The copies of kinds, by their columns; none for the columns of cells.
-fn put_copies(d: Dims, kinds: &[u8], links: &mut [u16])
-    requires { ⌜ (32768 ≤ length (now links)) × (d .cells ≤ 128) × (d .kinds ≤ 16) × (2 * d .kinds ≤ length (now kinds)) ⌝ }
-    ensures { λ _. ⌜ StockLaid (now (links .entry)) (now (links .exit)) (d .cells) (d .kinds) (now (kinds .entry)) ⌝ }
+fn put_copies(d: Dims, chart: &[u16], links: &mut [u16])
+    requires { ⌜ (32768 ≤ length (now links)) × (d .cells ≤ 128) × (d .kinds ≤ 16) × Charted (now chart) ⌝ }
+    ensures { λ _. ⌜ StockLaid (now (links .entry)) (now (links .exit)) (d .cells) (d .kinds) (now (chart .entry)) ⌝ }
 {
     let mut j = 0;
     while j < d.cells + d.kinds {
+        // the copies of the columns below j are written
         if j < d.cells {
-            links[24576 + j] = 0;
+            links[8 * j + COPIES] = 0;
         } else {
-            links[24576 + j] = kinds[2 * (j - d.cells)] as u16;
+            links[8 * j + COPIES] = chart::copies_of(chart, j - d.cells) as u16;
         }
         j += 1;
     }
 }
 
 // The nodes of all rows of kinds that have copies, behind the heads; and how many nodes there are.
-fn put_rows(
-    d: Dims,
-    work: &[u64],
-    heads: &[u16],
-    images: &[u8],
-    scans: &[u8],
-    kinds: &[u8],
-    pieces: &[u8],
-    links: &mut [u16],
-) -> usize
-    requires { ⌜ Ready d (now work) (now heads) (now images) (now scans) (now kinds) (now pieces) × (32768 ≤ length (now links)) × (length (linkNodes (systemIn d (now work) (now images) (now scans) (now kinds) (now pieces))) ≤ 4096) ⌝ }
-    ensures { λ n. ⌜ (n ≡ length (linkNodes (systemIn d (now (work .entry)) (now (images .entry)) (now (scans .entry)) (now (kinds .entry)) (now (pieces .entry))))) × Laid (now (links .entry)) (columns (systemIn d (now (work .entry)) (now (images .entry)) (now (scans .entry)) (now (kinds .entry)) (now (pieces .entry)))) (now (links .exit)) (nodesFrom (systemIn d (now (work .entry)) (now (images .entry)) (now (scans .entry)) (now (kinds .entry)) (now (pieces .entry))) (columns (systemIn d (now (work .entry)) (now (images .entry)) (now (scans .entry)) (now (kinds .entry)) (now (pieces .entry)))) (stockedRows (systemIn d (now (work .entry)) (now (images .entry)) (now (scans .entry)) (now (kinds .entry)) (now (pieces .entry))))) ⌝ }
+fn put_rows(d: Dims, work: &[u64], chart: &[u16], links: &mut [u16]) -> usize
+    requires { do
+      let S = systemIn d (now work) (now chart)
+      ⌜ Ready d (now work) (now chart) × (32768 ≤ length (now links)) × (length (linkNodes S) ≤ 4096) ⌝ }
+    ensures { λ n. do
+      let S = systemIn d (now (work .entry)) (now (chart .entry))
+      ⌜ (n ≡ length (linkNodes S)) × Laid (now (links .entry)) (columns S) (now (links .exit)) (nodesFrom S (columns S) (stockedRows S)) ⌝ }
 {
     let mut x = d.cells + d.kinds;
     let mut r = 0;
     while r < d.rows {
+        // the nodes of the rows below r stand before node x
         let kind = table::kind_at(work, r);
-        if 0 < kinds[2 * kind] {
+        if 0 < chart::copies_of(chart, kind) {
             x = put_row(d, work, links, x, r);
         }
         r += 1;
@@ -132,22 +143,15 @@ fn put_rows(
 }
 
 // The links of a row system, every row possible.
-pub fn build_links(
-    d: Dims,
-    work: &[u64],
-    heads: &[u16],
-    images: &[u8],
-    scans: &[u8],
-    kinds: &[u8],
-    pieces: &[u8],
-    links: &mut [u16],
-)
-    requires { ⌜ Ready d (now work) (now heads) (now images) (now scans) (now kinds) (now pieces) × (32768 ≤ length (now links)) × (length (linkNodes (systemIn d (now work) (now images) (now scans) (now kinds) (now pieces))) ≤ 4096) ⌝ }
-    ensures begun { λ _. ⌜ Begun (systemIn d (now (work .entry)) (now (images .entry)) (now (scans .entry)) (now (kinds .entry)) (now (pieces .entry))) (now (links .exit)) ⌝ }
+pub fn build_links(d: Dims, work: &[u64], chart: &[u16], links: &mut [u16])
+    requires { do
+      let S = systemIn d (now work) (now chart)
+      ⌜ Ready d (now work) (now chart) × (32768 ≤ length (now links)) × (length (linkNodes S) ≤ 4096) ⌝ }
+    ensures begun { λ _. ⌜ Begun (systemIn d (now (work .entry)) (now (chart .entry))) (now (links .exit)) ⌝ }
     ensures behind { λ _. ⌜ ((i : ℕ) → 32768 ≤ i → getD (now (links .exit)) i 0 ≡ getD (now (links .entry)) i 0) ⌝ }
 {
     put_heads(links, d.cells + d.kinds);
-    put_copies(d, kinds, links);
-    let nodes = put_rows(d, work, heads, images, scans, kinds, pieces, links);
+    put_copies(d, chart, links);
+    let nodes = put_rows(d, work, chart, links);
     links::link_all(links, d.cells, d.cells + d.kinds, nodes);
 }

@@ -1,4 +1,4 @@
--- The links of a table, built node by node: each node that is added as the last of its column keeps the rings and the counts right. Assumes nothing.
+-- The links of a matrix, built node by node: each node that is added as the last of its column keeps the rings and the counts right. Assumes nothing.
 use Prim.Native.Nat.{ℕ, suc, _+_, _≤_, _<_}
 use native.Mathlib.Omega.{arith}
 use mathlib.Core.Path.{_≡_, refl, sym, ap, _∙_, subst}
@@ -8,56 +8,65 @@ use lib.ListN.{length, getD, set, length-set}
 use lib.Seq.{getD-set-same, getD-set-other}
 use lib.Dec.{ltb, leb}
 use borrow.Author.Tests.{ltb-true, lt-ltb, leb-true, le-leb}
-use Rattle.links.specs.Links.{up, down, Table, LawfulTable, Fields, Rings}
-use Rattle.links.specs.Cover.{bit, tally, cnt, inc, here, Mid}
-use Rattle.links.specs.Build.{below, every, headed, joined, linkLast, Joinable, Partial, Headed}
-use Rattle.links.proofs.Tally.{by-eq, by-order, not-true, both, both-left, both-right, tally-none, tally-le}
+use Rattle.lists.proofs.TestLaws.{by-eq, by-order, not-true, both, both-left, both-right}
+use Rattle.links.specs.Links.{up, down, columnOf, sizeOf, atUp, atDown, atSize, Still, Matrix, LawfulMatrix, Fields, Rings}
+use Rattle.links.specs.Cover.{bit, tally, inc, here, Consistent}
+use Rattle.links.specs.Build.{isBelow, every, headed, inserted, linkLast, Joinable, Partial, Headed}
+use Rattle.links.proofs.Tally.{tally-none, tally-le}
+use Rattle.links.proofs.Places.{fields-agree}
 use Rattle.links.proofs.Rings.{two-other, two-first, two-second, two-length, rings-agree}
-use Rattle.links.proofs.Hide.{here-liv, here-col, in-here}
+use Rattle.links.proofs.Hide.{here-alive, here-col, in-here}
 
 -- ---- one node joined
 
 module _ (m : List ℕ) (x c u : ℕ) (long : 32768 ≤ length m) (xl : x < 4096) (cl : c < 4096) (ul : u < 4096) (xc : c ≡ x → ⊥) (xu : u ≡ x → ⊥) where
   own : List ℕ
-  own = set (set m x u) (4096 + x) c
+  own = set (set m (atUp x) u) (atDown x) c
 
   own-length : length own ≡ length m
   unfolding own
-  own-length = two-length m x u (4096 + x) c
+  own-length = two-length m (atUp x) u (atDown x) c
 
-  pub joined-length : length (joined m x c u) ≡ length m
-  unfolding joined own
-  joined-length = two-length own (4096 + u) x c x ∙ own-length
+  pub inserted-length : length (inserted m x c u) ≡ length m
+  unfolding inserted own
+  inserted-length = two-length own (atDown u) x (atUp c) x ∙ own-length
 
-  pub joined-other : (i : ℕ) → (i ≡ x → ⊥) → (i ≡ 4096 + x → ⊥) → (i ≡ 4096 + u → ⊥) → (i ≡ c → ⊥) → getD (joined m x c u) i 0 ≡ getD m i 0
-  unfolding joined own
-  joined-other i a b d e = two-other own (4096 + u) x c x i d e ∙ two-other m x u (4096 + x) c i a b
+  pub inserted-other : (i : ℕ) → (i ≡ atUp x → ⊥) → (i ≡ atDown x → ⊥) → (i ≡ atDown u → ⊥) → (i ≡ atUp c → ⊥) → getD (inserted m x c u) i 0 ≡ getD m i 0
+  unfolding inserted own
+  inserted-other i a b d e = two-other own (atDown u) x (atUp c) x i d e ∙ two-other m (atUp x) u (atDown x) c i a b
 
-  pub joined-up : up (joined m x c u) x ≡ u
-  unfolding joined own
-  joined-up = two-other own (4096 + u) x c x x (omega arith) (λ e. xc (sym e)) ∙ two-first m x u (4096 + x) c (omega arith) (omega arith)
+  pub inserted-up : up (inserted m x c u) x ≡ u
+  unfolding inserted own
+  inserted-up = two-other own (atDown u) x (atUp c) x (atUp x) (omega arith) (λ e. xc (omega arith)) ∙ two-first m (atUp x) u (atDown x) c (omega arith) (omega arith)
 
-  pub joined-down : down (joined m x c u) x ≡ c
-  unfolding joined own
-  joined-down = two-other own (4096 + u) x c x (4096 + x) (λ e. xu (omega arith)) (omega arith) ∙ two-second m x u (4096 + x) c (omega arith)
+  pub inserted-down : down (inserted m x c u) x ≡ c
+  unfolding inserted own
+  inserted-down = two-other own (atDown u) x (atUp c) x (atDown x) (λ e. xu (omega arith)) (omega arith) ∙ two-second m (atUp x) u (atDown x) c (omega arith)
 
-  pub joined-last : down (joined m x c u) u ≡ x
-  unfolding joined own
-  joined-last = two-first own (4096 + u) x c x (omega arith) (omega (arith, own-length))
+  pub inserted-last : down (inserted m x c u) u ≡ x
+  unfolding inserted own
+  inserted-last = two-first own (atDown u) x (atUp c) x (omega arith) (omega (arith, own-length))
 
-  pub joined-head : up (joined m x c u) c ≡ x
-  unfolding joined own
-  joined-head = two-second own (4096 + u) x c x (omega (arith, own-length))
+  pub inserted-head : up (inserted m x c u) c ≡ x
+  unfolding inserted own
+  inserted-head = two-second own (atDown u) x (atUp c) x (omega (arith, own-length))
+
+-- what is no neighbour of a node stays as it is
+inserted-beside : (m : List ℕ) (x c u : ℕ) → x < 4096 → c < 4096 → u < 4096
+    → (i : ℕ) → ((y : ℕ) → y < 4096 → i ≡ atUp y → ⊥) → ((y : ℕ) → y < 4096 → i ≡ atDown y → ⊥) → getD (inserted m x c u) i 0 ≡ getD m i 0
+unfolding inserted
+inserted-beside m x c u xl cl ul i a b =
+    two-other (set (set m (atUp x) u) (atDown x) c) (atDown u) x (atUp c) x i (b u ul) (a c cl) ∙ two-other m (atUp x) u (atDown x) c i (a x xl) (b x xl)
 
 -- ---- the rings of the nodes below x, with x joined
 
-below-less : (n k : ℕ) → below n k ≡ true → k < n
+below-less : (n k : ℕ) → isBelow n k ≡ true → k < n
 below-less n k h = ltb-true k n h
 
-in-below : (n k : ℕ) → k < n → below n k ≡ true
+in-below : (n k : ℕ) → k < n → isBelow n k ≡ true
 in-below n k h = lt-ltb k n h
 
-module _ {t : Table} (law : LawfulTable t) {m : List ℕ} (f : Fields t m) (x : ℕ) (r : Rings t (below x) m) (nx : t .cols ≤ x) (lx : x < t .nodes) where
+module _ {t : Matrix} (law : LawfulMatrix t) {m : List ℕ} (f : Fields t m) (x : ℕ) (r : Rings t (isBelow x) m) (nx : t .cols ≤ x) (lx : x < t .nodes) where
   abbrev c : ℕ
   c = t .col x
 
@@ -67,32 +76,32 @@ module _ {t : Table} (law : LawfulTable t) {m : List ℕ} (f : Fields t m) (x : 
   c-less : c < t .cols
   c-less = law .inside x nx lx
 
-  c-act : below x c ≡ true
-  c-act = in-below x c (omega (arith, c-less))
+  c-active : isBelow x c ≡ true
+  c-active = in-below x c (omega (arith, c-less))
 
   c-col : t .col c ≡ c
   c-col = law .head c c-less
 
   u-less : u < x
-  u-less = below-less x u (r .u-act c c-act)
+  u-less = below-less x u (r .up-active c c-active)
 
-  u-col : t .col u ≡ c
-  u-col = r .u-col c c-act ∙ c-col
+  up-column : t .col u ≡ c
+  up-column = r .up-column c c-active ∙ c-col
 
-  du-c : down m u ≡ c
-  du-c = r .du c c-act
+  down-up-c : down m u ≡ c
+  down-up-c = r .down-up c c-active
 
-  u-act : below x u ≡ true
-  u-act = in-below x u u-less
+  up-active : isBelow x u ≡ true
+  up-active = in-below x u u-less
 
   u-low : c ≤ u
-  u-low = by-order (t .cols) u (λ l. omega (arith, c-less)) (λ l. omega (arith, law .head u l, u-col))
+  u-low = by-order (t .cols) u (λ l. omega (arith, c-less)) (λ l. omega (arith, law .head u l, up-column))
 
   abbrev m′ : List ℕ
-  m′ = joined m x c u
+  m′ = inserted m x c u
 
   size : x < 4096
-  size = omega (arith, law .fits)
+  size = omega (arith, law .small)
 
   cs : c < 4096
   cs = omega (arith, c-less, size)
@@ -110,66 +119,66 @@ module _ {t : Table} (law : LawfulTable t) {m : List ℕ} (f : Fields t m) (x : 
   at-d : (P : ℕ → Type 0) (y : ℕ) → y < suc x → (y ≡ x → P c) → (y ≡ u → P x) → ((y < x) → (y ≡ u → ⊥) → P (down m y)) → P (down m′ y)
   at-d P y l p q o =
       by-eq y x
-      (λ e. subst (λ (i : ℕ). P (down (joined m x c u) i)) (sym e) (subst P (sym (joined-down m x c u (f .long) size cs us cx ux)) (p e)))
+      (λ e. subst (λ (i : ℕ). P (down (inserted m x c u) i)) (sym e) (subst P (sym (inserted-down m x c u (f .long) size cs us cx ux)) (p e)))
       (λ e. by-eq y u
-      (λ g. subst (λ (i : ℕ). P (down (joined m x c u) i)) (sym g) (subst P (sym (joined-last m x c u (f .long) size cs us cx ux)) (q g)))
-      (λ g. subst P (sym (joined-other m x c u (f .long) size cs us cx ux (4096 + y) (omega (arith, size)) (λ z. e (omega arith)) (λ z. g (omega arith)) (omega (arith, cs)))) (o (omega arith) g)))
+      (λ g. subst (λ (i : ℕ). P (down (inserted m x c u) i)) (sym g) (subst P (sym (inserted-last m x c u (f .long) size cs us cx ux)) (q g)))
+      (λ g. subst P (sym (inserted-other m x c u (f .long) size cs us cx ux (atDown y) (omega (arith, size)) (λ z. e (omega arith)) (λ z. g (omega arith)) (omega (arith, cs)))) (o (omega arith) g)))
 
   at-u : (P : ℕ → Type 0) (y : ℕ) → y < suc x → (y ≡ x → P u) → (y ≡ c → P x) → ((y < x) → (y ≡ c → ⊥) → P (up m y)) → P (up m′ y)
   at-u P y l p q o =
       by-eq y x
-      (λ e. subst (λ (i : ℕ). P (up (joined m x c u) i)) (sym e) (subst P (sym (joined-up m x c u (f .long) size cs us cx ux)) (p e)))
+      (λ e. subst (λ (i : ℕ). P (up (inserted m x c u) i)) (sym e) (subst P (sym (inserted-up m x c u (f .long) size cs us cx ux)) (p e)))
       (λ e. by-eq y c
-      (λ g. subst (λ (i : ℕ). P (up (joined m x c u) i)) (sym g) (subst P (sym (joined-head m x c u (f .long) size cs us cx ux)) (q g)))
-      (λ g. subst P (sym (joined-other m x c u (f .long) size cs us cx ux y e (omega (arith, size)) (omega (arith, size)) g)) (o (omega arith) g)))
+      (λ g. subst (λ (i : ℕ). P (up (inserted m x c u) i)) (sym g) (subst P (sym (inserted-head m x c u (f .long) size cs us cx ux)) (q g)))
+      (λ g. subst P (sym (inserted-other m x c u (f .long) size cs us cx ux (atUp y) (λ z. e (omega arith)) (omega (arith, size)) (omega (arith, size)) (λ z. g (omega arith)))) (o (omega arith) g)))
 
-  pub joined-rings : Rings t (below (suc x)) m′
-  joined-rings =
+  pub inserted-rings : Rings t (isBelow (suc x)) m′
+  inserted-rings =
       record {
         bound = λ y h. omega (arith, below-less (suc x) y h);
         heads = λ j h. in-below (suc x) j (omega arith);
-        d-act = λ y h. let l = below-less (suc x) y h in
-            at-d (λ (n : ℕ). below (suc x) n ≡ true) y l
+        down-active = λ y h. let l = below-less (suc x) y h in
+            at-d (λ (n : ℕ). isBelow (suc x) n ≡ true) y l
             (λ e. in-below (suc x) c (omega (arith, c-less)))
             (λ e. in-below (suc x) x (omega arith))
-            (λ a b. in-below (suc x) (down m y) (omega (arith, below-less x (down m y) (r .d-act y (in-below x y a)))));
-        u-act = λ y h. let l = below-less (suc x) y h in
-            at-u (λ (n : ℕ). below (suc x) n ≡ true) y l
+            (λ a b. in-below (suc x) (down m y) (omega (arith, below-less x (down m y) (r .down-active y (in-below x y a)))));
+        up-active = λ y h. let l = below-less (suc x) y h in
+            at-u (λ (n : ℕ). isBelow (suc x) n ≡ true) y l
             (λ e. in-below (suc x) u (omega (arith, u-less)))
             (λ e. in-below (suc x) x (omega arith))
-            (λ a b. in-below (suc x) (up m y) (omega (arith, below-less x (up m y) (r .u-act y (in-below x y a)))));
-        d-col = λ y h. let l = below-less (suc x) y h in
+            (λ a b. in-below (suc x) (up m y) (omega (arith, below-less x (up m y) (r .up-active y (in-below x y a)))));
+        down-column = λ y h. let l = below-less (suc x) y h in
             at-d (λ (n : ℕ). t .col n ≡ t .col y) y l
             (λ e. c-col ∙ x-col y e)
-            (λ e. x-col x refl ∙ sym u-col ∙ ap (t .col) (sym e))
-            (λ a b. r .d-col y (in-below x y a));
-        u-col = λ y h. let l = below-less (suc x) y h in
+            (λ e. x-col x refl ∙ sym up-column ∙ ap (t .col) (sym e))
+            (λ a b. r .down-column y (in-below x y a));
+        up-column = λ y h. let l = below-less (suc x) y h in
             at-u (λ (n : ℕ). t .col n ≡ t .col y) y l
-            (λ e. u-col ∙ x-col y e)
+            (λ e. up-column ∙ x-col y e)
             (λ e. x-col x refl ∙ sym c-col ∙ ap (t .col) (sym e))
-            (λ a b. r .u-col y (in-below x y a));
-        ud = λ y h. let l = below-less (suc x) y h in
+            (λ a b. r .up-column y (in-below x y a));
+        up-down = λ y h. let l = below-less (suc x) y h in
             at-d (λ (n : ℕ). up m′ n ≡ y) y l
-            (λ e. joined-head m x c u (f .long) size cs us cx ux ∙ sym e)
-            (λ e. joined-up m x c u (f .long) size cs us cx ux ∙ sym e)
+            (λ e. inserted-head m x c u (f .long) size cs us cx ux ∙ sym e)
+            (λ e. inserted-up m x c u (f .long) size cs us cx ux ∙ sym e)
             (λ a b.
             let ay = in-below x y a in
-            let dl = below-less x (down m y) (r .d-act y ay) in
+            let dl = below-less x (down m y) (r .down-active y ay) in
             at-u (λ (n : ℕ). n ≡ y) (down m y) (omega arith)
             (λ z. absurd (omega arith))
-            (λ z. absurd (b (sym (r .ud y ay) ∙ ap (λ (n : ℕ). up m n) z)))
-            (λ a′ b′. r .ud y ay));
-        du = λ y h. let l = below-less (suc x) y h in
+            (λ z. absurd (b (sym (r .up-down y ay) ∙ ap (λ (n : ℕ). up m n) z)))
+            (λ a′ b′. r .up-down y ay));
+        down-up = λ y h. let l = below-less (suc x) y h in
             at-u (λ (n : ℕ). down m′ n ≡ y) y l
-            (λ e. joined-last m x c u (f .long) size cs us cx ux ∙ sym e)
-            (λ e. joined-down m x c u (f .long) size cs us cx ux ∙ sym e)
+            (λ e. inserted-last m x c u (f .long) size cs us cx ux ∙ sym e)
+            (λ e. inserted-down m x c u (f .long) size cs us cx ux ∙ sym e)
             (λ a b.
             let ay = in-below x y a in
-            let dl = below-less x (up m y) (r .u-act y ay) in
+            let dl = below-less x (up m y) (r .up-active y ay) in
             at-d (λ (n : ℕ). n ≡ y) (up m y) (omega arith)
             (λ z. absurd (omega arith))
-            (λ z. absurd (b (sym (r .du y ay) ∙ ap (λ (n : ℕ). down m n) z ∙ du-c)))
-            (λ a′ b′. r .du y ay));
+            (λ z. absurd (b (sym (r .down-up y ay) ∙ ap (λ (n : ℕ). down m n) z ∙ down-up-c)))
+            (λ a′ b′. r .down-up y ay));
         wrap = λ y h. let l = below-less (suc x) y h in
             at-d (λ (n : ℕ). n ≤ y → n ≡ t .col y) y l
             (λ e g. x-col y e)
@@ -182,16 +191,16 @@ module _ {t : Table} (law : LawfulTable t) {m : List ℕ} (f : Fields t m) (x : 
             (λ e. absurd (omega arith))
             (λ e. by-order x k
             (λ a. omega (arith, u-less))
-            (λ a. absurd (omega (arith, r .next u k u-act (in-below x k a) (q ∙ ap (t .col) e) (omega arith), du-c, u-low))))
+            (λ a. absurd (omega (arith, r .next u k up-active (in-below x k a) (q ∙ ap (t .col) e) (omega arith), down-up-c, u-low))))
             (λ a b.
             let ay = in-below x y a in
             by-order x k
             (λ i.
             let kx : k ≡ x = omega arith in
-            let dl = below-less x (down m y) (r .d-act y ay) in
+            let dl = below-less x (down m y) (r .down-active y ay) in
             let rises : y < down m y
             = by-order (down m y) y
-            (λ z. absurd (b (sym (r .ud y ay) ∙ ap (λ (n : ℕ). up m n) (r .wrap y ay z ∙ sym q ∙ ap (t .col) kx))))
+            (λ z. absurd (b (sym (r .up-down y ay) ∙ ap (λ (n : ℕ). up m n) (r .wrap y ay z ∙ sym q ∙ ap (t .col) kx))))
             (λ z. z) in
             omega arith)
             (λ i. r .next y k ay (in-below x k i) q g));
@@ -204,42 +213,30 @@ module _ {t : Table} (law : LawfulTable t) {m : List ℕ} (f : Fields t m) (x : 
 
 inc-length : (m : List ℕ) (j : ℕ) → length (inc m j) ≡ length m
 unfolding inc
-inc-length m j = length-set m (20480 + j) (cnt m j + 1)
+inc-length m j = length-set m (atSize j) (sizeOf m j + 1)
 
-inc-other : (m : List ℕ) (j i : ℕ) → (i ≡ 20480 + j → ⊥) → getD (inc m j) i 0 ≡ getD m i 0
+inc-other : (m : List ℕ) (j i : ℕ) → (i ≡ atSize j → ⊥) → getD (inc m j) i 0 ≡ getD m i 0
 unfolding inc
-inc-other m j i h = getD-set-other m (20480 + j) i (cnt m j + 1) 0 h
+inc-other m j i h = getD-set-other m (atSize j) i (sizeOf m j + 1) 0 h
 
-inc-same : (m : List ℕ) (j : ℕ) → 20480 + j < length m → cnt (inc m j) j ≡ cnt m j + 1
+inc-same : (m : List ℕ) (j : ℕ) → atSize j < length m → sizeOf (inc m j) j ≡ sizeOf m j + 1
 unfolding inc
-inc-same m j h = getD-set-same m (20480 + j) (cnt m j + 1) 0 h
+inc-same m j h = getD-set-same m (atSize j) (sizeOf m j + 1) 0 h
 
--- the fields are where no link and no count is
-fields-agree : {t : Table} (law : LawfulTable t) {m : List ℕ} (f : Fields t m) (m′ : List ℕ) → length m′ ≡ length m
-    → ((i : ℕ) → 8192 ≤ i → i < 20480 → getD m′ i 0 ≡ getD m i 0) → ((i : ℕ) → 24576 ≤ i → getD m′ i 0 ≡ getD m i 0) → Fields t m′
-fields-agree law f m′ e g b =
-    record {
-      long = rw e (f .long);
-      col = λ y h. g (8192 + y) (omega arith) (omega (arith, law .fits)) ∙ f .col y h;
-      lo = λ y h. g (12288 + y) (omega arith) (omega (arith, law .fits)) ∙ f .lo y h;
-      hi = λ y h. g (16384 + y) (omega arith) (omega (arith, law .fits)) ∙ f .hi y h;
-      row = λ y h. b (28672 + y) (omega arith) ∙ f .row y h;
-    }
-
-pub in-every : (t : Table) (k : ℕ) → t .cols ≤ k → k < t .nodes → every t k ≡ true
+pub in-every : (t : Matrix) (k : ℕ) → t .cols ≤ k → k < t .nodes → every t k ≡ true
 unfolding every
 in-every t k a b = both (leb (t .cols) k) (ltb k (t .nodes)) (le-leb (t .cols) k a) (lt-ltb k (t .nodes) b)
 
-pub every-node : (t : Table) (k : ℕ) → every t k ≡ true → (t .cols ≤ k) × (k < t .nodes)
+pub every-node : (t : Matrix) (k : ℕ) → every t k ≡ true → (t .cols ≤ k) × (k < t .nodes)
 unfolding every
 every-node t k h =
     (leb-true (t .cols) k (both-left (leb (t .cols) k) (ltb k (t .nodes)) h), ltb-true k (t .nodes) (both-right (leb (t .cols) k) (ltb k (t .nodes)) h))
 
-module _ {t : Table} (law : LawfulTable t) {m : List ℕ} {x : ℕ} (p : Partial t x m) (nx : t .cols ≤ x) (lx : x < t .nodes) where
+module _ {t : Matrix} (law : LawfulMatrix t) {m : List ℕ} {x : ℕ} (p : Partial t x m) (nx : t .cols ≤ x) (lx : x < t .nodes) where
   k-less : t .col x < t .cols
   k-less = law .inside x nx lx
 
-  col-is : getD m (8192 + x) 0 ≡ t .col x
+  col-is : columnOf m x ≡ t .col x
   col-is = p .fields .col x lx
 
   last-less : up m (t .col x) < x
@@ -249,22 +246,22 @@ module _ {t : Table} (law : LawfulTable t) {m : List ℕ} {x : ℕ} (p : Partial
   partial-joinable =
       record {
         long = p .fields .long;
-        small = omega (arith, law .fits);
-        column = omega (arith, col-is, k-less, law .fits);
-        last = rw col-is (omega (arith, last-less, law .fits));
+        small = omega (arith, law .small);
+        column = omega (arith, col-is, k-less, law .small);
+        last = rw col-is (omega (arith, last-less, law .small));
         apart = λ e. omega (arith, col-is, k-less);
-        few = rw col-is (omega (arith, p .count (t .col x) k-less, tally-le (here t (every t) (t .col x)) x, law .fits));
+        few = rw col-is (omega (arith, p .count (t .col x) k-less, tally-le (here t (every t) (t .col x)) x, law .small));
       }
 
   abbrev next : List ℕ
-  next = inc (joined m x (t .col x) (up m (t .col x))) (t .col x)
+  next = inc (inserted m x (t .col x) (up m (t .col x))) (t .col x)
 
   next-is : linkLast m x ≡ next
   unfolding linkLast
-  next-is = ap (λ (c : ℕ). inc (joined m x c (up m c)) c) col-is
+  next-is = ap (λ (c : ℕ). inc (inserted m x c (up m c)) c) col-is
 
   sizes : (x < 4096) × (t .col x < 4096) × (up m (t .col x) < 4096)
-  sizes = omega (arith, k-less, last-less, law .fits)
+  sizes = omega (arith, k-less, last-less, law .small)
 
   c-apart : t .col x ≡ x → ⊥
   c-apart e = omega (arith, k-less)
@@ -272,30 +269,32 @@ module _ {t : Table} (law : LawfulTable t) {m : List ℕ} {x : ℕ} (p : Partial
   u-apart : up m (t .col x) ≡ x → ⊥
   u-apart e = omega (arith, last-less)
 
-  join-high : (i : ℕ) → 8192 ≤ i → getD (joined m x (t .col x) (up m (t .col x))) i 0 ≡ getD m i 0
-  join-high i h =
-      joined-other m x (t .col x) (up m (t .col x)) (p .fields .long) (sizes .0) (sizes .1) (sizes .2) c-apart u-apart i
-      (omega (arith, sizes)) (omega (arith, sizes)) (omega (arith, sizes)) (omega (arith, sizes))
+  join-beside : (i : ℕ) → ((y : ℕ) → y < 4096 → i ≡ atUp y → ⊥) → ((y : ℕ) → y < 4096 → i ≡ atDown y → ⊥)
+      → getD (inserted m x (t .col x) (up m (t .col x))) i 0 ≡ getD m i 0
+  join-beside i a b = inserted-beside m x (t .col x) (up m (t .col x)) (sizes .0) (sizes .1) (sizes .2) i a b
 
-  join-length : length (joined m x (t .col x) (up m (t .col x))) ≡ length m
-  join-length = joined-length m x (t .col x) (up m (t .col x)) (p .fields .long) (sizes .0) (sizes .1) (sizes .2) c-apart u-apart
+  join-size : (j : ℕ) → sizeOf (inserted m x (t .col x) (up m (t .col x))) j ≡ sizeOf m j
+  join-size j = join-beside (atSize j) (λ y l e. omega arith) (λ y l e. omega arith)
 
-  next-count : (j : ℕ) → j < t .cols → cnt next j ≡ tally (here t (every t) j) (suc x)
+  join-length : length (inserted m x (t .col x) (up m (t .col x))) ≡ length m
+  join-length = inserted-length m x (t .col x) (up m (t .col x)) (p .fields .long) (sizes .0) (sizes .1) (sizes .2) c-apart u-apart
+
+  next-count : (j : ℕ) → j < t .cols → sizeOf next j ≡ tally (here t (every t) j) (suc x)
   unfolding tally
   next-count j h =
       by-eq j (t .col x)
-      (λ e. subst (λ (i : ℕ). cnt (inc (joined m x (t .col x) (up m (t .col x))) (t .col x)) i ≡ bit (here t (every t) i x) + tally (here t (every t) i) x) (sym e)
+      (λ e. subst (λ (i : ℕ). sizeOf (inc (inserted m x (t .col x) (up m (t .col x))) (t .col x)) i ≡ bit (here t (every t) i x) + tally (here t (every t) i) x) (sym e)
       (omega (
         arith,
-        inc-same (joined m x (t .col x) (up m (t .col x))) (t .col x) (omega (arith, join-length, p .fields .long, sizes)),
-        join-high (20480 + t .col x) (omega arith),
+        inc-same (inserted m x (t .col x) (up m (t .col x))) (t .col x) (omega (arith, join-length, p .fields .long, sizes)),
+        join-size (t .col x),
         p .count (t .col x) k-less,
         ap bit (in-here t (every t) (t .col x) x (in-every t x nx lx) refl),
       )))
       (λ e. omega (
         arith,
-        inc-other (joined m x (t .col x) (up m (t .col x))) (t .col x) (20480 + j) (λ z. e (omega arith)),
-        join-high (20480 + j) (omega arith),
+        inc-other (inserted m x (t .col x) (up m (t .col x))) (t .col x) (atSize j) (λ z. e (omega arith)),
+        join-size j,
         p .count j h,
         ap bit (not-true (here t (every t) j x) (λ z. e (sym (here-col t (every t) j x z)))),
       ))
@@ -304,22 +303,22 @@ module _ {t : Table} (law : LawfulTable t) {m : List ℕ} {x : ℕ} (p : Partial
   partial-next =
       rw next-is
       (record {
-        fields = fields-agree law (p .fields) next next-length next-high next-behind;
-        rings = rings-agree law next (joined-rings law (p .fields) x (p .rings) nx lx) (λ k. refl) next-low;
+        fields = fields-agree (p .fields) next next-length next-still;
+        rings = rings-agree next (inserted-rings law (p .fields) x (p .rings) nx lx) (λ k. refl) next-up next-down;
         count = next-count;
       })
     where
       next-length : length next ≡ length m
-      next-length = inc-length (joined m x (t .col x) (up m (t .col x))) (t .col x) ∙ join-length
+      next-length = inc-length (inserted m x (t .col x) (up m (t .col x))) (t .col x) ∙ join-length
 
-      next-high : (i : ℕ) → 8192 ≤ i → i < 20480 → getD next i 0 ≡ getD m i 0
-      next-high i a b = inc-other (joined m x (t .col x) (up m (t .col x))) (t .col x) i (omega arith) ∙ join-high i a
+      next-still : (i : ℕ) → Still i → getD next i 0 ≡ getD m i 0
+      next-still i s = inc-other (inserted m x (t .col x) (up m (t .col x))) (t .col x) i (s .size (t .col x) (sizes .1)) ∙ join-beside i (s .up) (s .down)
 
-      next-behind : (i : ℕ) → 24576 ≤ i → getD next i 0 ≡ getD m i 0
-      next-behind i a = inc-other (joined m x (t .col x) (up m (t .col x))) (t .col x) i (omega (arith, sizes)) ∙ join-high i (omega arith)
+      next-up : (k : ℕ) → up next k ≡ up (inserted m x (t .col x) (up m (t .col x))) k
+      next-up k = inc-other (inserted m x (t .col x) (up m (t .col x))) (t .col x) (atUp k) (omega arith)
 
-      next-low : (i : ℕ) → i < 8192 → getD next i 0 ≡ getD (joined m x (t .col x) (up m (t .col x))) i 0
-      next-low i h = inc-other (joined m x (t .col x) (up m (t .col x))) (t .col x) i (omega arith)
+      next-down : (k : ℕ) → down next k ≡ down (inserted m x (t .col x) (up m (t .col x))) k
+      next-down k = inc-other (inserted m x (t .col x) (up m (t .col x))) (t .col x) (atDown k) (omega arith)
 
 -- ---- the heads
 
@@ -328,39 +327,43 @@ module _ (m : List ℕ) (i : ℕ) (long : 32768 ≤ length m) (il : i < 4096) wh
   unfolding headed
   headed-length = simp length-set
 
-  headed-other : (k : ℕ) → (k ≡ i → ⊥) → (k ≡ 4096 + i → ⊥) → (k ≡ 20480 + i → ⊥) → getD (headed m i) k 0 ≡ getD m k 0
+  headed-other : (k : ℕ) → (k ≡ atUp i → ⊥) → (k ≡ atDown i → ⊥) → (k ≡ atSize i → ⊥) → getD (headed m i) k 0 ≡ getD m k 0
   unfolding headed
-  headed-other k a b d = getD-set-other (set (set m i i) (4096 + i) i) (20480 + i) k 0 0 d ∙ two-other m i i (4096 + i) i k a b
+  headed-other k a b d = getD-set-other (set (set m (atUp i) i) (atDown i) i) (atSize i) k 0 0 d ∙ two-other m (atUp i) i (atDown i) i k a b
 
   headed-up : up (headed m i) i ≡ i
   unfolding headed
-  headed-up = getD-set-other (set (set m i i) (4096 + i) i) (20480 + i) i 0 0 (omega arith) ∙ two-first m i i (4096 + i) i (omega arith) (omega arith)
+  headed-up = getD-set-other (set (set m (atUp i) i) (atDown i) i) (atSize i) (atUp i) 0 0 (omega arith) ∙ two-first m (atUp i) i (atDown i) i (omega arith) (omega arith)
 
   headed-down : down (headed m i) i ≡ i
   unfolding headed
-  headed-down = getD-set-other (set (set m i i) (4096 + i) i) (20480 + i) (4096 + i) 0 0 (omega arith) ∙ two-second m i i (4096 + i) i (omega arith)
+  headed-down = getD-set-other (set (set m (atUp i) i) (atDown i) i) (atSize i) (atDown i) 0 0 (omega arith) ∙ two-second m (atUp i) i (atDown i) i (omega arith)
 
-  headed-cnt : cnt (headed m i) i ≡ 0
+  headed-size : sizeOf (headed m i) i ≡ 0
   unfolding headed
-  headed-cnt = getD-set-same (set (set m i i) (4096 + i) i) (20480 + i) 0 0 (omega (arith, two-length m i i (4096 + i) i))
+  headed-size = getD-set-same (set (set m (atUp i) i) (atDown i) i) (atSize i) 0 0 (omega (arith, two-length m (atUp i) i (atDown i) i))
 
-module _ {t : Table} (law : LawfulTable t) where
+pub headed-still : (m : List ℕ) (i : ℕ) → i < 4096 → (k : ℕ) → Still k → getD (headed m i) k 0 ≡ getD m k 0
+unfolding headed
+headed-still m i l k s =
+    getD-set-other (set (set m (atUp i) i) (atDown i) i) (atSize i) k 0 0 (s .size i l) ∙ two-other m (atUp i) i (atDown i) i k (s .up i l) (s .down i l)
+
+module _ {t : Matrix} (law : LawfulMatrix t) where
   pub headed-next : {m : List ℕ} {i : ℕ} → Headed t i m → i < t .cols → Headed t (suc i) (headed m i)
   headed-next {m} {i} h l =
       let long = h .fields .long in
-      let il : i < 4096 = omega (arith, law .some, law .fits) in
+      let il : i < 4096 = omega (arith, law .some, law .small) in
       record {
-        fields = fields-agree law (h .fields) (headed m i) (headed-length m i long il) (λ k a b. headed-other m i long il k (omega arith) (omega arith) (omega arith))
-            (λ k a. headed-other m i long il k (omega arith) (omega arith) (omega arith));
+        fields = fields-agree (h .fields) (headed m i) (headed-length m i long il) (headed-still m i il);
         ups = λ j g. by-eq j i
             (λ e. subst (λ (k : ℕ). up (headed m i) k ≡ k) (sym e) (headed-up m i long il))
-            (λ e. headed-other m i long il j e (omega arith) (omega arith) ∙ h .ups j (omega arith));
+            (λ e. headed-other m i long il (atUp j) (λ z. e (omega arith)) (omega arith) (omega arith) ∙ h .ups j (omega arith));
         downs = λ j g. by-eq j i
             (λ e. subst (λ (k : ℕ). down (headed m i) k ≡ k) (sym e) (headed-down m i long il))
-            (λ e. headed-other m i long il (4096 + j) (omega arith) (λ z. e (omega arith)) (omega arith) ∙ h .downs j (omega arith));
+            (λ e. headed-other m i long il (atDown j) (omega arith) (λ z. e (omega arith)) (omega arith) ∙ h .downs j (omega arith));
         none = λ j g. by-eq j i
-            (λ e. subst (λ (k : ℕ). cnt (headed m i) k ≡ 0) (sym e) (headed-cnt m i long il))
-            (λ e. headed-other m i long il (20480 + j) (omega arith) (omega arith) (λ z. e (omega arith)) ∙ h .none j (omega arith));
+            (λ e. subst (λ (k : ℕ). sizeOf (headed m i) k ≡ 0) (sym e) (headed-size m i long il))
+            (λ e. headed-other m i long il (atSize j) (omega arith) (omega arith) (λ z. e (omega arith)) ∙ h .none j (omega arith));
       }
 
   pub headed-all : {m : List ℕ} → Headed t (t .cols) m → Partial t (t .cols) m
@@ -370,19 +373,19 @@ module _ {t : Table} (law : LawfulTable t) where
         rings = record {
           bound = λ x a. omega (arith, below-less (t .cols) x a, law .some);
           heads = λ c l. in-below (t .cols) c l;
-          d-act = λ x a. rw (h .downs x (below-less (t .cols) x a)) a;
-          u-act = λ x a. rw (h .ups x (below-less (t .cols) x a)) a;
-          d-col = λ x a. ap (t .col) (h .downs x (below-less (t .cols) x a));
-          u-col = λ x a. ap (t .col) (h .ups x (below-less (t .cols) x a));
-          ud = λ x a. ap (λ (n : ℕ). up m n) (h .downs x (below-less (t .cols) x a)) ∙ h .ups x (below-less (t .cols) x a);
-          du = λ x a. ap (λ (n : ℕ). down m n) (h .ups x (below-less (t .cols) x a)) ∙ h .downs x (below-less (t .cols) x a);
+          down-active = λ x a. rw (h .downs x (below-less (t .cols) x a)) a;
+          up-active = λ x a. rw (h .ups x (below-less (t .cols) x a)) a;
+          down-column = λ x a. ap (t .col) (h .downs x (below-less (t .cols) x a));
+          up-column = λ x a. ap (t .col) (h .ups x (below-less (t .cols) x a));
+          up-down = λ x a. ap (λ (n : ℕ). up m n) (h .downs x (below-less (t .cols) x a)) ∙ h .ups x (below-less (t .cols) x a);
+          down-up = λ x a. ap (λ (n : ℕ). down m n) (h .ups x (below-less (t .cols) x a)) ∙ h .downs x (below-less (t .cols) x a);
           wrap = λ x a l. h .downs x (below-less (t .cols) x a) ∙ sym (law .head x (below-less (t .cols) x a));
           next = λ x k a b q l. absurd (omega (arith, law .head x (below-less (t .cols) x a), law .head k (below-less (t .cols) k b)));
         };
-        count = λ j l. h .none j l ∙ sym (tally-none (here t (every t) j) (t .cols) (λ k g q. omega (arith, every-node t k (here-liv t (every t) j k q))));
+        count = λ j l. h .none j l ∙ sym (tally-none (here t (every t) j) (t .cols) (λ k g q. omega (arith, every-node t k (here-alive t (every t) j k q))));
       }
 
-  pub partial-all : {m : List ℕ} → Partial t (t .nodes) m → Mid t (every t) (below (t .nodes)) m
+  pub partial-all : {m : List ℕ} → Partial t (t .nodes) m → Consistent t (every t) (isBelow (t .nodes)) m
   partial-all {m} p =
       record {
         fields = p .fields;
@@ -399,54 +402,43 @@ module _ {t : Table} (law : LawfulTable t) where
   headed-none f = record { fields = f; ups = λ j l. absurd (omega arith); downs = λ j l. absurd (omega arith); none = λ j l. absurd (omega arith) }
 
 pub linkLast-length : (m : List ℕ) (x : ℕ) → length (linkLast m x) ≡ length m
-unfolding linkLast joined
-linkLast-length m x = inc-length (joined m x (getD m (8192 + x) 0) (up m (getD m (8192 + x) 0))) (getD m (8192 + x) 0) ∙ simp length-set
-
-joined-high : (m : List ℕ) (x c u : ℕ) → x < 4096 → c < 4096 → u < 4096 → (i : ℕ) → 8192 ≤ i → getD (joined m x c u) i 0 ≡ getD m i 0
-unfolding joined
-joined-high m x c u xl cl ul i h =
-    two-other (set (set m x u) (4096 + x) c) (4096 + u) x c x i (omega arith) (omega arith) ∙ two-other m x u (4096 + x) c i (omega arith) (omega arith)
+unfolding linkLast inserted
+linkLast-length m x = inc-length (inserted m x (columnOf m x) (up m (columnOf m x))) (columnOf m x) ∙ simp length-set
 
 -- ---- what `link_last` asks, and what it comes to
 
-module _ {m : List ℕ} {x : ℕ} (j : Joinable m x) (c u : ℕ) (ec : c ≡ getD m (8192 + x) 0) (eu : u ≡ getD m c 0) where
-  u-at : u ≡ up m (getD m (8192 + x) 0)
-  u-at = eu ∙ ap (λ (i : ℕ). getD m i 0) ec
+module _ {m : List ℕ} {x : ℕ} (j : Joinable m x) (c u : ℕ) (ec : c ≡ columnOf m x) (eu : u ≡ up m c) where
+  u-at : u ≡ up m (columnOf m x)
+  u-at = eu ∙ ap (λ (i : ℕ). up m i) ec
 
   pub last-join : (32768 ≤ length m) × ((x < 4096) × (c < 4096) × (u < 4096))
   last-join = (j .long, omega (arith, j .small, j .column, j .last, ec, u-at))
 
-  module _ (m′ : List ℕ) (g : m′ ≡ joined m x c u) where
-    joined-cnt : cnt m′ c ≡ cnt m c
-    joined-cnt =
+  module _ (m′ : List ℕ) (g : m′ ≡ inserted m x c u) where
+    inserted-size : sizeOf m′ c ≡ sizeOf m c
+    inserted-size =
         let s = last-join .1 in
-        rw g (joined-high m x c u (s .0) (s .1) (s .2) (20480 + c) (omega arith))
+        rw g (inserted-beside m x c u (s .0) (s .1) (s .2) (atSize c) (λ y l e. omega arith) (λ y l e. omega arith))
 
-    joined-len : length m′ ≡ length m
-    unfolding joined
-    joined-len = rw g (simp length-set)
+    inserted-len : length m′ ≡ length m
+    unfolding inserted
+    inserted-len = rw g (simp length-set)
 
-    pub last-count : (32768 ≤ length m′) × ((c < 4096) × (cnt m′ c < 4096))
-    last-count = (omega (arith, joined-len, j .long), (omega (arith, j .column, ec), omega (arith, joined-cnt, j .few, ap (λ (i : ℕ). cnt m i) ec)))
+    pub last-count : (32768 ≤ length m′) × ((c < 4096) × (sizeOf m′ c < 4096))
+    last-count = (omega (arith, inserted-len, j .long), (omega (arith, j .column, ec), omega (arith, inserted-size, j .few, ap (λ (i : ℕ). sizeOf m i) ec)))
 
     pub last-is : (m″ : List ℕ) → m″ ≡ inc m′ c → m″ ≡ linkLast m x
     unfolding linkLast
     last-is m″ h =
-        h ∙ ap (λ (l : List ℕ). inc l c) (g ∙ ap (λ (i : ℕ). joined m x c i) u-at)
-        ∙ ap (λ (i : ℕ). inc (joined m x i (up m (getD m (8192 + x) 0))) i) ec
+        h ∙ ap (λ (l : List ℕ). inc l c) (g ∙ ap (λ (i : ℕ). inserted m x c i) u-at)
+        ∙ ap (λ (i : ℕ). inc (inserted m x i (up m (columnOf m x))) i) ec
 
 pub headed-len : (m : List ℕ) (i : ℕ) → length (headed m i) ≡ length m
 unfolding headed
 headed-len m i = simp length-set
 
--- ---- what lies behind the counts stays as it is
-
-pub headed-high : (m : List ℕ) (i : ℕ) → i < 4096 → (k : ℕ) → 24576 ≤ k → getD (headed m i) k 0 ≡ getD m k 0
-unfolding headed
-headed-high m i l k h = getD-set-other (set (set m i i) (4096 + i) i) (20480 + i) k 0 0 (omega arith) ∙ two-other m i i (4096 + i) i k (omega arith) (omega arith)
-
-pub linkLast-high : {m : List ℕ} {x : ℕ} → Joinable m x → (k : ℕ) → 24576 ≤ k → getD (linkLast m x) k 0 ≡ getD m k 0
+pub linkLast-still : {m : List ℕ} {x : ℕ} → Joinable m x → (k : ℕ) → Still k → getD (linkLast m x) k 0 ≡ getD m k 0
 unfolding linkLast
-linkLast-high {m} {x} j k h =
-    inc-other (joined m x (getD m (8192 + x) 0) (up m (getD m (8192 + x) 0))) (getD m (8192 + x) 0) k (omega (arith, j .column))
-    ∙ joined-high m x (getD m (8192 + x) 0) (up m (getD m (8192 + x) 0)) (j .small) (j .column) (j .last) k (omega arith)
+linkLast-still {m} {x} j k h =
+    inc-other (inserted m x (columnOf m x) (up m (columnOf m x))) (columnOf m x) k (h .size (columnOf m x) (j .column))
+    ∙ inserted-beside m x (columnOf m x) (up m (columnOf m x)) (j .small) (j .column) (j .last) k (h .up) (h .down)

@@ -3,12 +3,11 @@ use Prim.Native.Nat.{ℕ, zero, suc, _+_, _≤_, _<_}
 use native.Mathlib.Omega.{arith}
 use native.Mathlib.Numerals.{add-one}
 use mathlib.Core.Path.{_≡_, refl, sym, ap, _∙_}
-use mathlib.Core.Bool.{Bool, true, false}
+use mathlib.Core.Bool.{Bool, true, false, cond}
 use lib.Dec.{ltb}
 use borrow.Author.Tests.{ltb-true}
-use Rattle.links.specs.Cover.{pick}
+use Rattle.lists.proofs.TestLaws.{by-bool, cond-true, cond-false, both-left}
 use Rattle.links.specs.Search.{better, least, pivot}
-use Rattle.links.proofs.Tally.{by-bool, pick-true, pick-false, both-left}
 
 module _ (f : ℕ → ℕ) {i n fewest at : ℕ} {b : Bool} (p : fewest ≡ least f i) (q : at ≡ pivot f i) (e : n ≡ f i) (r : b ≡ better n fewest) where
   test : (v : Bool) → b ≡ v → better (f i) (least f i) ≡ v
@@ -18,16 +17,16 @@ module _ (f : ℕ → ℕ) {i n fewest at : ℕ} {b : Bool} (p : fewest ≡ leas
   unfolding least pivot
   pivot-taken h =
       rw (add-one i) (
-        e ∙ sym (pick-true (better (f i) (least f i)) (f i) (least f i) (test true h)),
-        sym (pick-true (better (f i) (least f i)) i (pivot f i) (test true h)),
+        e ∙ sym (cond-true (better (f i) (least f i)) (f i) (least f i) (test true h)),
+        sym (cond-true (better (f i) (least f i)) i (pivot f i) (test true h)),
       )
 
   pub pivot-left : b ≡ false → (fewest ≡ least f (i + 1)) × (at ≡ pivot f (i + 1))
   unfolding least pivot
   pivot-left h =
       rw (add-one i) (
-        p ∙ sym (pick-false (better (f i) (least f i)) (f i) (least f i) (test false h)),
-        q ∙ sym (pick-false (better (f i) (least f i)) i (pivot f i) (test false h)),
+        p ∙ sym (cond-false (better (f i) (least f i)) (f i) (least f i) (test false h)),
+        q ∙ sym (cond-false (better (f i) (least f i)) i (pivot f i) (test false h)),
       )
 
 pub pivot-start : (f : ℕ → ℕ) → (_≡_ {A = ℕ} 65536 (least f 0)) × (_≡_ {A = ℕ} 4096 (pivot f 0))
@@ -41,7 +40,7 @@ least-same f g zero h = refl
 least-same f g (suc n) h =
     let a : f n ≡ g n = h n (omega arith) in
     let b : least f n ≡ least g n = least-same f g n (λ k l. h k (omega arith)) in
-    ap (λ (k : ℕ). pick (better k (least f n)) k (least f n)) a ∙ ap (λ (k : ℕ). pick (better (g n) k) (g n) k) b
+    ap (λ (k : ℕ). cond (better k (least f n)) k (least f n)) a ∙ ap (λ (k : ℕ). cond (better (g n) k) (g n) k) b
 
 pub pivot-same : (f g : ℕ → ℕ) (n : ℕ) → ((k : ℕ) → k < n → f k ≡ g k) → pivot f n ≡ pivot g n
 unfolding pivot
@@ -50,9 +49,9 @@ pivot-same f g (suc n) h =
     let a : f n ≡ g n = h n (omega arith) in
     let b : least f n ≡ least g n = least-same f g n (λ k l. h k (omega arith)) in
     let c : pivot f n ≡ pivot g n = pivot-same f g n (λ k l. h k (omega arith)) in
-    ap (λ (k : ℕ). pick (better k (least f n)) n (pivot f n)) a
-    ∙ ap (λ (k : ℕ). pick (better (g n) k) n (pivot f n)) b
-    ∙ ap (λ (k : ℕ). pick (better (g n) (least g n)) n k) c
+    ap (λ (k : ℕ). cond (better k (least f n)) n (pivot f n)) a
+    ∙ ap (λ (k : ℕ). cond (better (g n) k) n (pivot f n)) b
+    ∙ ap (λ (k : ℕ). cond (better (g n) (least g n)) n k) c
 
 -- a column that is found has a row
 pub pivot-some : (f : ℕ → ℕ) (n : ℕ) → (pivot f n ≡ 4096 → ⊥) → (pivot f n < n) × (1 ≤ f (pivot f n))
@@ -61,8 +60,8 @@ pivot-some f zero h = absurd (h refl)
 pivot-some f (suc n) h =
     let rest = pivot-some f n in
     by-bool (better (f n) (least f n))
-    (λ e. rw (pick-true (better (f n) (least f n)) n (pivot f n) e) (omega arith, ltb-true 0 (f n) (both-left (ltb 0 (f n)) (ltb (f n) (least f n)) e)))
+    (λ e. rw (cond-true (better (f n) (least f n)) n (pivot f n) e) (omega arith, ltb-true 0 (f n) (both-left (ltb 0 (f n)) (ltb (f n) (least f n)) e)))
     (λ e.
-    let z = pick-false (better (f n) (least f n)) n (pivot f n) e in
+    let z = cond-false (better (f n) (least f n)) n (pivot f n) e in
     let i = rest (λ q. h (z ∙ q)) in
     rw z (omega arith, i .1))

@@ -3,34 +3,35 @@ use Prim.Native.Nat.{ℕ, zero, suc, _+_, _-_, _≤_, _<_}
 use native.Mathlib.Omega.{arith}
 use mathlib.Core.Path.{_≡_, refl, sym, ap, _∙_, subst}
 use mathlib.Core.List.{List}
-use mathlib.Core.Bool.{true}
-use lib.ListN.{length, getD, length-set}
+use mathlib.Core.Bool.{true, cond}
+use lib.ListN.{length, length-set}
 use lib.Dec.{eqb}
-use Rattle.links.specs.Links.{unlink, relink, Table, Fields}
-use Rattle.links.specs.Cover.{pick, dec, inc, hide1, show1, hideTo, hide, here, World, Holds, Hidable, Hidden, hideOne, showOne, One, Back}
-use Rattle.links.proofs.Tally.{tally-le, at-pick}
+use Rattle.lists.proofs.TestLaws.{at-cond}
+use Rattle.links.specs.Links.{firstOf, endOf, unlink, relink, Matrix, Fields}
+use Rattle.links.specs.Cover.{dec, inc, hide1, show1, hideTo, hide, here, Reduced, Holds, Hidable, Hidden, hideOne, showOne, One, Back}
+use Rattle.links.proofs.Tally.{tally-le}
 use Rattle.links.proofs.Rings.{up-size, down-size}
 use Rattle.links.proofs.Hide.{part, show-back, count-pos, one-in-row, hide1-own, dec-length}
 
-hide1-length : (t : Table) (x : ℕ) (m : List ℕ) (y : ℕ) → length (hide1 t x m y) ≡ length m
+hide1-length : (t : Matrix) (x : ℕ) (m : List ℕ) (y : ℕ) → length (hide1 t x m y) ≡ length m
 unfolding hide1 unlink
-hide1-length t x m y = dec-length (pick (eqb y x) m (unlink m y)) (t .col y) ∙ at-pick (λ (l : List ℕ). length l ≡ length m) y x m (unlink m y) (λ e. refl) (λ e. simp length-set)
+hide1-length t x m y = dec-length (cond (eqb y x) m (unlink m y)) (t .col y) ∙ at-cond (λ (l : List ℕ). length l ≡ length m) y x m (unlink m y) (λ e. refl) (λ e. simp length-set)
 
-pub hideTo-length : (t : Table) (x : ℕ) (m : List ℕ) (n : ℕ) → length (hideTo t x m n) ≡ length m
+pub hideTo-length : (t : Matrix) (x : ℕ) (m : List ℕ) (n : ℕ) → length (hideTo t x m n) ≡ length m
 unfolding hideTo
 hideTo-length t x m zero = refl
 hideTo-length t x m (suc n) = hide1-length t x (hideTo t x m n) (t .lo x + n) ∙ hideTo-length t x m n
 
 pub hidable-small : {m : List ℕ} {x : ℕ} → Hidable m x → (32768 ≤ length m) × (x < 4096)
-hidable-small {m} {x} h = (h .holds .fields .long, omega (arith, h .holds .node x (h .live), h .w .law .fits))
+hidable-small {m} {x} h = (h .holds .fields .long, omega (arith, h .holds .node x (h .live), h .w .law .small))
 
 -- what is hidden of the row of x is what stands before y
-pub record Rowed (w : World) (m₀ : List ℕ) (x : ℕ) (m : List ℕ) (y : ℕ) : Type 0 where
+pub record Rowed (w : Reduced) (m₀ : List ℕ) (x : ℕ) (m : List ℕ) (y : ℕ) : Type 0 where
   pub low : w .t .lo x ≤ y
   pub high : y ≤ w .t .hi x
   pub so : m ≡ hideTo (w .t) x m₀ (y - w .t .lo x)
 
-module _ (w : World) {m₀ : List ℕ} (s : Holds w m₀) {x : ℕ} (lx : w .liv x ≡ true) where
+module _ (w : Reduced) {m₀ : List ℕ} (s : Holds w m₀) {x : ℕ} (lx : w .alive x ≡ true) where
   row-low : (w .t .cols ≤ w .t .lo x) × (w .t .lo x ≤ x)
   row-low = w .law .low x (s .node x lx .0) (s .node x lx .1)
 
@@ -51,21 +52,21 @@ module _ (w : World) {m₀ : List ℕ} (s : Holds w m₀) {x : ℕ} (lx : w .liv
       record {
         linked = record {
           long = p .fields .long;
-          small = omega (arith, w .law .fits);
+          small = omega (arith, w .law .small);
           above = up-size (w .law) (p .fields) (p .rings) y ay ny;
           below = down-size (w .law) (p .fields) (p .rings) y ay ny;
         };
-        column = omega (arith, c, w .law .inside y ny ly, w .law .some, w .law .fits);
+        column = omega (arith, c, w .law .inside y ny ly, w .law .some, w .law .small);
         some = rw c (rw kept (count-pos (w .law) s x lx y (omega arith) h));
       }
 
   hideOne-is : (m : List ℕ) (y : ℕ) → y < w .t .nodes → Fields (w .t) m → hideOne m x y ≡ hide1 (w .t) x m y
   unfolding hideOne hide1
-  hideOne-is m y h f = ap (λ (j : ℕ). dec (pick (eqb y x) m (unlink m y)) j) (f .col y h)
+  hideOne-is m y h f = ap (λ (j : ℕ). dec (cond (eqb y x) m (unlink m y)) j) (f .col y h)
 
   showOne-is : (m : List ℕ) (y : ℕ) → y < w .t .nodes → Fields (w .t) m → showOne m x y ≡ show1 (w .t) x m y
   unfolding showOne show1
-  showOne-is m y h f = ap (λ (j : ℕ). pick (eqb y x) (inc m j) (relink (inc m j) y)) (f .col y h)
+  showOne-is m y h f = ap (λ (j : ℕ). cond (eqb y x) (inc m j) (relink (inc m j) y)) (f .col y h)
 
   hideTo-next : (n : ℕ) → hideTo (w .t) x m₀ (suc n) ≡ hide1 (w .t) x (hideTo (w .t) x m₀ n) (w .t .lo x + n)
   unfolding hideTo
@@ -93,12 +94,12 @@ module _ (w : World) {m₀ : List ℕ} (s : Holds w m₀) {x : ℕ} (lx : w .liv
       record {
         linked = record {
           long = p′ .fields .long;
-          small = omega (arith, w .law .fits);
+          small = omega (arith, w .law .small);
           above = rw (hideTo-next n, own .0) (up-size (w .law) (p .fields) (p .rings) y ay ny);
           below = rw (hideTo-next n, own .1) (down-size (w .law) (p .fields) (p .rings) y ay ny);
         };
-        column = omega (arith, c, w .law .some, w .law .fits);
-        few = rw c (omega (arith, less, s .count (w .t .col y) inside, tally-le (here (w .t) (w .liv) (w .t .col y)) (w .t .nodes), w .law .fits, count-pos (w .law) s x lx y (omega arith) h));
+        column = omega (arith, c, w .law .some, w .law .small);
+        few = rw c (omega (arith, less, s .count (w .t .col y) inside, tally-le (here (w .t) (w .alive) (w .t .col y)) (w .t .nodes), w .law .small, count-pos (w .law) s x lx y (omega arith) h));
       }
 
   at-hidden-next : (n : ℕ) → w .t .lo x + n < w .t .hi x → showOne (hideTo (w .t) x m₀ (suc n)) x (w .t .lo x + n) ≡ hideTo (w .t) x m₀ n
@@ -108,7 +109,7 @@ module _ (w : World) {m₀ : List ℕ} (s : Holds w m₀) {x : ℕ} (lx : w .liv
 
   -- ---- the loops
 
-  pub hiding-start : (y : ℕ) → y ≡ getD m₀ (12288 + x) 0 → Rowed w m₀ x m₀ y
+  pub hiding-start : (y : ℕ) → y ≡ firstOf m₀ x → Rowed w m₀ x m₀ y
   unfolding hideTo
   hiding-start y e =
       let l : y ≡ w .t .lo x = e ∙ s .fields .lo x (s .node x lx .1) in
@@ -118,7 +119,7 @@ module _ (w : World) {m₀ : List ℕ} (s : Holds w m₀) {x : ℕ} (lx : w .liv
         so = sym (ap (λ (n : ℕ). hideTo (w .t) x m₀ n) (let z : y - w .t .lo x ≡ 0 = omega arith in z));
       }
 
-  pub row-end : (e : ℕ) → e ≡ getD m₀ (16384 + x) 0 → e ≡ w .t .hi x
+  pub row-end : (e : ℕ) → e ≡ endOf m₀ x → e ≡ w .t .hi x
   row-end e q = q ∙ s .fields .hi x (s .node x lx .1)
 
   module _ {m : List ℕ} {y : ℕ} (r : Rowed w m₀ x m y) where
@@ -179,29 +180,29 @@ module _ (w : World) {m₀ : List ℕ} (s : Holds w m₀) {x : ℕ} (lx : w .liv
     unfolding hideTo
     showing-end h = r .so ∙ ap (λ (k : ℕ). hideTo (w .t) x m₀ k) (let z : y - w .t .lo x ≡ 0 = omega arith in z)
 
-  pub showing-start : {m : List ℕ} → m ≡ hide (w .t) x m₀ → (y : ℕ) → y ≡ getD m (16384 + x) 0 → Rowed w m₀ x m y
+  pub showing-start : {m : List ℕ} → m ≡ hide (w .t) x m₀ → (y : ℕ) → y ≡ endOf m x → Rowed w m₀ x m y
   unfolding hide
   showing-start {m} q y e =
       let p = part (w .law) s x lx (w .t .hi x - w .t .lo x) (omega (arith, row-low, row-high)) in
-      let z : y ≡ w .t .hi x = e ∙ ap (λ (l : List ℕ). getD l (16384 + x) 0) q ∙ p .fields .hi x (s .node x lx .1) in
+      let z : y ≡ w .t .hi x = e ∙ ap (λ (l : List ℕ). endOf l x) q ∙ p .fields .hi x (s .node x lx .1) in
       record {
         low = omega (arith, row-low, row-high);
         high = omega arith;
         so = q ∙ ap (λ (k : ℕ). hideTo (w .t) x m₀ k) (omega arith);
       }
 
-  pub row-first : {m : List ℕ} → m ≡ hide (w .t) x m₀ → (y : ℕ) → y ≡ getD m (12288 + x) 0 → y ≡ w .t .lo x
+  pub row-first : {m : List ℕ} → m ≡ hide (w .t) x m₀ → (y : ℕ) → y ≡ firstOf m x → y ≡ w .t .lo x
   unfolding hide
   row-first {m} q y e =
       let p = part (w .law) s x lx (w .t .hi x - w .t .lo x) (omega (arith, row-low, row-high)) in
-      e ∙ ap (λ (l : List ℕ). getD l (12288 + x) 0) q ∙ p .fields .lo x (s .node x lx .1)
+      e ∙ ap (λ (l : List ℕ). firstOf l x) q ∙ p .fields .lo x (s .node x lx .1)
 
 pub hidden-small : {m : List ℕ} {x : ℕ} → Hidden m x → (32768 ≤ length m) × (x < 4096)
 unfolding hide
 hidden-small {m} {x} h =
-    let r = showing-start (h .w) (h .holds) (h .live) (h .so) (getD m (16384 + x) 0) refl in
-    (omega (arith, rowed-length (h .w) (h .holds) (h .live) r, h .holds .fields .long), omega (arith, h .holds .node x (h .live), h .w .law .fits))
+    let r = showing-start (h .w) (h .holds) (h .live) (h .so) (endOf m x) refl in
+    (omega (arith, rowed-length (h .w) (h .holds) (h .live) r, h .holds .fields .long), omega (arith, h .holds .node x (h .live), h .w .law .small))
 
-pub hide-length : (t : Table) (x : ℕ) (m : List ℕ) → length (hide t x m) ≡ length m
+pub hide-length : (t : Matrix) (x : ℕ) (m : List ℕ) → length (hide t x m) ≡ length m
 unfolding hide
 hide-length t x m = hideTo-length t x m (t .hi x - t .lo x)

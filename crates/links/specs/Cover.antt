@@ -2,14 +2,10 @@
 use Prim.Native.Nat.{ℕ, zero, suc, _+_, _-_, _≤_, _<_}
 use mathlib.Core.Path.{_≡_}
 use mathlib.Core.List.{List}
-use mathlib.Core.Bool.{Bool, true, false}
+use mathlib.Core.Bool.{Bool, true, false, cond}
 use lib.ListN.{length, getD, set}
 use lib.Dec.{eqb}
-use Rattle.links.specs.Links.{up, down, unlink, relink, Table, LawfulTable, Fields, Rings, without}
-
-abbrev pub pick : {A : Type 0} → Bool → A → A → A
-pick true a b = a
-pick false a b = b
+use Rattle.links.specs.Links.{up, down, columnOf, sizeOf, atSize, unlink, relink, Matrix, LawfulMatrix, Fields, Rings, without}
 
 abbrev pub bit : Bool → ℕ
 bit true = 1
@@ -20,56 +16,53 @@ unfoldable pub tally : (ℕ → Bool) → ℕ → ℕ
 tally p zero = 0
 tally p (suc n) = bit (p n) + tally p n
 
--- the column's count of rows still possible, at 20480 + j
-abbrev pub cnt : List ℕ → ℕ → ℕ
-cnt m j = getD m (20480 + j) 0
-
+-- one possible row less in column j, and one more
 unfoldable pub dec : List ℕ → ℕ → List ℕ
-dec m j = set m (20480 + j) (cnt m j - 1)
+dec m j = set m (atSize j) (sizeOf m j - 1)
 
 unfoldable pub inc : List ℕ → ℕ → List ℕ
-inc m j = set m (20480 + j) (cnt m j + 1)
+inc m j = set m (atSize j) (sizeOf m j + 1)
 
 -- one node of the row of x: its column counts one row less, and it leaves its ring unless it is x itself
-unfoldable pub hide1 : Table → ℕ → List ℕ → ℕ → List ℕ
-hide1 t x m y = dec (pick (eqb y x) m (unlink m y)) (t .col y)
+unfoldable pub hide1 : Matrix → ℕ → List ℕ → ℕ → List ℕ
+hide1 t x m y = dec (cond (eqb y x) m (unlink m y)) (t .col y)
 
-unfoldable pub show1 : Table → ℕ → List ℕ → ℕ → List ℕ
-show1 t x m y = pick (eqb y x) (inc m (t .col y)) (relink (inc m (t .col y)) y)
+unfoldable pub show1 : Matrix → ℕ → List ℕ → ℕ → List ℕ
+show1 t x m y = cond (eqb y x) (inc m (t .col y)) (relink (inc m (t .col y)) y)
 
 -- the first n nodes of the row of x
-unfoldable pub hideTo : Table → ℕ → List ℕ → ℕ → List ℕ
+unfoldable pub hideTo : Matrix → ℕ → List ℕ → ℕ → List ℕ
 hideTo t x m zero = m
 hideTo t x m (suc n) = hide1 t x (hideTo t x m n) (t .lo x + n)
 
 -- the whole row of x hidden from every column but x's own
-unfoldable pub hide : Table → ℕ → List ℕ → List ℕ
+unfoldable pub hide : Matrix → ℕ → List ℕ → List ℕ
 hide t x m = hideTo t x m (t .hi x - t .lo x)
 
 -- what is active after `hideTo`
-unfoldable pub act1 : ℕ → (ℕ → Bool) → ℕ → ℕ → Bool
-act1 x act y k = pick (eqb y x) (act k) (without act y k)
+unfoldable pub active1 : ℕ → (ℕ → Bool) → ℕ → ℕ → Bool
+active1 x active y k = cond (eqb y x) (active k) (without active y k)
 
-unfoldable pub actTo : Table → ℕ → (ℕ → Bool) → ℕ → ℕ → Bool
-actTo t x act zero k = act k
-actTo t x act (suc n) k = act1 x (actTo t x act n) (t .lo x + n) k
+unfoldable pub activeTo : Matrix → ℕ → (ℕ → Bool) → ℕ → ℕ → Bool
+activeTo t x active zero k = active k
+activeTo t x active (suc n) k = active1 x (activeTo t x active n) (t .lo x + n) k
 
 -- a node of a live row in column j
-unfoldable pub here : Table → (ℕ → Bool) → ℕ → ℕ → Bool
-here t liv j k = pick (liv k) (eqb (t .col k) j) false
+unfoldable pub here : Matrix → (ℕ → Bool) → ℕ → ℕ → Bool
+here t alive j k = cond (alive k) (eqb (t .col k) j) false
 
 -- the live nodes without those of the row of x
-unfoldable pub lessRow : Table → (ℕ → Bool) → ℕ → ℕ → Bool
-lessRow t liv x k = pick (eqb (t .lo k) (t .lo x)) false (liv k)
+unfoldable pub lessRow : Matrix → (ℕ → Bool) → ℕ → ℕ → Bool
+lessRow t alive x k = cond (eqb (t .lo k) (t .lo x)) false (alive k)
 
 -- The memory m holds the rings of the active nodes; the nodes of live rows are active; each column counts its live rows.
-pub record Mid (t : Table) (liv act : ℕ → Bool) (m : List ℕ) : Type 0 where
+pub record Consistent (t : Matrix) (alive active : ℕ → Bool) (m : List ℕ) : Type 0 where
   pub fields : Fields t m
-  pub rings : Rings t act m
-  pub node : (x : ℕ) → liv x ≡ true → (t .cols ≤ x) × (x < t .nodes)
-  pub whole : (x y : ℕ) → liv x ≡ true → t .lo x ≤ y → y < t .hi x → liv y ≡ true
-  pub there : (x : ℕ) → liv x ≡ true → act x ≡ true
-  pub count : (j : ℕ) → j < t .cols → cnt m j ≡ tally (here t liv j) (t .nodes)
+  pub rings : Rings t active m
+  pub node : (x : ℕ) → alive x ≡ true → (t .cols ≤ x) × (x < t .nodes)
+  pub whole : (x y : ℕ) → alive x ≡ true → t .lo x ≤ y → y < t .hi x → alive y ≡ true
+  pub there : (x : ℕ) → alive x ≡ true → active x ≡ true
+  pub count : (j : ℕ) → j < t .cols → sizeOf m j ≡ tally (here t alive j) (t .nodes)
 
 -- What a function that changes the links of node x asks: room, and neighbours that are nodes.
 pub record Linked (m : List ℕ) (x : ℕ) : Type 0 where
@@ -78,104 +71,104 @@ pub record Linked (m : List ℕ) (x : ℕ) : Type 0 where
   pub above : up m x < 4096
   pub below : down m x < 4096
 
--- A table with its live rows and active nodes.
-pub record World : Type 0 where
-  pub t : Table
-  pub law : LawfulTable t
-  pub liv : ℕ → Bool
-  pub act : ℕ → Bool
+-- A matrix reduced to the rows that are still possible: whose nodes are alive, and which nodes stand in rings, the active ones.
+pub record Reduced : Type 0 where
+  pub t : Matrix
+  pub law : LawfulMatrix t
+  pub alive : ℕ → Bool
+  pub active : ℕ → Bool
 
-abbrev pub Holds : World → List ℕ → Type 0
-Holds w m = Mid (w .t) (w .liv) (w .act) m
+abbrev pub Holds : Reduced → List ℕ → Type 0
+Holds w m = Consistent (w .t) (w .alive) (w .active) m
 
--- what `hide_row` asks, and what `show_row` asks: some world that is so
+-- what `hide_row` asks, and what `show_row` asks: some reduced matrix that is so
 pub record Hidable (m : List ℕ) (x : ℕ) : Type 0 where
-  pub w : World
+  pub w : Reduced
   pub holds : Holds w m
-  pub live : w .liv x ≡ true
+  pub live : w .alive x ≡ true
 
 pub record Hidden (m : List ℕ) (x : ℕ) : Type 0 where
-  pub w : World
+  pub w : Reduced
   pub old : List ℕ
   pub holds : Holds w old
-  pub live : w .liv x ≡ true
+  pub live : w .alive x ≡ true
   pub so : m ≡ hide (w .t) x old
 
 -- `hide1` and `show1` with the column as the memory has it
 unfoldable pub hideOne : List ℕ → ℕ → ℕ → List ℕ
-hideOne m x y = dec (pick (eqb y x) m (unlink m y)) (getD m (8192 + y) 0)
+hideOne m x y = dec (cond (eqb y x) m (unlink m y)) (columnOf m y)
 
 unfoldable pub showOne : List ℕ → ℕ → ℕ → List ℕ
-showOne m x y = pick (eqb y x) (inc m (getD m (8192 + y) 0)) (relink (inc m (getD m (8192 + y) 0)) y)
+showOne m x y = cond (eqb y x) (inc m (columnOf m y)) (relink (inc m (columnOf m y)) y)
 
 pub record One (m : List ℕ) (y : ℕ) : Type 0 where
   pub linked : Linked m y
-  pub column : getD m (8192 + y) 0 < 4096
-  pub some : 1 ≤ cnt m (getD m (8192 + y) 0)
+  pub column : columnOf m y < 4096
+  pub some : 1 ≤ sizeOf m (columnOf m y)
 
 pub record Back (m : List ℕ) (y : ℕ) : Type 0 where
   pub linked : Linked m y
-  pub column : getD m (8192 + y) 0 < 4096
-  pub few : cnt m (getD m (8192 + y) 0) < 4096
+  pub column : columnOf m y < 4096
+  pub few : sizeOf m (columnOf m y) < 4096
 
 -- ---- covering column c: each live row that meets it is hidden, in ascending order. Below n:
-unfoldable pub coverTo : Table → (ℕ → Bool) → ℕ → List ℕ → ℕ → List ℕ
-coverTo t liv c m zero = m
-coverTo t liv c m (suc n) = pick (here t liv c n) (hide t n (coverTo t liv c m n)) (coverTo t liv c m n)
+unfoldable pub coverTo : Matrix → (ℕ → Bool) → ℕ → List ℕ → ℕ → List ℕ
+coverTo t alive c m zero = m
+coverTo t alive c m (suc n) = cond (here t alive c n) (hide t n (coverTo t alive c m n)) (coverTo t alive c m n)
 
 -- the live nodes and the active ones after that
-unfoldable pub livTo : Table → (ℕ → Bool) → ℕ → ℕ → ℕ → Bool
-livTo t liv c zero = liv
-livTo t liv c (suc n) = pick (here t liv c n) (lessRow t (livTo t liv c n) n) (livTo t liv c n)
+unfoldable pub aliveTo : Matrix → (ℕ → Bool) → ℕ → ℕ → ℕ → Bool
+aliveTo t alive c zero = alive
+aliveTo t alive c (suc n) = cond (here t alive c n) (lessRow t (aliveTo t alive c n) n) (aliveTo t alive c n)
 
-unfoldable pub actsTo : Table → (ℕ → Bool) → ℕ → (ℕ → Bool) → ℕ → ℕ → Bool
-actsTo t liv c act zero = act
-actsTo t liv c act (suc n) = pick (here t liv c n) (actTo t n (actsTo t liv c act n) (t .hi n - t .lo n)) (actsTo t liv c act n)
+unfoldable pub activesTo : Matrix → (ℕ → Bool) → ℕ → (ℕ → Bool) → ℕ → ℕ → Bool
+activesTo t alive c active zero = active
+activesTo t alive c active (suc n) = cond (here t alive c n) (activeTo t n (activesTo t alive c active n) (t .hi n - t .lo n)) (activesTo t alive c active n)
 
-abbrev pub cover : World → ℕ → List ℕ → List ℕ
-cover w c m = coverTo (w .t) (w .liv) c m (w .t .nodes)
+abbrev pub cover : Reduced → ℕ → List ℕ → List ℕ
+cover w c m = coverTo (w .t) (w .alive) c m (w .t .nodes)
 
 -- column c's ring holds live nodes alone
-abbrev pub Open : World → ℕ → Type 0
-Open w c = (k : ℕ) → w .act k ≡ true → w .t .col k ≡ c → w .t .cols ≤ k → w .liv k ≡ true
+abbrev pub Open : Reduced → ℕ → Type 0
+Open w c = (k : ℕ) → w .active k ≡ true → w .t .col k ≡ c → w .t .cols ≤ k → w .alive k ≡ true
 
 pub record Coverable (m : List ℕ) (c : ℕ) : Type 0 where
-  pub w : World
+  pub w : Reduced
   pub holds : Holds w m
   pub column : c < w .t .cols
   pub isOpen : Open w c
 
 pub record Covered (m : List ℕ) (c : ℕ) : Type 0 where
-  pub w : World
+  pub w : Reduced
   pub old : List ℕ
   pub holds : Holds w old
   pub column : c < w .t .cols
   pub isOpen : Open w c
   pub so : m ≡ cover w c old
 
--- the world after column c is covered
-abbrev pub coverW : World → ℕ → World
-coverW w c =
-    record { t = w .t; law = w .law; liv = livTo (w .t) (w .liv) c (w .t .nodes); act = actsTo (w .t) (w .liv) c (w .act) (w .t .nodes) }
+-- the matrix after column c is covered
+abbrev pub afterCover : Reduced → ℕ → Reduced
+afterCover w c =
+    record { t = w .t; law = w .law; alive = aliveTo (w .t) (w .alive) c (w .t .nodes); active = activesTo (w .t) (w .alive) c (w .active) (w .t .nodes) }
 
--- ---- covering the columns of the n nodes from a on: the world after it, and the memory
-unfoldable pub livRun : Table → (ℕ → Bool) → ℕ → ℕ → ℕ → Bool
-livRun t liv a zero = liv
-livRun t liv a (suc n) = livTo t (livRun t liv a n) (t .col (a + n)) (t .nodes)
+-- ---- covering the columns of the n nodes from a on: the matrix after it, and the memory
+unfoldable pub aliveRun : Matrix → (ℕ → Bool) → ℕ → ℕ → ℕ → Bool
+aliveRun t alive a zero = alive
+aliveRun t alive a (suc n) = aliveTo t (aliveRun t alive a n) (t .col (a + n)) (t .nodes)
 
-unfoldable pub actRun : Table → (ℕ → Bool) → (ℕ → Bool) → ℕ → ℕ → ℕ → Bool
-actRun t liv act a zero = act
-actRun t liv act a (suc n) = actsTo t (livRun t liv a n) (t .col (a + n)) (actRun t liv act a n) (t .nodes)
+unfoldable pub activeRun : Matrix → (ℕ → Bool) → (ℕ → Bool) → ℕ → ℕ → ℕ → Bool
+activeRun t alive active a zero = active
+activeRun t alive active a (suc n) = activesTo t (aliveRun t alive a n) (t .col (a + n)) (activeRun t alive active a n) (t .nodes)
 
-abbrev pub worldTo : World → ℕ → ℕ → World
-worldTo w a n = record { t = w .t; law = w .law; liv = livRun (w .t) (w .liv) a n; act = actRun (w .t) (w .liv) (w .act) a n }
+abbrev pub reducedTo : Reduced → ℕ → ℕ → Reduced
+reducedTo w a n = record { t = w .t; law = w .law; alive = aliveRun (w .t) (w .alive) a n; active = activeRun (w .t) (w .alive) (w .active) a n }
 
-unfoldable pub runTo : World → ℕ → List ℕ → ℕ → List ℕ
+unfoldable pub runTo : Reduced → ℕ → List ℕ → ℕ → List ℕ
 runTo w a m zero = m
-runTo w a m (suc n) = cover (worldTo w a n) (w .t .col (a + n)) (runTo w a m n)
+runTo w a m (suc n) = cover (reducedTo w a n) (w .t .col (a + n)) (runTo w a m n)
 
 -- nodes a to b - 1: their columns are open, and no two of them are one
-pub record Run (w : World) (a b : ℕ) : Type 0 where
+pub record Run (w : Reduced) (a b : ℕ) : Type 0 where
   pub order : a ≤ b
   pub low : w .t .cols ≤ a
   pub high : b ≤ w .t .nodes
@@ -183,12 +176,12 @@ pub record Run (w : World) (a b : ℕ) : Type 0 where
   pub once : (y z : ℕ) → a ≤ y → y < b → a ≤ z → z < b → w .t .col y ≡ w .t .col z → y ≡ z
 
 pub record Runnable (m : List ℕ) (a b : ℕ) : Type 0 where
-  pub w : World
+  pub w : Reduced
   pub holds : Holds w m
   pub run : Run w a b
 
 pub record Ran (m : List ℕ) (a b : ℕ) : Type 0 where
-  pub w : World
+  pub w : Reduced
   pub old : List ℕ
   pub holds : Holds w old
   pub run : Run w a b

@@ -1,7 +1,7 @@
 -- The numbers of a mask: a bit of `&`, `|` and `1 << k`; two words; masks that are apart; and masks with the same numbers, which are equal. Assumes nothing.
 use mathlib.Core.Path.{_≡_, refl, sym, ap, _∙_, fun-ext}
 use mathlib.Core.Bool.{Bool, true, false, not, _&&_, _||_, true≢false, false≢true}
-use mathlib.Core.Logic.{_⊎_, inl, inr, ⊎-elim}
+use mathlib.Core.Logic.{_⊎_, ⊎-elim}
 use Prim.Native.Nat.{ℕ, zero, suc, min, max, _+_, _-_, _*_, _/_, _%_, _^_, _≤_, _<_}
 use native.Mathlib.Nat.{
   one-mul,
@@ -16,12 +16,13 @@ use native.Mathlib.Nat.{
   le-of-suc-le-suc,
   eq-or-lt-of-le,
 }
-use native.Mathlib.Decide.{decLt, ℕ-discrete}
+use native.Mathlib.Decide.{ℕ-discrete}
 use native.Mathlib.Omega.{arith}
-use borrow.Author.Tests.{eq-eqb, ne-eqb, eqb-false, lt-ltb, le-ltb}
+use borrow.Author.Tests.{eq-eqb, ne-eqb, lt-ltb, le-ltb}
 use lib.Dec.{eqb}
 use lib.Pow.{pow-pos, pow-add, pow-lt, pow-mono, shl-exact, shl-shr, shr-shr}
 use lib.Bits.{bitAnd, bitOr, and-shr, or-shr, and-step, or-step, and-le-r, or-zero-r}
+use Rattle.lists.proofs.TestLaws.{not-true, eqb-same, lt-or-ge}
 use Rattle.masks.specs.declared.Mask.{Mask}
 use Rattle.masks.specs.Masks.{hit, hit2, has, nothing, only, either, apart, SameCells}
 
@@ -33,10 +34,6 @@ hit-no m k e = ne-eqb (m / 2 ^ k % 2) 1 (λ h. omega arith)
 pub hit-yes : (m k : ℕ) → (m / 2 ^ k % 2 ≡ 0 → ⊥) → hit m k ≡ true
 unfolding hit
 hit-yes m k e = eq-eqb (m / 2 ^ k % 2) 1 (omega arith)
-
-pub no-hit : (m k : ℕ) → hit m k ≡ false → m / 2 ^ k % 2 ≡ 0
-unfolding hit
-no-hit m k e = let h : m / 2 ^ k % 2 ≡ 1 → ⊥ = eqb-false (m / 2 ^ k % 2) 1 e in omega arith
 
 pub hit-zero : (k : ℕ) → hit 0 k ≡ false
 hit-zero k = hit-no 0 k (rw (zero-div (2 ^ k)))
@@ -83,13 +80,6 @@ pub hit2-high : (a b k : ℕ) → 64 ≤ k → hit2 a b k ≡ hit b (k - 64)
 unfolding hit2
 hit2-high a b k l = rw (le-ltb k 64 l)
 
-pub lt-or-ge : (a b : ℕ) → (a < b) ⊎ (b ≤ a)
-lt-or-ge a b = go (decLt a b)
-  where
-    go : Dec (a < b) → (a < b) ⊎ (b ≤ a)
-    go (yes h) = inl h
-    go (no h) = inr (omega arith)
-
 hit2-or-at : (a b c d k : ℕ) → hit2 (bitOr a c) (bitOr b d) k ≡ (hit2 a b k || hit2 c d k)
 hit2-or-at a b c d k =
     ⊎-elim (λ (l : k < 64). rw (hit2-low (bitOr a c) (bitOr b d) k l, hit2-low a b k l, hit2-low c d k l) (hit-or a c k))
@@ -133,13 +123,6 @@ hit-one k i =
 pub one-shl : (k : ℕ) → k < 64 → 1 * 2 ^ k % 2 ^ 64 ≡ 2 ^ k
 one-shl k l = shl-exact {a = 1} 1 k 64 (omega arith) (omega arith) ∙ one-mul (2 ^ k)
 
-same-test : (a b c d : ℕ) → (a ≡ b → c ≡ d) → (c ≡ d → a ≡ b) → eqb a b ≡ eqb c d
-same-test a b c d f g = go (ℕ-discrete a b)
-  where
-    go : Dec (a ≡ b) → eqb a b ≡ eqb c d
-    go (yes e) = eq-eqb a b e ∙ sym (eq-eqb c d (f e))
-    go (no e) = ne-eqb a b e ∙ sym (ne-eqb c d (λ q. e (g q)))
-
 one-low : (k : ℕ) → k < 64 → hit2 (2 ^ k) 0 ≡ only k
 unfolding only
 one-low k l =
@@ -152,7 +135,7 @@ unfolding only
 one-high k l =
     fun-ext λ i.
     ⊎-elim (λ (h : i < 64). hit2-low 0 (2 ^ (k - 64)) i h ∙ hit-zero i ∙ sym (ne-eqb i k (λ q. omega arith)))
-    (λ (h : 64 ≤ i). hit2-high 0 (2 ^ (k - 64)) i h ∙ hit-one (k - 64) (i - 64) ∙ same-test (i - 64) (k - 64) i k (λ e. omega arith) (λ e. omega arith))
+    (λ (h : 64 ≤ i). hit2-high 0 (2 ^ (k - 64)) i h ∙ hit-one (k - 64) (i - 64) ∙ eqb-same (i - 64) (k - 64) i k (λ e. omega arith) (λ e. omega arith))
     (lt-or-ge i 64)
 
 pub cell-low : (a b k : ℕ) → k < 64 → hit2 (bitOr a (1 * 2 ^ k % 2 ^ 64)) b ≡ either (hit2 a b) (only k)
@@ -238,10 +221,6 @@ pub apart-not : (n : ℕ) (a b : ℕ → Bool) → apart n a b ≡ true → (k :
 apart-not n a b e k l u v = true≢false (sym (rw (u, v)) ∙ apart-each n a b e k l)
 
 -- ---- `a & c == 0` and `b & d == 0`
-true-or-false : (t : Bool) → (t ≡ true → ⊥) → t ≡ false
-true-or-false true h = absurd (h refl)
-true-or-false false h = refl
-
 pub apart-yes : (n a b c d : ℕ) → bitAnd a c ≡ 0 → bitAnd b d ≡ 0 → apart n (hit2 a b) (hit2 c d) ≡ true
 apart-yes n a b c d e f = apart-all n (hit2 a b) (hit2 c d) (λ k l. rw (← hit2-and-at a b c d k, e, f) (hit2-zero-at k))
 
@@ -253,14 +232,14 @@ module _ (a b c d : ℕ) (small : c < 2 ^ 64) (small' : d < 2 ^ 64) where
 
   -- the answer of `meets`, at its two ends
   pub meets-low : (bitAnd a c ≡ 0 → ⊥) → true ≡ not (apart 128 (hit2 a b) (hit2 c d))
-  meets-low h = rw (true-or-false (apart 128 (hit2 a b) (hit2 c d)) (λ e. h (apart-words e .0)))
+  meets-low h = rw (not-true (apart 128 (hit2 a b) (hit2 c d)) (λ e. h (apart-words e .0)))
 
   pub meets-high : bitAnd a c ≡ 0 → not (eqb (bitAnd b d) 0) ≡ not (apart 128 (hit2 a b) (hit2 c d))
   meets-high z = ap not (go (ℕ-discrete (bitAnd b d) 0))
     where
       go : Dec (bitAnd b d ≡ 0) → eqb (bitAnd b d) 0 ≡ apart 128 (hit2 a b) (hit2 c d)
       go (yes e) = eq-eqb (bitAnd b d) 0 e ∙ sym (apart-yes 128 a b c d z e)
-      go (no h) = ne-eqb (bitAnd b d) 0 h ∙ sym (true-or-false (apart 128 (hit2 a b) (hit2 c d)) (λ e. h (apart-words e .1)))
+      go (no h) = ne-eqb (bitAnd b d) 0 h ∙ sym (not-true (apart 128 (hit2 a b) (hit2 c d)) (λ e. h (apart-words e .1)))
 
 -- ---- the answer of `equals`, at its two ends
 module _ (a b c d : ℕ) (la : a < 2 ^ 64) (lb : b < 2 ^ 64) (lc : c < 2 ^ 64) (ld : d < 2 ^ 64) where

@@ -7,8 +7,9 @@ use native.Mathlib.Nat.{div-one, pow-suc, add-mul, one-mul, mod-lt}
 use native.Mathlib.Omega.{arith}
 use lib.Count.{under, trailingZeros, trailing-le}
 use lib.Pow.{pow-pos, pow-add, shr-shr, shr-lt, split, high}
+use Rattle.lists.proofs.TestLaws.{lt-or-ge}
 use Rattle.masks.specs.Masks.{hit, hit2, FirstOpen, FirstIn}
-use Rattle.masks.proofs.MaskLaws.{hit-no, hit-yes, hit2-low, hit2-high, lt-or-ge}
+use Rattle.masks.proofs.MaskLaws.{hit-no, hit-yes, hit2-low, hit2-high}
 
 -- ---- the digits below the lowest set digit, and that digit
 next-bit : (x i : ℕ) → x / 2 / 2 ^ i ≡ x / 2 ^ suc i

@@ -1,4 +1,4 @@
-// Sets of board cells, by their scan numbers 0 to 127, as two words.
+// Sets of board cells, by their scan numbers 0 to 127, as two words. Nothing is assumed; each function is a set operation on `has`.
 ghost use mathlib.Core.Path.{_≡_};
 ghost use mathlib.Core.Bool.{not};
 ghost use Prim.Native.Nat.{_≤_, _<_};

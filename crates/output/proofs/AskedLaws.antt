@@ -5,42 +5,41 @@ use mathlib.Core.List.{List, _++_}
 use mathlib.Core.Path.{_≡_, sym, ap, ap₂, _∙_}
 use lib.ListN.{length, length-replicate}
 use Rattle.definitions.specs.Files.{callIn, callOn}
-use Rattle.definitions.specs.Outcomes.{outcome}
 use Rattle.definitions.specs.Placements.{compile}
 use Rattle.definitions.specs.Refusals.{Call, Row, firstThatApplies, refusal}
 use Rattle.definitions.specs.declared.Config.{Config}
 use Rattle.definitions.specs.declared.Record.{Record}
 use Rattle.placements.specs.declared.Table.{Table}
-use Rattle.placements.specs.Tables.{recordsOf, trayIn}
-use Rattle.placements.specs.Stages.{lentRows, callRows, countRows}
+use Rattle.placements.specs.Tables.{recordsOf, trayIn, tableOf}
+use Rattle.placements.specs.Stages.{lentRows, configRows, sliceRows, countRows}
 use Rattle.placements.proofs.StageLaws.{refusal-stages}
-use Rattle.kept.specs.Calls.{outcomeBehind}
+use Rattle.definitions.specs.Starts.{outcomeFrom}
+use Rattle.definitions.specs.declared.Start.{Start}
 use Rattle.solver.specs.Lent.{callWith}
-use Rattle.solver.specs.Records.{tableOf}
-use Rattle.solver.proofs.RecordLaws.{outcome-same, behind-same}
+use Rattle.solver.proofs.RecordLaws.{outcome-same}
 
--- the call of a file, with a skip and slices
-abbrev pub callFor : List ℕ → ℕ → List ℕ → List ℕ → List ℕ → Call
-callFor text skip answers work links = callWith (callIn text 0 0 .pieces) (callIn text 0 0 .board) (callIn text 0 0 .bytes) (callIn text 0 0 .config) skip answers work links
+-- the call of a file, with slices
+abbrev pub callFor : List ℕ → List ℕ → List ℕ → List ℕ → Call
+callFor text answers work links = callWith (callIn text 0 0 .pieces) (callIn text 0 0 .board) (callIn text 0 0 .bytes) (callIn text 0 0 .config) answers work links
 
 module _ (text bytes : List ℕ) (t : Table) (board : Record) (config : Config)
     (pieces-said : t ≡ tableOf (callIn text 0 0 .pieces)) (board-said : board ≡ callIn text 0 0 .board) (config-said : config ≡ callIn text 0 0 .config)
-    (lent : bytes ≡ callIn text 0 0 .bytes) (skip : ℕ) (answers work links : List ℕ) where
-  call-said : callWith (recordsOf t) board bytes config skip answers work links
-      ≡ callWith (recordsOf (tableOf (callIn text 0 0 .pieces))) (callIn text 0 0 .board) (callIn text 0 0 .bytes) (callIn text 0 0 .config) skip answers work links
-  call-said = (λ i. callWith (recordsOf (pieces-said i)) (board-said i) (lent i) (config-said i) skip answers work links)
+    (lent : bytes ≡ callIn text 0 0 .bytes) (answers work links : List ℕ) where
+  call-said : callWith (recordsOf t) board bytes config answers work links
+      ≡ callWith (recordsOf (tableOf (callIn text 0 0 .pieces))) (callIn text 0 0 .board) (callIn text 0 0 .bytes) (callIn text 0 0 .config) answers work links
+  call-said = (λ i. callWith (recordsOf (pieces-said i)) (board-said i) (lent i) (config-said i) answers work links)
 
-  pub asked-outcome : outcome (callWith (recordsOf t) board bytes config skip answers work links) ≡ outcome (callFor text skip answers work links)
-  asked-outcome = ap outcome call-said ∙ outcome-same (callIn text 0 0 .board) (callIn text 0 0 .bytes) (callIn text 0 0 .config) skip answers work links (callIn text 0 0 .pieces)
-
-  pub asked-behind : (last : List ℕ) → outcomeBehind last (callWith (recordsOf t) board bytes config skip answers work links) ≡ outcomeBehind last (callFor text skip answers work links)
-  asked-behind last = ap (outcomeBehind last) call-said ∙ behind-same (callIn text 0 0 .board) (callIn text 0 0 .bytes) (callIn text 0 0 .config) skip answers work links last (callIn text 0 0 .pieces)
+  pub asked-outcome : (start : Start) (last : List ℕ)
+      → outcomeFrom start last (callWith (recordsOf t) board bytes config answers work links) ≡ outcomeFrom start last (callFor text answers work links)
+  asked-outcome start last =
+      ap (outcomeFrom start last) call-said ∙ outcome-same (callIn text 0 0 .board) (callIn text 0 0 .bytes) (callIn text 0 0 .config) answers work links start last (callIn text 0 0 .pieces)
 
 -- the refusal, with the slices that are lent
-module _ (text : List ℕ) (skip : ℕ) (answers work links : List ℕ) (words : length work ≡ 8192) (numbers : length links ≡ 32768) where
+module _ (text : List ℕ) (answers work links : List ℕ) (words : length work ≡ 8192) (numbers : length links ≡ 32768) where
   abbrev rowsWith : ℕ → ℕ → List Row
   rowsWith w n =
-      lentRows (callIn text 0 0 .pieces) (callIn text 0 0 .board) (callIn text 0 0 .bytes) ++ callRows (callIn text 0 0 .config) w n
+      lentRows (callIn text 0 0 .pieces) (callIn text 0 0 .board) (callIn text 0 0 .bytes) ++ configRows (callIn text 0 0 .config)
+      ++ sliceRows (callIn text 0 0 .config) w n
       ++ countRows (compile (trayIn (callIn text 0 0 .pieces) (callIn text 0 0 .board) (callIn text 0 0 .bytes))) (callIn text 0 0 .config)
 
   words-lent : length (callIn text 0 0 .work) ≡ 8192
@@ -51,10 +50,10 @@ module _ (text : List ℕ) (skip : ℕ) (answers work links : List ℕ) (words :
   unfolding callIn callOn
   numbers-lent = length-replicate {A = ℕ} 32768 7
 
-  made : refusal (callFor text skip answers work links) ≡ firstThatApplies (rowsWith (length work) (length links))
+  made : refusal (callFor text answers work links) ≡ firstThatApplies (rowsWith (length work) (length links))
   unfolding callWith
-  made = refusal-stages (callFor text skip answers work links)
+  made = refusal-stages (callFor text answers work links)
 
-  pub asked-refusal : refusal (callFor text skip answers work links) ≡ refusal (callIn text 0 0)
+  pub asked-refusal : refusal (callFor text answers work links) ≡ refusal (callIn text 0 0)
   asked-refusal =
       made ∙ ap₂ (λ (w n : ℕ). firstThatApplies (rowsWith w n)) (words ∙ sym words-lent) (numbers ∙ sym numbers-lent) ∙ sym (refusal-stages (callIn text 0 0))

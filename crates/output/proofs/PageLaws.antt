@@ -1,6 +1,6 @@
 -- A page's answers stand in the buffer one after the other, and they are the entries of the list from where the page begins. Assumes nothing.
 use Prim.Native.Nat.{ℕ, zero, suc, _+_, _*_, _/_, _<_, _≤_}
-use mathlib.Core.Bool.{Bool, true, false, cond}
+use mathlib.Core.Bool.{Bool, true, false, cond, true≢false}
 use mathlib.Core.List.{List, [], _∷_, _++_, append-assoc, List·Memᴰ, List·Memᴰ·head, List·Memᴰ·tail, Memᴰ·of-map}
 use mathlib.Core.Logic.{_⊎_, inl, inr}
 use mathlib.Core.Path.{_≡_, refl, sym, ap, ap₂, _∙_, subst}
@@ -9,7 +9,8 @@ use native.Mathlib.Omega.{arith}
 use lib.Dec.{ltb}
 use lib.ListN.{length, take, drop, getD, length-take, length-drop}
 use lib.Seq.{take-at, drop-append-add, getD-take, getD-drop}
-use Rattle.definitions.specs.Lists.{joined}
+use Rattle.lists.specs.Lists.{joined}
+use Rattle.lists.proofs.ListLaws.{drop-in, take-in}
 use Rattle.definitions.specs.Page.{Page, page}
 use Rattle.definitions.specs.Demands.{demand3}
 use Rattle.definitions.specs.Outcomes.{Outcome, accepted, answersOf, answerSize, capacity, cleared, numberOf, outcome, outcomeOf, overStart, pageOf}
@@ -19,11 +20,12 @@ use Rattle.definitions.specs.Placements.{compile}
 use Rattle.definitions.specs.Refusals.{Call, identifyOf, isKnuth, refusal, sidesOf, table, lentOf, trayOf}
 use Rattle.definitions.specs.declared.Refusal.{Refusal}
 use Rattle.definitions.specs.declared.Listing.the-variants as listing
-use Rattle.definitions.proofs.DemandLaws.{demand3-holds, drop-in, take-in, box-lent}
+use Rattle.definitions.proofs.DemandLaws.{demand3-holds, box-lent}
 use Rattle.definitions.proofs.RefusalLaws.{outcome-accepted}
 use Rattle.placements.proofs.CountingLaws.{refused-some}
-use Rattle.kept.specs.Calls.{outcomeBehind}
-use Rattle.kept.proofs.BehindLaws.{outcome-behind, skipping}
+use Rattle.definitions.specs.Starts.{outcomeFrom, skipping}
+use Rattle.definitions.specs.declared.Start.the-variants.{Behind}
+use Rattle.definitions.proofs.StartLaws.{outcome-behind}
 use Rattle.output.specs.Rest.{Stands}
 use Rattle.output.specs.Standing.{Scratch}
 
@@ -124,6 +126,10 @@ module _ (l : Call) (ok : refusal l ≡ 0) (size room : ℕ) (size-is : size ≡
       let z : numberOf w ≡ 0 = ap (λ (o : Outcome). o .number) (e ∙ outcome-accepted (skipping skip l) (still skip)) in
       refused-some w z
 
+  pub page-there : (skip : ℕ) (answers work links : List ℕ) → outcomeOf listing.NoEntry answers work links ≡ outcome (skipping skip l) → ⊥
+  unfolding outcomeOf accepted
+  page-there skip answers work links e = true≢false (ap (λ (o : Outcome). o .missing) (e ∙ outcome-accepted (skipping skip l) (still skip)))
+
   -- the work words and the links afterwards
   pub page-scratch : (skip n : ℕ) (further : Bool) (answers work links : List ℕ) → outcomeOf (listing.Page n further) answers work links ≡ outcome (skipping skip l)
       → Scratch (l .work) (l .links) work links
@@ -138,5 +144,6 @@ module _ (l : Call) (ok : refusal l ≡ 0) (size room : ℕ) (size-is : size ≡
 
   -- behind entry k it is the page from entry k + 1 on
   pub behind-is : (k : ℕ) → k < length (answersOf (trayOf l) (identifyOf (l .config)) (l .config .solver)) → (last : List ℕ) → last ≡ getD (answersOf (trayOf l) (identifyOf (l .config)) (l .config .solver)) k []
-      → outcomeBehind last (skipping 0 l) ≡ outcome (skipping (suc k) l)
-  behind-is k h last e = ap (λ (x : List ℕ). outcomeBehind x (skipping 0 l)) e ∙ outcome-behind l ok k h
+      → outcomeFrom Behind last l ≡ outcome (skipping (suc k) l)
+  unfolding outcomeFrom
+  behind-is k h last e = ap (λ (x : List ℕ). outcomeFrom Behind x l) e ∙ outcome-behind l ok k h

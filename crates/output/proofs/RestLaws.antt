@@ -7,11 +7,11 @@ use native.Mathlib.Omega.{arith}
 use lib.Dec.{ltb, lt→ltb, ltb→lt}
 use lib.ListN.{length, take, drop, getD, length-take, length-append, length-drop}
 use lib.Seq.{paste, take-paste, drop-paste, take-length, take-all, drop-length, drop-cons, drop-drop, getD-take, length-take-le}
-use Rattle.definitions.specs.Lists.{joined, numbered, numberedFrom}
+use Rattle.lists.specs.Lists.{joined, numbered, numberedFrom}
+use Rattle.lists.proofs.TestLaws.{is-true, is-false}
 use Rattle.definitions.specs.Texts.{text}
 use Rattle.definitions.specs.Files.{cellsShown, decimal, entryLine, lastLine, listing}
-use Rattle.definitions.proofs.ListLaws.{is-true, is-false}
-use Rattle.files.specs.Put.{Put}
+use Rattle.texts.specs.Put.{Put}
 use Rattle.output.specs.Rest.{restWith, restFrom, Stands}
 
 -- one entry's line, and then the rest

@@ -1,19 +1,20 @@
 -- What is printed first, whatever is read: a refusal, alone, or a listing's first lines. Assumes nothing.
 use Prim.Native.Nat.{ℕ, _+_, _-_, _<_, _≤_}
-use mathlib.Core.Bool.{Bool, true, false, cond}
+use mathlib.Core.Bool.{Bool, true, false, cond, _&&_}
 use mathlib.Core.List.{List, [], _∷_, _++_, append-nil}
 use mathlib.Core.Logic.{_⊎_, inl, inr}
 use mathlib.Core.Path.{_≡_, refl, sym, ap, _∙_, subst}
 use native.Mathlib.Omega.{arith}
-use lib.Dec.{eqb, eqb→eq}
+use borrow.Author.Tests.{le-leb}
+use lib.Dec.{eqb, eqb→eq, leb}
 use lib.ListN.{length, take, drop, replicate, length-append, length-replicate}
 use lib.Seq.{drop-at, drop-drop}
+use Rattle.lists.proofs.TestLaws.{eqb-of, is-false, is-true}
 use Rattle.definitions.specs.Texts.{text}
 use Rattle.definitions.specs.Files.{callIn, decimal, isFile, packed, refusedLine}
 use Rattle.definitions.specs.Outcomes.{cleared}
 use Rattle.definitions.specs.Refusals.{refusal}
-use Rattle.definitions.proofs.ListLaws.{eqb-of, is-false, is-true}
-use Rattle.solver.specs.Records.{tableOf}
+use Rattle.files.specs.Reading.{Asks}
 use Rattle.files.specs.declared.reading.Asked.{Asked}
 use Rattle.output.specs.Rest.{restFrom}
 use Rattle.output.specs.Standing.{IsRead, Scratch, Standing, listIn}
@@ -85,20 +86,23 @@ module _ (text : List ℕ) (p q : Progress) (number : ℕ) (cells work links out
 
 -- ---- lines of a listing, at its beginning or later
 -- a text that was read
-pub read-is : (text : List ℕ) (asked : Asked) (cells work links : List ℕ)
-    → (asked .pieces ≡ tableOf (callIn text 0 0 .pieces)) × (asked .board ≡ callIn text 0 0 .board) × (asked .config ≡ callIn text 0 0 .config)
-    → take (asked .used) cells ≡ callIn text 0 0 .bytes → asked .used ≤ 16384 → 16384 ≤ length cells → length work ≡ 8192 → length links ≡ 32768
-    → IsRead text asked cells work links
-read-is text asked cells work links said bytes few long words numbers =
+pub read-is : (text old : List ℕ) (asked : Asked) (cells work links : List ℕ) → Asks text old asked cells
+    → 16384 ≤ length cells → length work ≡ 8192 → length links ≡ 32768 → IsRead text asked cells work links
+read-is text old asked cells work links asks long words numbers =
+    let few = asks .few in
     record {
-      piecesAre = said .0;
-      boardIs = said .1;
-      configIs = said .2;
+      piecesAre = asks .piecesAre;
+      boardIs = asks .boardIs;
+      configIs = asks .configIs;
       usedFew = omega arith;
-      bytesAre = bytes;
+      bytesAre = asks .bytesAre;
       words = words;
       numbers = numbers;
     }
+
+-- and whether it was, where the cells suffice
+pub is-file : (text old : List ℕ) (b : Bool) → 16384 ≤ length old → b ≡ (leb 16384 (length old) && isFile text) → isFile text ≡ b
+is-file text old b long e = sym (e ∙ ap (λ (t : Bool). t && isFile text) (le-leb 16384 (length old) long))
 
 pub cells-behind : (old new : List ℕ) (used : ℕ) → used ≤ 16384 → drop used new ≡ drop used old → drop 16384 new ≡ drop 16384 old
 cells-behind old new used few e =

@@ -9,7 +9,7 @@ use borrow.Author.Tests.{ltb-true, ltb-false}
 use lib.Dec.{ltb}
 use lib.ListN.{length, take}
 use Rattle.definitions.specs.Files.{lastLine, packed}
-use Rattle.files.specs.Put.{Put}
+use Rattle.texts.specs.Put.{Put}
 use Rattle.output.specs.Rest.{LinesPut, Stands, restFrom}
 use Rattle.output.specs.Standing.{Scratch, Standing, Turned, listIn}
 use Rattle.output.specs.Stretches.{Made, restAfter, restAt, restOf}

@@ -8,29 +8,29 @@ use native.Mathlib.Omega.{arith}
 use lib.Dec.{ltb, ltb→lt}
 use lib.ListN.{length, take, drop}
 use lib.Seq.{length-take-le}
+use Rattle.lists.proofs.TestLaws.{holds}
 use Rattle.definitions.specs.Outcomes.{answerSize, outcome, outcomeOf}
 use Rattle.definitions.specs.Refusals.{Call, refusal, sidesOf, lentOf, trayOf}
-use Rattle.definitions.specs.declared.Refusal.{Refusal}
 use Rattle.definitions.specs.declared.Listing.the-variants as listing
-use Rattle.definitions.proofs.ListLaws.{holds}
+use Rattle.definitions.specs.declared.Refusal.{Refusal}
 use Rattle.placements.specs.Tables.{recordsOf}
 use Rattle.solver.specs.Lent.{callWith}
-use Rattle.kept.specs.Calls.{outcomeBehind}
-use Rattle.kept.proofs.BehindLaws.{skipping}
+use Rattle.definitions.specs.Starts.{outcomeFrom, skipping}
+use Rattle.definitions.specs.declared.Start.the-variants.{Behind}
 use Rattle.output.specs.Rest.{Stands}
 use Rattle.output.specs.Standing.{IsRead, Standing, Turned, listIn}
 use Rattle.output.specs.declared.Progress.{Progress}
-use Rattle.output.proofs.AskedLaws.{asked-behind, asked-refusal, callFor}
-use Rattle.output.proofs.PageLaws.{Here, page-here, page-accepted, page-scratch, behind-is}
+use Rattle.output.proofs.AskedLaws.{asked-outcome, asked-refusal, callFor}
+use Rattle.output.proofs.PageLaws.{Here, page-here, page-accepted, page-there, page-scratch, behind-is}
 
 module _ (text : List ℕ) (p : Progress) (cells work links : List ℕ) (read : IsRead text (p .asked) cells work links)
     (answers : List ℕ) (s : Standing text p answers) (all : p .from ≡ p .written) (more : p .further ≡ true)
     (room : ℕ) (roomSome : 1 ≤ room) (lend : room * (2 * p .places) ≤ length answers) where
   abbrev l : Call
-  l = callFor text 0 (take (room * (2 * p .places)) answers) work links
+  l = callFor text (take (room * (2 * p .places)) answers) work links
 
   ok : refusal l ≡ 0
-  ok = asked-refusal text 0 (take (room * (2 * p .places)) answers) work links (read .words) (read .numbers) ∙ s .accepted
+  ok = asked-refusal text (take (room * (2 * p .places)) answers) work links (read .words) (read .numbers) ∙ s .accepted
 
   size-is : 2 * p .places ≡ answerSize (sidesOf (l .board))
   unfolding callWith answerSize
@@ -48,21 +48,21 @@ module _ (text : List ℕ) (p : Progress) (cells work links : List ℕ) (read : 
   sized = let h = s .some in omega arith
 
   -- the outcome asked for is that of the page behind the entries in the buffer
-  turned-outcome : outcomeBehind (take (2 * p .places) (drop ((p .written - 1) * (2 * p .places)) answers)) (callWith (recordsOf (p .asked .pieces)) (p .asked .board) (take (p .asked .used) cells) (p .asked .config) 0 (take (room * (2 * p .places)) answers) work links)
-      ≡ outcome (skipping (p .base + p .written) (callFor text 0 (take (room * (2 * p .places)) answers) work links))
+  turned-outcome : outcomeFrom Behind (take (2 * p .places) (drop ((p .written - 1) * (2 * p .places)) answers)) (callWith (recordsOf (p .asked .pieces)) (p .asked .board) (take (p .asked .used) cells) (p .asked .config) (take (room * (2 * p .places)) answers) work links)
+      ≡ outcome (skipping (p .base + p .written) (callFor text (take (room * (2 * p .places)) answers) work links))
   unfolding listIn callWith lentOf trayOf
   turned-outcome =
       let some = s .someWritten more in
       let f = follows in
       let last = take (2 * p .places) (drop ((p .written - 1) * (2 * p .places)) answers) in
       let next : suc (p .base + (p .written - 1)) ≡ p .base + p .written = omega arith in
-      asked-behind text (take (p .asked .used) cells) (p .asked .pieces) (p .asked .board) (p .asked .config) (read .piecesAre) (read .boardIs) (read .configIs) (read .bytesAre) 0 (take (room * (2 * p .places)) answers) work links last
+      asked-outcome text (take (p .asked .used) cells) (p .asked .pieces) (p .asked .board) (p .asked .config) (read .piecesAre) (read .boardIs) (read .configIs) (read .bytesAre) (take (room * (2 * p .places)) answers) work links Behind last
       ∙ behind-is l ok (2 * p .places) room size-is sized room-is roomSome (p .base + (p .written - 1)) (omega arith) last (s .stands .entry (p .written - 1) (omega arith))
       ∙ ap (λ (m : ℕ). outcome (skipping m l)) next
 
   pub turned : (n : ℕ) (further : Bool) (page work' links' answers' : List ℕ)
       → outcomeOf (listing.Page n further) page work' links'
-      ≡ outcomeBehind (take (2 * p .places) (drop ((p .written - 1) * (2 * p .places)) answers)) (callWith (recordsOf (p .asked .pieces)) (p .asked .board) (take (p .asked .used) cells) (p .asked .config) 0 (take (room * (2 * p .places)) answers) work links)
+      ≡ outcomeFrom Behind (take (2 * p .places) (drop ((p .written - 1) * (2 * p .places)) answers)) (callWith (recordsOf (p .asked .pieces)) (p .asked .board) (take (p .asked .used) cells) (p .asked .config) (take (room * (2 * p .places)) answers) work links)
       → answers' ≡ page ++ drop (room * (2 * p .places)) answers → length answers' ≡ length answers
       → Turned text p work links answers' work' links' (record { begun = p .begun; asked = p .asked; base = p .base + p .written; from = 0; written = n; further = further; room = room; places = p .places })
   unfolding listIn callWith lentOf trayOf
@@ -98,5 +98,11 @@ module _ (text : List ℕ) (p : Progress) (cells work links : List ℕ) (read : 
 
   pub never-refused : (w : Refusal) (page work' links' : List ℕ)
       → outcomeOf (listing.Refused w) page work' links'
-      ≡ outcomeBehind (take (2 * p .places) (drop ((p .written - 1) * (2 * p .places)) answers)) (callWith (recordsOf (p .asked .pieces)) (p .asked .board) (take (p .asked .used) cells) (p .asked .config) 0 (take (room * (2 * p .places)) answers) work links) → ⊥
+      ≡ outcomeFrom Behind (take (2 * p .places) (drop ((p .written - 1) * (2 * p .places)) answers)) (callWith (recordsOf (p .asked .pieces)) (p .asked .board) (take (p .asked .used) cells) (p .asked .config) (take (room * (2 * p .places)) answers) work links) → ⊥
   never-refused w page work' links' e = page-accepted l ok (2 * p .places) room size-is sized room-is roomSome (p .base + p .written) w page work' links' (e ∙ turned-outcome)
+
+  -- nor is the entry in the buffer none of the list
+  pub never-missing : (page work' links' : List ℕ)
+      → outcomeOf listing.NoEntry page work' links'
+      ≡ outcomeFrom Behind (take (2 * p .places) (drop ((p .written - 1) * (2 * p .places)) answers)) (callWith (recordsOf (p .asked .pieces)) (p .asked .board) (take (p .asked .used) cells) (p .asked .config) (take (room * (2 * p .places)) answers) work links) → ⊥
+  never-missing page work' links' e = page-there l ok (2 * p .places) room size-is sized room-is roomSome (p .base + p .written) page work' links' (e ∙ turned-outcome)

@@ -5,7 +5,7 @@ use mathlib.Core.List.{List, [], _++_}
 use mathlib.Core.Path.{_≡_}
 use lib.Dec.{ltb}
 use lib.ListN.{length, take, drop, getD}
-use Rattle.definitions.specs.Lists.{joined, numberedFrom}
+use Rattle.lists.specs.Lists.{joined, numberedFrom}
 use Rattle.definitions.specs.Files.{entryLine, lastLine}
 use Rattle.output.specs.declared.lines.Lines.{Lines}
 
@@ -21,11 +21,13 @@ pub record Stands (list : List (List ℕ)) (base size written : ℕ) (answers : 
   pub inside : base + written ≤ length list
   pub entry : (i : ℕ) → i < written → take size (drop (i * size) answers) ≡ getD list (base + i) []
 
--- lines were put at the start of a buffer, from entry `from` on up to `next`: with whatever stands in the answer buffer, what was to be printed is these bytes and then the rest
+-- lines were put at the start of a buffer, from entry `from` on up to `next`: with whatever stands in the answer buffer, what was to be
+-- printed is these bytes and then the rest
 pub record LinesPut (base size from end : ℕ) (answers old new : List ℕ) (r : Lines) : Type 0 where
   pub some : from < r .next
   pub most : r .next ≤ end
   pub bytes : 1 ≤ r .made
   pub fits : r .made ≤ length old
   pub behind : drop (r .made) new ≡ drop (r .made) old
-  pub rest : (list : List (List ℕ)) → Stands list base size end answers → restFrom (base + from) list ≡ take (r .made) new ++ restFrom (base + r .next) list
+  pub rest : (list : List (List ℕ)) → Stands list base size end answers
+      → restFrom (base + from) list ≡ take (r .made) new ++ restFrom (base + r .next) list

@@ -14,10 +14,10 @@ use Rattle.definitions.specs.declared.Config.{Config}
 use Rattle.definitions.specs.declared.Record.{Record}
 use Rattle.definitions.specs.declared.Listing.{Listing}
 use Rattle.placements.specs.declared.Table.{Table}
-use Rattle.placements.specs.Tables.{recordsOf}
-use Rattle.solver.specs.Records.{tableOf}
+use Rattle.placements.specs.Tables.{recordsOf, tableOf}
 use Rattle.solver.specs.Lent.{callWith}
-use Rattle.kept.specs.Calls.{outcomeBehind}
+use Rattle.definitions.specs.Starts.{outcomeFrom}
+use Rattle.definitions.specs.declared.Start.the-variants.{Entry, Behind}
 use Rattle.files.specs.declared.reading.Asked.{Asked}
 use Rattle.output.specs.Rest.{Stands}
 use Rattle.output.specs.declared.Progress.{Progress}
@@ -67,9 +67,11 @@ unfoldable pub placesOf : Record → ℕ
 placesOf board = cond (sidesFit board) (volume (sidesOf board)) 0
 
 -- the page call behind the last of the answers that stand in a buffer, over the start of that buffer
-pub record PageAfter (t : Table) (board : Record) (bytes : List ℕ) (config : Config) (size written room : ℕ) (answers work links : List ℕ) (r : Listing) (answers' work' links' : List ℕ) : Type 0 where
+pub record PageAfter (t : Table) (board : Record) (bytes : List ℕ) (config : Config) (size written room : ℕ) (answers work links : List ℕ)
+    (r : Listing) (answers' work' links' : List ℕ) : Type 0 where
   pub page : List ℕ
-  pub outcomeIs : outcomeOf r page work' links' ≡ outcomeBehind (take size (drop (written * size) answers)) (callWith (recordsOf t) board bytes config 0 (take (room * size) answers) work links)
+  pub outcomeIs : outcomeOf r page work' links'
+      ≡ outcomeFrom Behind (take size (drop (written * size) answers)) (callWith (recordsOf t) board bytes config (take (room * size) answers) work links)
   pub answersAre : answers' ≡ page ++ drop (room * size) answers
 
 -- the next page stands in the buffer

@@ -5,10 +5,8 @@ use mathlib.Core.List.{List, [], _++_}
 use mathlib.Core.Path.{_≡_}
 use lib.ListN.{length, take, drop}
 use Rattle.definitions.specs.Files.{packed, refusedLine}
-use Rattle.definitions.specs.declared.SolverKind.the-variants.{Fast}
-use Rattle.placements.specs.Tables.{noRecord}
-use Rattle.solver.specs.Records.{emptyTable}
-use Rattle.files.specs.Put.{Put}
+use Rattle.files.specs.Reading.{nothingAsked}
+use Rattle.texts.specs.Put.{Put}
 use Rattle.output.specs.Rest.{restFrom}
 use Rattle.output.specs.Standing.{IsRead, Scratch, Standing, listIn}
 use Rattle.output.specs.declared.Progress.{Progress}
@@ -31,12 +29,7 @@ abbrev pub beginning : Progress
 beginning =
     record {
       begun = false;
-      asked = record {
-        pieces = emptyTable 0;
-        board = noRecord;
-        config = record { «identify_transformed_answers» = false; «identify_mirrored_answers» = false; solver = Fast };
-        used = 0;
-      };
+      asked = nothingAsked;
       base = 0;
       from = 0;
       written = 0;

@@ -1,5 +1,6 @@
-// What `pack` prints for a text, stretch by stretch: `step` makes the next stretch of it. What was still to be printed is the bytes that a step makes and then
-// what is still to be printed after it; before the first step it is all that document 01 has `pack` print for the text, whatever the text is.
+// What `pack` prints for a text, stretch by stretch: `step` makes the next stretch of it. What was still to be printed is the bytes
+// that a step makes and then what is still to be printed after it; before the first step it is all that document 01 has `pack` print
+// for the text, whatever the text is.
 //
 // Every function here is proved, and the crate assumes nothing.
 mod lines;
@@ -10,17 +11,12 @@ ghost use mathlib.Core.Path.{_≡_};
 ghost use Prim.Native.Nat.{_≤_};
 ghost use lib.ListN.{length};
 ghost use Rattle.output.specs.Stretches.{Ready, Stepped, beginning};
-use definitions::Config;
-use definitions::Record;
-use definitions::SolverKind;
-use files::lines as file_lines;
 use files::reading;
 use files::reading::Asked;
-use solver::records;
 
-// How far the output is. Once it has begun, what the text asks for was read; `written` entries stand in the answer buffer, the first of them entry `base` of the
-// list, and `from` of them are printed; `further`: whether an entry follows them; the next page has room for `room` entries at least; the board's box has
-// `places` cells.
+// How far the output is. Once it has begun, what the text asks for was read; `written` entries stand in the answer buffer, the first
+// of them entry `base` of the list, and `from` of them are printed; `further`: whether an entry follows them; the next page has room
+// for `room` entries at least; the board's box has `places` cells.
 pub struct Progress {
     pub begun: bool,
     pub asked: Asked,
@@ -43,26 +39,7 @@ pub struct Stretch {
 pub fn begin() -> Progress
     ensures { λ r. ⌜ r ≡ beginning ⌝ }
 {
-    let pieces = records::empty_table(0);
-    let board = Record {
-        a: 0,
-        b: 0,
-        c: 0,
-        count: 0,
-        wood: 0,
-        start: 0,
-    };
-    let config = Config {
-        identify_transformed_answers: false,
-        identify_mirrored_answers: false,
-        solver: SolverKind::Fast,
-    };
-    let asked = Asked {
-        pieces,
-        board,
-        config,
-        used: 0,
-    };
+    let asked = reading::nothing_asked();
     Progress {
         begun: false,
         asked,
@@ -75,8 +52,9 @@ pub fn begin() -> Progress
     }
 }
 
-// The next stretch of what is printed for a text, at the start of `out`: a refusal, alone; the lines of entries, as many as stand ready and fit; or the last line.
-// The other slices keep what the next step needs: the text's cells, the answers of a page, and the work words and links of the search.
+// The next stretch of what is printed for a text, at the start of `out`: a refusal, alone; the lines of entries, as many as stand ready
+// and fit; or the last line. The other slices keep what the next step needs: the text's cells, the answers of a page, and the work
+// words and links of the search.
 pub fn step(
     text: &[u8],
     p: Progress,
@@ -94,10 +72,12 @@ pub fn step(
     if begun {
         return stretches::next_lines(text, p, cells, answers, work, links, out);
     }
-    if !file_lines::is_file(text) {
+    let read = reading::read_file(text, cells);
+    let is_read = read.is_read;
+    if !is_read {
         return stretches::refused_line(p, 16, out);
     }
-    let asked = reading::read_file(text, cells);
+    let asked = read.asked;
     let first = pages::first_page(text, asked, cells, answers, work, links);
     let number = first.number;
     let q = first.progress;

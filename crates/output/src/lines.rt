@@ -12,7 +12,8 @@ pub struct Lines {
     pub next: usize,
 }
 
-// The lines of a page's entries from one on, as many as fit and at least one, at the start of a buffer. The page begins with entry `base` of its list.
+// The lines of a page's entries from one on, as many as fit and at least one, at the start of a buffer. The page begins with entry
+// `base` of its list.
 pub fn put_lines(
     out: &mut [u8],
     base: u64,
@@ -21,8 +22,8 @@ pub fn put_lines(
     from: usize,
     end: usize,
 ) -> Lines
-    requires { ⌜ (from < end) × (places ≤ 512) × (8 * places + 64 ≤ length (now out)) × (end * (2 * places) ≤ length (now answers))
-        × (base + end ≤ 18446744073709551616) ⌝ }
+    requires { ⌜ (from < end) × (places ≤ 512) × (8 * places + 64 ≤ length (now out))
+        × (end * (2 * places) ≤ length (now answers)) × (base + end ≤ 18446744073709551616) ⌝ }
     ensures { λ r. ⌜ LinesPut base (2 * places) from end (now (answers .entry)) (now (out .entry)) (now (out .exit)) r ⌝ }
 {
     let line = 8 * places + 64;

@@ -1,5 +1,5 @@
-// The pages of a listing: each begins behind the last entry of the one before it, so that nothing is searched twice, and has room for twice as many entries, up to
-// what fits the buffer.
+// The pages of a listing: each begins behind the last entry of the one before it, so that nothing is searched twice, and has room for
+// twice as many entries, up to what fits the buffer.
 ghost use mathlib.Core.Path.{_≡_};
 ghost use mathlib.Core.Bool.{true};
 ghost use Prim.Native.Nat.{_+_, _*_, _≤_, _<_};
@@ -10,11 +10,12 @@ use crate::lines;
 use definitions::Config;
 use definitions::Listing;
 use definitions::Record;
+use definitions::Start;
 use definitions::refusal_number;
 use files::reading::Asked;
 use placements::Table;
 use placements::records;
-use solver::tables;
+use solver::pages;
 
 // Room for twice as many entries, where they fit.
 fn grown(room: usize, size: usize, len: usize) -> usize
@@ -45,11 +46,12 @@ fn page_after(
     let mut last = [0u8; 1024];
     lines::copy(answers, place * size, &mut last, size);
     let end = room * size;
-    tables::page_behind(
+    pages::page(
         t,
         board,
         bytes,
         config,
+        Start::Behind,
         &last[..size],
         &mut answers[..end],
         work,
@@ -68,7 +70,8 @@ pub fn turn_page(
 ) -> Progress
     requires { ⌜ IsRead (now text) (p .asked) (now cells) (now work) (now links) × Standing (now text) p (now answers)
         × (p .from ≡ p .written) × (p .further ≡ true) ⌝ }
-    ensures { λ r. ⌜ Turned (now (text .entry)) p (now (work .entry)) (now (links .entry)) (now (answers .exit)) (now (work .exit)) (now (links .exit)) r ⌝ }
+    ensures { λ r. ⌜ Turned (now (text .entry)) p (now (work .entry)) (now (links .entry))
+        (now (answers .exit)) (now (work .exit)) (now (links .exit)) r ⌝ }
 {
     let asked = p.asked;
     let t = asked.pieces;
@@ -92,16 +95,20 @@ pub fn turn_page(
         work,
         links,
     );
-    let Listing::Page(n, further) = listing else {
-        return p;
-    };
-    let mut q = p;
-    q.base = base + written as u64;
-    q.from = 0;
-    q.written = n;
-    q.further = further;
-    q.room = room;
-    q
+    // neither of the last two is answered: the call is accepted, and the entry is one of the list
+    match listing {
+        Listing::Page(n, further) => {
+            let mut q = p;
+            q.base = base + written as u64;
+            q.from = 0;
+            q.written = n;
+            q.further = further;
+            q.room = room;
+            q
+        }
+        Listing::Refused(_) => p,
+        Listing::NoEntry => p,
+    }
 }
 
 // How a listing begins: with its first page, or with a refusal's number.
@@ -141,12 +148,14 @@ pub fn first_page(
     let used = asked.used;
     let places = places_of(board);
     let end = 2 * places;
-    let listing = tables::page(
+    let none = [0u8; 1];
+    let listing = pages::page(
         t,
         board,
         &cells[..used],
         config,
-        0,
+        Start::Entry(0),
+        &none,
         &mut answers[..end],
         work,
         links,
@@ -166,6 +175,10 @@ pub fn first_page(
             let number = refusal_number(why) as u64;
             Begun { number, progress }
         }
+        Listing::NoEntry => Begun {
+            number: 0,
+            progress,
+        },
         Listing::Page(written, further) => {
             progress.written = written;
             progress.further = further;

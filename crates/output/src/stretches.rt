@@ -1,7 +1,7 @@
 // The stretches of a listing.
 ghost use mathlib.Core.Path.{_≡_};
 ghost use mathlib.Core.Logic.{_⊎_};
-ghost use Prim.Native.Nat.{_+_, _*_, _≤_, _<_};
+ghost use Prim.Native.Nat.{_+_, _≤_, _<_};
 ghost use lib.ListN.{length};
 ghost use Rattle.output.specs.Standing.{IsRead, Scratch, Standing};
 ghost use Rattle.output.specs.Stretches.{Made, RefusedMade};
@@ -47,7 +47,8 @@ fn held_lines(text: &[u8], p: Progress, answers: &[u8], out: &mut [u8]) -> Stret
     }
 }
 
-// The next stretch of a listing: lines of entries, from the next page where all entries in the answer buffer are printed, or the last line.
+// The next stretch of a listing: lines of entries, from the next page where all entries in the answer buffer are printed, or the last
+// line.
 pub fn next_lines(
     text: &[u8],
     p: Progress,
@@ -57,7 +58,8 @@ pub fn next_lines(
     links: &mut [u16],
     out: &mut [u8],
 ) -> Stretch
-    requires { ⌜ IsRead (now text) (p .asked) (now cells) (now work) (now links) × Standing (now text) p (now answers) × (4160 ≤ length (now out)) ⌝ }
+    requires { ⌜ IsRead (now text) (p .asked) (now cells) (now work) (now links) × Standing (now text) p (now answers)
+        × (4160 ≤ length (now out)) ⌝ }
     ensures { λ r. ⌜ Made (now (text .entry)) p (now (out .entry)) (now (answers .exit)) (now (out .exit)) r
         × Scratch (now (work .entry)) (now (links .entry)) (now (work .exit)) (now (links .exit)) ⌝ }
 {

@@ -1,22 +1,27 @@
 -- Counting: how many placements a kind has, how many placements and links a tray has, and what rows 2 to 9 tell of a tray that they let pass.
 -- Assumes nothing.
-use Prim.Native.Nat.{ℕ, suc, _+_, _*_, _≤_, _<_}
-use mathlib.Core.Bool.{Bool, true, false, cond, not}
-use mathlib.Core.List.{List, [], _∷_, _++_, map, append-assoc, List·Memᴰ, List·Memᴰ·head, List·Memᴰ·tail, Memᴰ·map, Memᴰ·of-map}
+use Prim.Native.Nat.{ℕ, suc, _+_, _-_, _*_, _≤_, _<_}
+use mathlib.Core.Bool.{Bool, true, false, cond}
+use mathlib.Core.List.{List, [], _∷_, _++_, map, List·Memᴰ, Memᴰ·map, Memᴰ·of-map, map-map}
 use mathlib.Core.Path.{_≡_, refl, sym, ap, ap₂, _∙_, subst}
-use mathlib.Core.Logic.{_⊎_, inl, inr}
-use native.Mathlib.Nat.{zero-mul, mul-zero, mul-one, add-mul, mul-le-mul}
+use native.Mathlib.Nat.{mul-zero, mul-one, mul-le-mul}
 use native.Mathlib.Numerals.{add-one}
 use native.Mathlib.Omega.{arith}
+use borrow.Author.Count.{below-more}
 use borrow.Author.Tests.{leb-true}
+use borrow.Rule.Slice.PartMut.{midOf, postOf, putMid, same-len-mid, mid-len}
 use lib.Dec.{T, ltb, leb, eqb, ltb→lt, lt→ltb, eqb→eq}
-use lib.ListN.{length, getD, take, drop, length-replicate, length-map, length-drop, drop-of-length-le}
-use lib.Seq.{length-take-le, drop-cons, getD-take}
-use Rattle.definitions.specs.Lists.{all, howMany, keep, consIf, sum, joined, numbered, numberedFrom}
+use lib.ListN.{length, getD, take, drop, set, length-set, length-replicate, length-map, length-drop, drop-of-length-le}
+use lib.Seq.{length-take-le, drop-cons, getD-take, take-take, take-at, drop-at, take-append-le, take-set-le, drop-set-lt, getD-set-same}
+use Rattle.lists.specs.Lists.{all, howMany, keep, sum, joined, numbered, numberedFrom}
+use Rattle.lists.proofs.TestLaws.{eqb-flip, and-left, and-right, holds, is-true, is-false}
+use Rattle.lists.proofs.ListLaws.{front-part, all-at, all-of, keep-at, map-same}
+use Rattle.lists.proofs.CountLaws.{total-numbered, total-times, total-each, total-keep, total-append, total, total-one, howMany-length, sum-map}
+use Rattle.lists.proofs.NthLaws.{Nth, nth-mem, nth-getD, nth-at}
 use Rattle.definitions.specs.Grid.{Sides, Cell, Grid, volume, box, byteAt, filledCells}
 use Rattle.definitions.specs.Scan.{axes, scan, scanNumber}
 use Rattle.definitions.specs.Kinds.{Tray, Form, Kind, kindNamed, kindsOf, variants, smallest, sorted, forms, copiesOf}
-use Rattle.definitions.specs.Placements.{origin, lies, fits, Placement, placementsAt, placementsOf, compile}
+use Rattle.definitions.specs.Placements.{origin, lies, fits, Placement, placementsAt, placementsOf, Compiled, compile}
 use Rattle.definitions.specs.Packing.{limits}
 use Rattle.definitions.specs.Framing.{unframed}
 use Rattle.definitions.specs.Refusals.{Row, gridOf, sidesOf, sidesFit, cellsLie, boardCellCount, placementCount, linkCount, rowsOf, firstThatApplies}
@@ -24,13 +29,10 @@ use Rattle.definitions.specs.Outcomes.{numberOf}
 use Rattle.definitions.specs.declared.Record.{Record}
 use Rattle.definitions.specs.declared.Config.{Config}
 use Rattle.definitions.specs.declared.Refusal.{Refusal}
-use Rattle.definitions.specs.declared.Refusal.the-variants.{TooManyPieces, SideOutOfRange, CellsOutsideBytes, CellNotZeroOrOne, PieceWithoutFilledCell, TooManyCopies, TooManyBoardCells, MirroredWithoutTurned, EngineNotPorted, WorkTooShort, LinksTooShort, TooManyPlacements, TooManyLinks}
-use Rattle.definitions.proofs.ListLaws.{and-left, and-right, all-at, all-of, keep-at, holds, decide, clash, not-T, eqb-of, is-true, is-false}
-use Rattle.definitions.proofs.CountLaws.{total, total-one, howMany-length, sum-map}
-use Rattle.definitions.proofs.MapLaws.{turn-fits, filled-at, filled-length, map-map-of}
-use Rattle.definitions.proofs.GroupLaws.{bytes-whole, map-same}
-use Rattle.definitions.proofs.WellMadeLaws.{Nth, nth-mem, nth-getD}
-use Rattle.definitions.proofs.KindLaws.{nth-at}
+use Rattle.definitions.specs.declared.Refusal.the-variants.{TooManyPieces, SideOutOfRange, CellsOutsideBytes, CellNotZeroOrOne, PieceWithoutFilledCell, TooManyCopies, TooManyBoardCells}
+use Rattle.definitions.specs.declared.Refusal.the-variants.{MirroredWithoutTurned, EngineNotPorted, WorkTooShort, LinksTooShort, TooManyPlacements, TooManyLinks}
+use Rattle.definitions.proofs.MapLaws.{turn-fits, filled-at, filled-length}
+use Rattle.definitions.proofs.GroupLaws.{bytes-whole}
 use Rattle.definitions.proofs.ShapeLaws.{scan-length, smallest-at}
 use Rattle.definitions.proofs.RefusalLaws.{PassedLent, testOf, none-applies, passed-lent}
 use Rattle.definitions.proofs.PartnerLaws.{variants-turned}
@@ -38,55 +40,23 @@ use Rattle.shape.specs.declared.Coord.{Coord}
 use Rattle.shape.specs.Coords.{asSides}
 use Rattle.shape.specs.Grids.{Whole}
 use Rattle.shape.specs.Places.{cellAt}
+use Rattle.shape.specs.Variants.{turnedBy, Numbers}
 use Rattle.shape.proofs.PlaceLaws.{place-lt, place-of-cell, volume-small}
 use Rattle.shape.proofs.VariantLaws.{variant-filled, scan-from}
 use Rattle.placements.specs.declared.Table.{Table}
 use Rattle.placements.specs.declared.Verdict.{Verdict}
 use Rattle.placements.specs.declared.Verdict.the-variants.{Refused}
-use Rattle.placements.specs.Tables.{noRecord, listed, recordsOf, lentIn}
-use Rattle.placements.specs.Stages.{verdictNumber, lentRows, gridRows, callRows}
+use Rattle.placements.specs.Tables.{noRecord, listed, recordsOf, lentIn, trayIn}
+use Rattle.placements.specs.Stages.{verdictNumber, lentRows, gridRows, configRows, sliceRows, countRowsBy, countRows}
 use Rattle.placements.specs.Merging.{Sound, gridAt, shapeAt, formAt, formsOf, AreKinds, copiesAt}
-use Rattle.placements.specs.Counting.{fitsIn, placementsIn, OnBoard, Accepted9, CountsOf}
+use Rattle.placements.specs.Counting.{fitsIn, placementsIn, OnBoard, Accepted9, CountsOf, VariantsAt, PutVariants, Counted}
+use Rattle.placements.specs.Stripping.{StripsTray}
 use Rattle.placements.specs.declared.counting.Counts.{Counts}
+use Rattle.placements.specs.declared.stripping.StrippedRecords.{StrippedRecords}
 use Rattle.placements.proofs.RefusalLaws.{cells-end, record-passes}
 
-eqb-turned : (m n : ℕ) → eqb m n ≡ eqb n m
-eqb-turned m n = go (decide (eqb m n))
-  where
-    go : T (eqb m n) ⊎ T (not (eqb m n)) → eqb m n ≡ eqb n m
-    go (inl t) = is-true (eqb m n) t ∙ sym (is-true (eqb n m) (eqb-of (sym (eqb→eq m n t))))
-    go (inr t) = not-T (eqb m n) t ∙ sym (is-false (eqb n m) (λ s. clash (eqb m n) (eqb-of (sym (eqb→eq n m s))) t))
-
 -- ---- sums over joined and numbered lists
-total-append : {A : Type 0} (f : A → ℕ) (xs ys : List A) → total f (xs ++ ys) ≡ total f xs + total f ys
-total-append f [] ys = omega arith
-total-append f (x ∷ xs) ys = let r = total-append f xs ys in omega arith
-
-total-keep : {A : Type 0} (p : A → Bool) (f : A → ℕ) (xs : List A) → total f (keep p xs) ≡ total (λ x. cond (p x) (f x) 0) xs
-total-keep p f [] = refl
-total-keep p f (x ∷ xs) = go (p x) (total-keep p f xs)
-  where
-    go : (b : Bool) → total f (keep p xs) ≡ total (λ x. cond (p x) (f x) 0) xs → total f (consIf b x (keep p xs)) ≡ cond b (f x) 0 + total (λ x. cond (p x) (f x) 0) xs
-    go true e = omega arith
-    go false e = omega arith
-
-total-each : {A : Type 0} (f : A → ℕ) (c : ℕ) (xs : List A) → ((x : A) → List·Memᴰ x xs → f x ≡ c) → total f xs ≡ length xs * c
-total-each f c [] h = sym (zero-mul c)
-total-each f c (x ∷ xs) h =
-    let r = total-each f c xs (λ z m. h z (List·Memᴰ·tail m)) in
-    let a = h x (List·Memᴰ·head refl) in
-    let e : suc (length xs) * c ≡ c + length xs * c = omega arith in
-    omega arith
-
-total-times : {A : Type 0} (f : A → ℕ) (c : ℕ) (xs : List A) → total (λ x. f x * c) xs ≡ total f xs * c
-total-times f c [] = sym (zero-mul c)
-total-times f c (x ∷ xs) = let r = total-times f c xs in let e = add-mul (f x) (total f xs) c in omega arith
-
 module _ {A B : Type 0} (f : B → ℕ) (g : A → ℕ) where
-  total-numbered : (F : ℕ → A → B) (i : ℕ) (xs : List A) → ((n : ℕ) (x : A) → List·Memᴰ x xs → f (F n x) ≡ g x) → total f (numberedFrom i xs F) ≡ total g xs
-  total-numbered F i [] h = refl
-  total-numbered F i (x ∷ xs) h = ap₂ (λ (a b : ℕ). a + b) (h i x (List·Memᴰ·head refl)) (total-numbered F (suc i) xs (λ n z m. h n z (List·Memᴰ·tail m)))
-
   total-joined : (F : ℕ → A → List B) (i : ℕ) (xs : List A) → ((n : ℕ) (x : A) → Nth xs n x → total f (F (n + i) x) ≡ g x) → total f (joined (numberedFrom i xs F)) ≡ total g xs
   total-joined F i [] h = refl
   total-joined F i (x ∷ xs) h =
@@ -138,7 +108,7 @@ filled-bytes g e =
   where
     by-bytes : (us : List Cell) → howMany (λ u. eqb (byteAt g u) 1) us ≡ howMany (eqb 1) (map (byteAt g) us)
     by-bytes [] = refl
-    by-bytes (u ∷ us) = ap₂ {C = ℕ} (λ (b : Bool) (n : ℕ). cond b 1 0 + n) (eqb-turned (byteAt g u) 1) (by-bytes us)
+    by-bytes (u ∷ us) = ap₂ {C = ℕ} (λ (b : Bool) (n : ℕ). cond b 1 0 + n) (eqb-flip (byteAt g u) 1) (by-bytes us)
 
 -- the cells of a kind's placements are as many as its shape's filled cells
 scanned-size : (s : Sides) (g : Grid) (us : List Cell) → List·Memᴰ us (map (scan (axes s)) (variants g)) → length us ≡ length (filledCells g)
@@ -189,7 +159,8 @@ module _ (t : Tray) where
   links-of : (k : ℕ) (d : Kind) → Nth (kindsOf t) k d → total weight (placementsOf ord bd k d) ≡ linksOf d
   links-of k d m =
       total-placements ord (t .board) k d weight (cond (ltb 0 (length (d .copies))) (suc (length (filledCells (d .shape)))) 0)
-      (λ n v i us h. ap₂ {C = ℕ} (λ (a b : ℕ). cond (ltb 0 a) (suc b) 0) (nth-getD (λ (x : Kind). length (x .copies)) 0 (kindsOf t) k m) (length-map us _ ∙ scanned-size (t .board .sides) (d .shape) us h))
+      (λ n v i us h. ap₂ {C = ℕ} (λ (a b : ℕ). cond (ltb 0 a) (suc b) 0) (nth-getD (λ (x : Kind). length (x .copies)) 0 (kindsOf t) k m)
+      (length-map us _ ∙ scanned-size (t .board .sides) (d .shape) us h))
       ∙ go (ltb 0 (length (d .copies)))
     where
       go : (b : Bool) → placementsBy (d .shape) * cond b (suc (length (filledCells (d .shape)))) 0 ≡ cond b (placementsBy (d .shape) * suc (length (filledCells (d .shape)))) 0
@@ -254,33 +225,58 @@ refused-some TooManyLinks e = omega arith
 pub refused-not : (v : Verdict) {why : Refusal} → v ≡ Refused why → verdictNumber v ≡ 0 → ⊥
 refused-not v {why} r e = refused-some why (sym (ap verdictNumber r) ∙ e)
 
--- the table in its three parts: the first part of which a row applies decides
-module _ (t : Table) (board : Record) (bytes : List ℕ) (config : Config) (work links : ℕ) (counts : List Row) where
+-- the table in its four parts: the first part of which a row applies decides, among the three that are told without counting, and then the counts
+module _ (t : Table) (board : Record) (bytes : List ℕ) (config : Config) (work links : ℕ) where
   abbrev lent : List Row
   lent = lentRows (recordsOf t) board bytes
 
-  abbrev call : List Row
-  call = callRows config work links
+  abbrev chosen : List Row
+  chosen = configRows config
+
+  abbrev slices : List Row
+  slices = sliceRows config work links
+
+  abbrev early : List Row
+  early = lentRows (recordsOf t) board bytes ++ configRows config ++ sliceRows config work links
 
   lent-numbered : T (all (λ r. ltb 0 (r .number)) lent)
   unfolding lentRows gridRows
   lent-numbered = tt
 
-  call-numbered : T (all (λ r. ltb 0 (r .number)) call)
-  unfolding callRows
-  call-numbered = tt
+  config-numbered : T (all (λ r. ltb 0 (r .number)) chosen)
+  unfolding configRows
+  config-numbered = tt
 
-  pub lent-decides : (firstThatApplies lent ≡ 0 → ⊥) → firstThatApplies (lent ++ call ++ counts) ≡ firstThatApplies lent
-  lent-decides d = ap firstThatApplies (append-assoc lent call counts) ∙ first-decides lent (call ++ counts) d
+  early-numbered : T (all (λ r. ltb 0 (r .number)) early)
+  unfolding lentRows gridRows configRows sliceRows
+  early-numbered = tt
 
-  past-lent : firstThatApplies lent ≡ 0 → firstThatApplies (lent ++ call ++ counts) ≡ firstThatApplies (call ++ counts)
-  past-lent e = ap firstThatApplies (append-assoc lent call counts) ∙ first-passes lent (call ++ counts) lent-numbered e
+  early-nested : early ≡ lent ++ (chosen ++ slices)
+  unfolding lentRows gridRows configRows sliceRows
+  early-nested = refl
 
-  pub call-decides : firstThatApplies lent ≡ 0 → (firstThatApplies call ≡ 0 → ⊥) → firstThatApplies (lent ++ call ++ counts) ≡ firstThatApplies call
-  call-decides e d = past-lent e ∙ first-decides call counts d
+  pub lent-decides : (firstThatApplies lent ≡ 0 → ⊥) → firstThatApplies early ≡ firstThatApplies lent
+  lent-decides d = ap firstThatApplies early-nested ∙ first-decides lent (chosen ++ slices) d
 
-  pub counts-decide : firstThatApplies lent ≡ 0 → firstThatApplies call ≡ 0 → firstThatApplies (lent ++ call ++ counts) ≡ firstThatApplies counts
-  counts-decide e f = past-lent e ∙ first-passes call counts call-numbered f
+  past-lent : firstThatApplies lent ≡ 0 → firstThatApplies early ≡ firstThatApplies (chosen ++ slices)
+  past-lent e = ap firstThatApplies early-nested ∙ first-passes lent (chosen ++ slices) lent-numbered e
+
+  pub config-decides : firstThatApplies lent ≡ 0 → (firstThatApplies chosen ≡ 0 → ⊥) → firstThatApplies early ≡ firstThatApplies chosen
+  config-decides e d = past-lent e ∙ first-decides chosen slices d
+
+  pub slices-decide : firstThatApplies lent ≡ 0 → firstThatApplies chosen ≡ 0 → firstThatApplies early ≡ firstThatApplies slices
+  slices-decide e f = past-lent e ∙ first-passes chosen slices config-numbered f
+
+  pub early-decides : (counts : List Row) → (firstThatApplies early ≡ 0 → ⊥) → firstThatApplies (early ++ counts) ≡ firstThatApplies early
+  early-decides counts d = first-decides early counts d
+
+  pub counts-decide : (counts : List Row) → firstThatApplies early ≡ 0 → firstThatApplies (early ++ counts) ≡ firstThatApplies counts
+  counts-decide counts e = first-passes early counts early-numbered e
+
+-- the counts decide by their numbers
+pub count-rows : {c : Compiled} {r : Counts} (config : Config) → CountsOf c r → countRowsBy (r .placements) (r .links) config ≡ countRows c config
+unfolding countRows
+count-rows config h = ap₂ (λ (a b : ℕ). countRowsBy a b config) (h .placements) (h .links)
 
 -- ---- what rows 2 to 9 leave: their bounds, and so few records that the table lists them all
 pub record Lent (t : Table) (board : Record) (bytes : List ℕ) : Type 0 where
@@ -365,10 +361,11 @@ module _ (t : Table) (board : Record) (bytes : List ℕ) (l : Lent t board bytes
       unfolding formsOf sorted
       sum-kinds f g e =
           ap (λ (fs : List Form). sum (map f fs)) (sym (are .formsAre))
-          ∙ ap sum (map-map-of f (formAt t bytes) (take n first) ∙ map-same (λ i. f (formAt t bytes i)) g (take n first)
+          ∙ ap sum (map-map f (formAt t bytes) (take n first) ∙ map-same (λ i. f (formAt t bytes i)) g (take n first)
           (λ i m. e i (ltb→lt i (t .n) (all-at (λ (j : ℕ). ltb j (t .n)) (take n first) (are .ordered .pieces) m))))
 
-      pub placements-by-pieces : placementCount (compile (lentIn (recordsOf t) board bytes)) ≡ sum (map (placementsAtPiece (axes (gridOf bytes board .sides)) (gridOf bytes board) t bytes) (take n first))
+      pub placements-by-pieces : placementCount (compile (lentIn (recordsOf t) board bytes))
+          ≡ sum (map (placementsAtPiece (axes (gridOf bytes board .sides)) (gridOf bytes board) t bytes) (take n first))
       placements-by-pieces = placements-sum tray ∙ sum-kinds (λ f. placementsBy tray (f .grid)) (placementsAtPiece order (gridOf bytes board) t bytes) placements-by
 
       pub links-by-pieces : n ≤ length first → linkCount (compile (lentIn (recordsOf t) board bytes))
@@ -385,8 +382,8 @@ module _ (t : Table) (board : Record) (bytes first : List ℕ) (n : ℕ) (are : 
   pub kinds-shapes : map (λ d. d .shape) (kindsOf (lentIn (recordsOf t) board bytes)) ≡ map (shapeAt t bytes) (take n first)
   unfolding kindsOf sorted formsOf formAt
   kinds-shapes =
-      map-map-of (λ (d : Kind). d .shape) (made (lentIn (recordsOf t) board bytes)) (forms (sorted (lentIn (recordsOf t) board bytes)))
-      ∙ ap (map (λ (f : Form). f .grid)) (sym (are .formsAre)) ∙ map-map-of (λ (f : Form). f .grid) (formAt t bytes) (take n first)
+      map-map (λ (d : Kind). d .shape) (made (lentIn (recordsOf t) board bytes)) (forms (sorted (lentIn (recordsOf t) board bytes)))
+      ∙ ap (map (λ (f : Form). f .grid)) (sym (are .formsAre)) ∙ map-map (λ (f : Form). f .grid) (formAt t bytes) (take n first)
 
   pub kinds-many : n ≤ length first → length (kindsOf (lentIn (recordsOf t) board bytes)) ≡ n
   kinds-many h =
@@ -396,7 +393,8 @@ module _ (t : Table) (board : Record) (bytes first : List ℕ) (n : ℕ) (are : 
 module _ (order : List ℕ) (g : Grid) (t : Table) (bytes : List ℕ) (i rows copies : ℕ) (r : rows ≡ placementsAtPiece order g t bytes i) (m : copies ≡ copiesAt t bytes i) where
   pub links-some : (f : ℕ) → f ≡ howMany (eqb 1) (gridAt t bytes i .cells) → 0 < copies → linksAtPiece order g t bytes i ≡ rows * (1 + f)
   links-some f e h =
-      ap {B = ℕ} (λ (b : Bool). cond b (placementsAtPiece order g t bytes i * (1 + howMany (eqb 1) (gridAt t bytes i .cells))) 0) (is-true (ltb 0 (copiesAt t bytes i)) (lt→ltb 0 (copiesAt t bytes i) (omega arith)))
+      ap {B = ℕ} (λ (b : Bool). cond b (placementsAtPiece order g t bytes i * (1 + howMany (eqb 1) (gridAt t bytes i .cells))) 0)
+      (is-true (ltb 0 (copiesAt t bytes i)) (lt→ltb 0 (copiesAt t bytes i) (omega arith)))
       ∙ ap₂ {C = ℕ} (λ (a b : ℕ). a * (1 + b)) (sym r) (sym e)
 
   pub links-none : copies ≤ 0 → linksAtPiece order g t bytes i ≡ 0
@@ -420,7 +418,7 @@ module _ (f : ℕ → ℕ) (xs : List ℕ) (n : ℕ) (h : n ≤ length xs) (k : 
       ap (λ (l : List ℕ). sum (map f l)) (drop-of-length-le (take n xs) e)
 
 -- two counts over the first entries, each from what is left: what is counted and what is left make all, and the counts stay small
-pub record Counted (f g : ℕ → ℕ) (first : List ℕ) (kinds base k placements links : ℕ) : Type 0 where
+pub record CountedTo (f g : ℕ → ℕ) (first : List ℕ) (kinds base k placements links : ℕ) : Type 0 where
   pub within : k ≤ kinds
   pub few : placements ≤ 3072 * k
   pub fewLinks : links ≤ 144 + 1575936 * k
@@ -428,12 +426,12 @@ pub record Counted (f g : ℕ → ℕ) (first : List ℕ) (kinds base k placemen
   pub allLinks : links + sumFrom g first kinds k ≡ base + sumFrom g first kinds 0
 
 module _ (f g : ℕ → ℕ) (first : List ℕ) (kinds base : ℕ) where
-  pub counted-none : base ≤ 144 → Counted f g first kinds base 0 0 base
+  pub counted-none : base ≤ 144 → CountedTo f g first kinds base 0 0 base
   counted-none h = record { within = omega arith; few = omega arith; fewLinks = omega arith; all = omega arith; allLinks = refl }
 
-  module _ (h : kinds ≤ length first) (k placements links : ℕ) (c : Counted f g first kinds base k placements links) where
+  module _ (h : kinds ≤ length first) (k placements links : ℕ) (c : CountedTo f g first kinds base k placements links) where
     pub counted-next : k < kinds → (rows added all : ℕ) → rows ≡ f (getD first k 0) → rows ≤ 3072 → added ≡ g (getD first k 0) → added ≤ 1575936 → all ≡ links + added
-        → Counted f g first kinds base (k + 1) (placements + rows) all
+        → CountedTo f g first kinds base (k + 1) (placements + rows) all
     counted-next i rows added all e a d b s =
         let x = sum-next f first kinds h k i in
         let y = sum-next g first kinds h k i in
@@ -467,7 +465,7 @@ module _ (order : List ℕ) (g : Grid) (places : List ℕ) (n : ℕ) (on : OnBoa
   unfolding fitsIn
   fits-by-places grids =
       let f : Cell → ℕ = λ v. howMany (fits (scan order g) v) (map (scan order) grids) in
-      ap (λ (us : List Cell). sum (map f us)) (sym (on .cells)) ∙ ap sum (map-map-of f (cellAt (g .sides)) (take n places))
+      ap (λ (us : List Cell). sum (map f us)) (sym (on .cells)) ∙ ap sum (map-map f (cellAt (g .sides)) (take n places))
 
   pub cells-many : length (scan order g) ≡ n
   cells-many = ap length (sym (on .cells)) ∙ length-map (take n places) (cellAt (g .sides)) ∙ length-take-le n places (on .within)
@@ -528,3 +526,68 @@ unfolding unframed compile kindsOf sorted placementCount linkCount rowsOf limits
 counts-unframed t {s} {r} e h =
     let k = subst (λ (u : Tray). CountsOf (compile u) r) e h in
     record { placements = k .placements; links = k .links }
+
+-- so what is counted of a stripped tray are the counts of the tray that is listed
+pub counts-stripped : (t : Table) (board : Record) (bytes : List ℕ) {s : StrippedRecords} {cells places first numbers : List ℕ} {r : Counts}
+    → StripsTray t board bytes s cells → Counted (s .table) (s .board) cells places first numbers r → CountsOf (compile (trayIn (recordsOf t) board bytes)) r
+counts-stripped t board bytes s c = counts-unframed (trayIn (recordsOf t) board bytes) (s .tray) (c .counts)
+
+-- ---- variants put into a slice
+-- those that stand before a place stay where what stands before it does
+pub variants-kept : (g : Grid) (at n : ℕ) (old new : List ℕ) → at + 25 ≤ n → take n new ≡ take n old → VariantsAt g old at → VariantsAt g new at
+unfolding VariantsAt
+variants-kept g at n old new h e v =
+    record { within = subst (λ (k : ℕ). k ≤ 24) count (v .within); areMaps = subst (λ (ks : List ℕ). T (all (λ k. ltb k 48) ks)) part (v .areMaps); make = ap (turnedBy g) (sym part) ∙ v .make }
+  where
+    count : getD old at 0 ≡ getD new at 0
+    count = sym (getD-take n old at 0 (omega arith)) ∙ ap (λ (xs : List ℕ). getD xs at 0) (sym e) ∙ getD-take n new at 0 (omega arith)
+
+    part : take (getD old at 0) (drop (at + 1) old) ≡ take (getD new at 0) (drop (at + 1) new)
+    part =
+        let m = getD old at 0 in
+        let few : at + 1 + m ≤ n = let w = v .within in omega arith in
+        sym (front-part (at + 1) n m old few) ∙ ap (λ (xs : List ℕ). take m (drop (at + 1) xs)) (sym e) ∙ front-part (at + 1) n m new few
+        ∙ ap (λ (k : ℕ). take k (drop (at + 1) new)) count
+
+-- A slice xs in which the 24 numbers behind a place are ys, and k at the place, as the code leaves them
+module _ (at k : ℕ) (xs ys : List ℕ) (room : at + 25 ≤ length xs) (as-long : length ys ≡ length (midOf (at + 1) (at + 25 - (at + 1)) xs)) where
+  abbrev pub withVariants : List ℕ
+  withVariants = set (putMid (at + 1) (at + 25 - (at + 1)) xs ys) at k
+
+  pub put-long : length withVariants ≡ length xs
+  put-long = length-set (putMid (at + 1) (at + 25 - (at + 1)) xs ys) at k ∙ same-len-mid (at + 1) (at + 25 - (at + 1)) xs ys as-long
+
+  pub part-long : length ys ≡ at + 25 - (at + 1)
+  part-long = as-long ∙ mid-len (at + 1) (at + 25) xs room
+
+  front-long : length (take (at + 1) xs) ≡ at + 1
+  front-long = length-take-le (at + 1) xs (omega arith)
+
+  put-behind : drop (at + 1) withVariants ≡ ys ++ postOf (at + 1) (at + 25 - (at + 1)) xs
+  put-behind =
+      drop-set-lt (at + 1) (putMid (at + 1) (at + 25 - (at + 1)) xs ys) at k (omega arith)
+      ∙ drop-at (take (at + 1) xs) (ys ++ postOf (at + 1) (at + 25 - (at + 1)) xs) (at + 1) front-long
+
+  -- the numbers behind the place are ys
+  pub put-part : midOf (at + 1) (at + 25 - (at + 1)) withVariants ≡ ys
+  put-part = ap (take (at + 25 - (at + 1))) put-behind ∙ take-at ys (postOf (at + 1) (at + 25 - (at + 1)) xs) (at + 25 - (at + 1)) part-long
+
+  pub put-variants : (g : Grid) → Numbers g (variants g) ys k → PutVariants g at xs withVariants
+  unfolding VariantsAt
+  put-variants g n =
+      record {
+        there = (
+            let first : take k (drop (at + 1) withVariants) ≡ take k ys =
+            ap (take k) put-behind ∙ take-append-le k ys (postOf (at + 1) (at + 25 - (at + 1)) xs) (let w = n .within in let l = part-long in omega arith) in
+            subst (λ (m : ℕ). Numbers g (variants g) (drop (at + 1) withVariants) m)
+            (sym (getD-set-same (putMid (at + 1) (at + 25 - (at + 1)) xs ys) at k 0 (let l = same-len-mid (at + 1) (at + 25 - (at + 1)) xs ys as-long in omega arith)))
+            (record { within = n .within; areMaps = subst (λ (ks : List ℕ). T (all (λ m. ltb m 48) ks)) (sym first) (n .areMaps); make = ap (turnedBy g) first ∙ n .make }));
+        before = take-set-le at (putMid (at + 1) (at + 25 - (at + 1)) xs ys) at k (omega arith)
+            ∙ take-append-le at (take (at + 1) xs) (ys ++ postOf (at + 1) (at + 25 - (at + 1)) xs) (let l = front-long in omega arith) ∙ take-take at (at + 1) xs (omega arith);
+      }
+
+-- the variants of each kind before k, and those of kind k put behind them
+pub variants-next : (grids : ℕ → Grid) (old new : List ℕ) (k : ℕ) → ((j : ℕ) → j < k → VariantsAt (grids j) old (25 * j)) → PutVariants (grids k) (25 * k) old new
+    → (j : ℕ) → j < k + 1 → VariantsAt (grids j) new (25 * j)
+variants-next grids old new k h p =
+    below-more (λ (j : ℕ). VariantsAt (grids j) new (25 * j)) k (λ j l. variants-kept (grids j) (25 * j) (25 * k) old new (omega arith) (p .before) (h j l)) (p .there)

@@ -1,5 +1,5 @@
 -- Numbering the places of a box, and the fit test place by place. Assumes nothing.
-use Prim.Native.Nat.{ℕ, zero, suc, _+_, _-_, _≤_, _<_}
+use Prim.Native.Nat.{ℕ, suc, _+_, _-_, _≤_, _<_}
 use mathlib.Core.Bool.{Bool, true, false, cond, _&&_}
 use mathlib.Core.List.{List, [], _∷_, map, List·Memᴰ, Memᴰ·cast}
 use mathlib.Core.Path.{_≡_, refl, sym, ap, ap₂, _∙_, subst}
@@ -10,12 +10,14 @@ use borrow.Author.Tests.{eqb-true, eqb-false, ltb-true, ltb-false}
 use lib.Dec.{T, eqb, ltb, leb, eqb→eq, ltb→lt, leb→le}
 use lib.ListN.{length, getD, take, drop, set, replicate, length-set, length-map, length-replicate, getD-replicate, drop-of-length-le}
 use lib.Seq.{drop-cons, length-take-le, getD-take, getD-set-same, getD-set-other, ext-getD}
-use Rattle.definitions.specs.Lists.{consIf, keep, all, any, howMany, before, from, below}
+use Rattle.lists.specs.Lists.{consIf, keep, all, any, howMany, before, from, below}
+use Rattle.lists.proofs.TestLaws.{tests-same, and-left, and-right, is-false, eqb-of}
+use Rattle.lists.proofs.ListLaws.{all-at, all-of, any-at, any-of, all-getD, getD-map}
+use Rattle.lists.proofs.RangeLaws.{length-below, getD-number}
 use Rattle.definitions.specs.Grid.{Sides, Cell, Grid, InBox, volume, placeOf, byteAt, sameCell, filledCells}
 use Rattle.definitions.specs.Maps.{mapOf, mapGrid}
 use Rattle.definitions.specs.Scan.{scan, scanNumber}
 use Rattle.definitions.specs.Placements.{origin, lies, reaches, fits}
-use Rattle.definitions.proofs.ListLaws.{and-left, and-right, is-true, is-false, eqb-of, all-at, all-of, any-at, any-of, length-below}
 use Rattle.definitions.proofs.MapLaws.{filled-at, filled-of}
 use Rattle.definitions.proofs.WellMadeLaws.{sameCell→eq, sameCell-refl}
 use Rattle.shape.specs.Places.{cellAt}
@@ -27,11 +29,6 @@ use Rattle.shape.proofs.GridLaws.{box-places}
 use Rattle.shape.proofs.VariantLaws.{scan-has, scan-from}
 use Rattle.placements.specs.Fitting.{fitsGrid}
 
--- two tests that imply each other are equal
-pub both-ways : (a b : Bool) → (T a → T b) → (T b → T a) → a ≡ b
-both-ways true b f g = sym (is-true b (f tt))
-both-ways false b f g = sym (is-false b g)
-
 -- ---- a box's cells
 pub box-test : (s : Sides) (u : Cell) → u .x < s .a → u .y < s .b → Decided (ltb (u .z) (s .c)) (InBox s u)
 box-test s u p q = go (ltb (u .z) (s .c)) refl
@@ -41,21 +38,6 @@ box-test s u p q = go (ltb (u .z) (s .c)) refl
     go false e = λ w. let h = ltb-false (u .z) (s .c) e in let l = w .2 in omega arith
 
 -- ---- numbering places
-all-getD : (p : ℕ → Bool) (xs : List ℕ) (i : ℕ) → i < length xs → T (all p xs) → T (p (getD xs i 0))
-all-getD p [] i h t = absurd (omega arith)
-all-getD p (x ∷ xs) zero h t = and-left (p x) (all p xs) t
-all-getD p (x ∷ xs) (suc i) h t = all-getD p xs i (omega arith) (and-right (p x) (all p xs) t)
-
-getD-from : (i n k : ℕ) → k < n → getD (from i n) k 0 ≡ i + k
-getD-from i zero k h = absurd (omega arith)
-getD-from i (suc n) zero h = omega arith
-getD-from i (suc n) (suc k) h = getD-from (suc i) n k (omega arith) ∙ omega arith
-
-getD-map : (f : ℕ → ℕ) (xs : List ℕ) (i : ℕ) → i < length xs → getD (map f xs) i 0 ≡ f (getD xs i 0)
-getD-map f [] i h = absurd (omega arith)
-getD-map f (x ∷ xs) zero h = refl
-getD-map f (x ∷ xs) (suc i) h = getD-map f xs i (omega arith)
-
 module _ (ps : List ℕ) where
   -- what stands at each place once the places from number k on are written
   unfoldable pub NumberedFrom : ℕ → List ℕ → Type 0
@@ -90,15 +72,15 @@ module _ (ps : List ℕ) where
   numbered-all xs f =
       ext-getD 0 xs (map (λ i. before (eqb i) ps) (below (length xs))) (sym (length-map (below (length xs)) (λ i. before (eqb i) ps) ∙ length-below (length xs)))
       (λ i h. f i h ∙ zero-add (before (eqb i) ps)
-      ∙ sym (getD-map (λ j. before (eqb j) ps) (below (length xs)) i (subst (λ (k : ℕ). i < k) (sym (length-below (length xs))) h)
-      ∙ ap (λ (j : ℕ). before (eqb j) ps) (getD-from 0 (length xs) i h ∙ zero-add i)))
+      ∙ sym (getD-map 0 0 (λ j. before (eqb j) ps) (below (length xs)) i (subst (λ (k : ℕ). i < k) (sym (length-below (length xs))) h)
+      ∙ ap (λ (j : ℕ). before (eqb j) ps) (getD-number 0 (length xs) i 0 h ∙ zero-add i)))
 
 module _ (places : List ℕ) (n size : ℕ) (h : n ≤ length places) (t : T (all (λ i. ltb i size) (take n places))) where
   pub place-in : (k : ℕ) → 0 < k → k ≤ n → getD places (k - 1) 0 < size
   place-in k some most =
       let l = length-take-le n places h in
       subst (λ (i : ℕ). i < size) (getD-take n places (k - 1) 0 (omega arith))
-      (ltb→lt (getD (take n places) (k - 1) 0) size (all-getD (λ i. ltb i size) (take n places) (k - 1) (omega arith) t))
+      (ltb→lt (getD (take n places) (k - 1) 0) size (all-getD (λ i. ltb i size) 0 (take n places) t (k - 1) (omega arith)))
 
   pub number-start : (xs : List ℕ) → xs ≡ replicate size n → NumberedFrom (take n places) n xs
   number-start xs e = numbered-none (take n places) n size xs (length-take-le n places h) e
@@ -130,7 +112,7 @@ filled-there g u t = let r = any-at (sameCell u) (filledCells g) t in Memᴰ·ca
 -- a cell is filled: its box has it, and its byte is 1
 pub filled-in : (g : Grid) (u : Cell) → InBox (g .sides) u → eqb (byteAt g u) 1 ≡ any (sameCell u) (filledCells g)
 filled-in g u b =
-    both-ways (eqb (byteAt g u) 1) (any (sameCell u) (filledCells g))
+    tests-same (eqb (byteAt g u) 1) (any (sameCell u) (filledCells g))
     (λ t. any-of (sameCell u) (filledCells g) (filled-of g u b (eqb→eq (byteAt g u) 1 t)) (sameCell-refl u))
     (λ t. eqb-of (filled-at g u (filled-there g u t) .1))
 
@@ -190,7 +172,7 @@ pub fits-scan : (order : List ℕ) → IsOrder order → (g h : Grid) (v : Cell)
 unfolding fits fitsGrid
 fits-scan order o g h v =
     ap (λ (b : Bool). reaches v (origin (scan order h)) && b)
-    (both-ways (all p (scan order h)) (all q (filledCells h))
+    (tests-same (all p (scan order h)) (all q (filledCells h))
     (λ t. all-of q (filledCells h) (λ u m. subst T (same u) (all-at p (scan order h) t (scan-has order o h u m))))
     (λ t. all-of p (scan order h) (λ u m. subst T (sym (same u)) (all-at q (filledCells h) t (scan-from order o h u m)))))
   where
@@ -205,7 +187,7 @@ fits-scan order o g h v =
 
     same : (u : Cell) → p u ≡ q u
     same u =
-        both-ways (p u) (q u)
+        tests-same (p u) (q u)
         (λ t. let r = any-at (sameCell (to u)) (scan order g) t in any-of (sameCell (to u)) (filledCells g) (scan-from order o g (r .0) (r .1)) (r .2))
         (λ t. let r = any-at (sameCell (to u)) (filledCells g) t in any-of (sameCell (to u)) (scan order g) (scan-has order o g (r .0) (r .1)) (r .2))
 
@@ -214,7 +196,7 @@ unfolding scanNumber
 scan-number-place s [] u b = refl
 scan-number-place s (p ∷ ps) u b =
     ap₂ (λ (t : Bool) (n : ℕ). cond t 0 (suc n))
-    (both-ways (sameCell u (cellAt s p)) (eqb (placeOf s u) p) (λ t. eqb-of (ap (placeOf s) (sameCell→eq u (cellAt s p) t) ∙ place-of-cell s p))
+    (tests-same (sameCell u (cellAt s p)) (eqb (placeOf s u) p) (λ t. eqb-of (ap (placeOf s) (sameCell→eq u (cellAt s p) t) ∙ place-of-cell s p))
     (λ t. subst (λ (w : Cell). T (sameCell u w)) (sym (cell-at-place s u b) ∙ ap (cellAt s) (eqb→eq (placeOf s u) p t)) (sameCell-refl u)))
     (scan-number-place s ps u b)
 

@@ -2,22 +2,23 @@
 -- refusals as the code tests them. Assumes nothing.
 use Prim.Native.Nat.{ℕ, zero, suc, _+_, _-_, _≤_, _<_}
 use mathlib.Core.Bool.{Bool, true, false, cond, not, _&&_}
-use mathlib.Core.List.{List, [], _∷_, map}
+use mathlib.Core.List.{List, [], _∷_, map, map-map}
 use mathlib.Core.Path.{_≡_, refl, sym, ap, ap₂, _∙_, subst}
+use native.Mathlib.Nat.{mul-pos}
 use native.Mathlib.Numerals.{add-one}
 use native.Mathlib.Omega.{arith}
 use borrow.Author.Tests.{leb-true, leb-false, le-leb, lt-leb}
 use denote.Laws.{Is}
 use denote.Struct.Laws as LL
-use lib.Dec.{T, ltb, leb, eqb}
+use lib.Dec.{T, ltb, leb, eqb, leb→le}
 use lib.ListN.{length, getD, take, drop, length-drop, length-map, length-replicate, drop-of-length-le}
 use lib.Seq.{length-take-le, drop-cons, getD-take}
-use Rattle.definitions.specs.Lists.{all, any, howMany, sum}
+use Rattle.lists.specs.Lists.{all, any, howMany, sum}
+use Rattle.lists.proofs.TestLaws.{and-left, and-right, is-true, is-false, holds}
+use Rattle.lists.proofs.ListLaws.{all-getD, any-at, howMany-any, howMany-pos}
 use Rattle.definitions.specs.Grid.{Sides, Grid, volume}
 use Rattle.definitions.specs.Refusals.{sidesOf, gridOf, isSide, sidesFit, cellsLie, areBits, someFilled, copyCount, boardCellCount, row, pieceOf}
 use Rattle.definitions.specs.declared.Record.{Record}
-use Rattle.definitions.proofs.ListLaws.{and-left, and-right, is-true, is-false, holds, any-at, howMany-any, howMany-pos}
-use Rattle.definitions.proofs.MapLaws.{map-map-of}
 use Rattle.shape.specs.Coords.{asSides, Fit}
 use Rattle.shape.specs.Grids.{asGrid, Whole}
 use Rattle.shape.specs.declared.Coord.{Coord}
@@ -41,6 +42,19 @@ sides-small r h =
       b = side-small (r .b) (and-left (isSide (r .b)) (isSide (r .c)) h2);
       c = side-small (r .c) (and-right (isSide (r .b)) (isSide (r .c)) h2);
     }
+
+pub side-some : (n : ℕ) → T (isSide n) → 0 < n
+unfolding isSide
+side-some n t = leb→le 1 n (and-left (leb 1 n) (leb n 8) t)
+
+pub sides-some : (r : Record) → T (sidesFit r) → 0 < volume (sidesOf r)
+unfolding sidesOf volume sidesFit
+sides-some r t =
+    let u = and-right (isSide (r .a)) (isSide (r .b) && isSide (r .c)) t in
+    let a = side-some (r .a) (and-left (isSide (r .a)) (isSide (r .b) && isSide (r .c)) t) in
+    let b = side-some (r .b) (and-left (isSide (r .b)) (isSide (r .c)) u) in
+    let c = side-some (r .c) (and-right (isSide (r .b)) (isSide (r .c)) u) in
+    mul-pos (mul-pos a b) c
 
 pub cells-end : (bytes : List ℕ) (r : Record) → T (cellsLie bytes r) → r .start + volume (sidesOf r) ≤ length bytes
 unfolding cellsLie
@@ -130,11 +144,6 @@ records-count t long = go (leb (t .n) 16) refl
     go true e = let l = leb-true (t .n) 16 e in length-take-le (t .n) (t .rows) (omega arith)
     go false e = length-replicate (t .n) noRecord
 
-all-get : {A : Type 0} (p : A → Bool) (d : A) (xs : List A) → T (all p xs) → (i : ℕ) → i < length xs → T (p (getD xs i d))
-all-get p d [] h i l = absurd (omega arith)
-all-get p d (x ∷ xs) h zero l = and-left (p x) (all p xs) h
-all-get p d (x ∷ xs) h (suc i) l = all-get p d xs (and-right (p x) (all p xs) h) i (omega arith)
-
 -- record i, read in the rows
 module _ (t : Table) (few : t .n ≤ 16) (long : length (t .rows) ≡ 16) (i : ℕ) (h : i < t .n) where
   in-records : i < length (recordsOf t)
@@ -147,7 +156,7 @@ module _ (t : Table) (few : t .n ≤ 16) (long : length (t .rows) ≡ 16) (i : �
   records-from = rw (add-one, drop-cons (recordsOf t) i noRecord in-records, record-at)
 
   pub record-passes : (p : Record → Bool) → T (all p (recordsOf t)) → T (p (getD (t .rows) i noRecord))
-  record-passes p a = rw record-at at (all-get p noRecord (recordsOf t) a i in-records)
+  record-passes p a = rw record-at at (all-getD p noRecord (recordsOf t) a i in-records)
 
 -- A loop over the records returns at the first that fails a test: those that are left decide.
 abbrev pub Left : (Record → Bool) → Table → ℕ → Type 0
@@ -195,4 +204,4 @@ pub grid-rows : (rs : List Record) (board : Record) (bytes : List ℕ)
     []
 unfolding gridRows copyCount boardCellCount
 grid-rows rs board bytes =
-    rw (all-grids areBits bytes rs, all-grids someFilled bytes rs, map-map-of (λ q. q .count) (pieceOf bytes) rs)
+    rw (all-grids areBits bytes rs, all-grids someFilled bytes rs, map-map (λ q. q .count) (pieceOf bytes) rs)

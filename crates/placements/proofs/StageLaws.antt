@@ -5,14 +5,18 @@ use lib.ListN.{length}
 use Rattle.definitions.specs.Placements.{compile}
 use Rattle.definitions.specs.Refusals.{Call, lentOf, trayOf, table, refusal, firstThatApplies}
 use Rattle.placements.specs.Tables.{trayIn}
-use Rattle.placements.specs.Stages.{gridRows, lentRows, callRows, countRows}
+use Rattle.placements.specs.Stages.{gridRows, lentRows, configRows, sliceRows, countRowsBy, countRows}
 
 pub stages : (l : Call)
-    → table l ≡ lentRows (l .pieces) (l .board) (l .bytes) ++ callRows (l .config) (length (l .work)) (length (l .links)) ++ countRows (compile (trayIn (l .pieces) (l .board) (l .bytes))) (l .config)
-unfolding table lentRows gridRows callRows countRows lentOf trayOf
+    → table l
+    ≡ lentRows (l .pieces) (l .board) (l .bytes) ++ configRows (l .config) ++ sliceRows (l .config) (length (l .work)) (length (l .links))
+    ++ countRows (compile (trayIn (l .pieces) (l .board) (l .bytes))) (l .config)
+unfolding table lentRows gridRows configRows sliceRows countRowsBy countRows lentOf trayOf
 stages l = refl
 
 pub refusal-stages : (l : Call)
-    → refusal l ≡ firstThatApplies (lentRows (l .pieces) (l .board) (l .bytes) ++ callRows (l .config) (length (l .work)) (length (l .links)) ++ countRows (compile (trayIn (l .pieces) (l .board) (l .bytes))) (l .config))
+    → refusal l
+    ≡ firstThatApplies (lentRows (l .pieces) (l .board) (l .bytes) ++ configRows (l .config) ++ sliceRows (l .config) (length (l .work)) (length (l .links))
+    ++ countRows (compile (trayIn (l .pieces) (l .board) (l .bytes))) (l .config))
 unfolding refusal
 refusal-stages l = ap firstThatApplies (stages l)

@@ -2,7 +2,7 @@
 -- after the other stand for the stripped pieces; and rows 2 to 9 let a stripped tray pass where they let the lent one pass. Assumes nothing.
 use Prim.Native.Nat.{ℕ, suc, _+_, _*_, _-_, _≤_, _<_}
 use mathlib.Core.Bool.{Bool, _&&_}
-use mathlib.Core.List.{List, [], _∷_, _++_, map, map-append, List·Memᴰ, List·Memᴰ·append-cases, List·Memᴰ·eq-of-singleton, Memᴰ·of-map, head-eq-of-cons-eq, tail-eq-of-cons-eq}
+use mathlib.Core.List.{List, [], _∷_, _++_, map, map-append, List·Memᴰ, List·Memᴰ·append-cases, List·Memᴰ·eq-of-singleton, Memᴰ·of-map, head-eq-of-cons-eq, tail-eq-of-cons-eq, map-map}
 use mathlib.Core.Logic.{_⊎_, inl, inr}
 use mathlib.Core.Path.{_≡_, refl, sym, ap, ap₂, _∙_, subst}
 use native.Mathlib.Numerals.{add-one}
@@ -11,26 +11,26 @@ use borrow.Author.Tests.{le-ltb}
 use lib.Dec.{T, ltb, leb, leb→le, le→leb}
 use lib.ListN.{length, getD, take, drop, set, length-set, length-map}
 use lib.Seq.{paste, append-snoc, set-at, getD-at, drop-cons, take-take, take-length, take-at, drop-at, take-suc, take-suc-set, take-paste, length-take-le, length-paste}
-use Rattle.definitions.specs.Lists.{all, sum}
+use Rattle.lists.specs.Lists.{all, sum}
+use Rattle.lists.proofs.TestLaws.{and-left, and-right, and-both, is-true}
+use Rattle.lists.proofs.ListLaws.{all-at, all-of, all-map, drop-take, map-same}
 use Rattle.definitions.specs.Grid.{Sides, Grid, volume}
 use Rattle.definitions.specs.Stripping.{corner, strip, FitsIn, frameOf, ownFrame}
 use Rattle.definitions.specs.Framing.{unframed}
 use Rattle.definitions.specs.Kinds.{Piece, Tray}
 use Rattle.definitions.specs.Refusals.{sidesOf, gridOf, pieceOf, stripPiece, stripTray, isSide, sidesFit, cellsLie, areBits, someFilled, copyCount, boardCellCount, firstThatApplies}
 use Rattle.definitions.specs.declared.Record.{Record}
-use Rattle.definitions.proofs.ListLaws.{and-left, and-right, and-both, all-at, all-of, all-map, drop-take, is-true}
-use Rattle.definitions.proofs.MapLaws.{map-map-of}
-use Rattle.definitions.proofs.GroupLaws.{map-same}
 use Rattle.definitions.proofs.RefusalLaws.{PassedLent, fit-volume}
 use Rattle.definitions.proofs.StrippingLaws.{strip-bits, strip-whole, strip-sum, strip-fits, strip-some}
 use Rattle.definitions.proofs.StrippedLaws.{strip-filled}
-use Rattle.shape.specs.Coords.{asSides}
+use Rattle.shape.specs.Coords.{asSides, asCell}
 use Rattle.shape.specs.Stripping.{StripsInto}
 use Rattle.shape.specs.declared.stripping.Window.{Window}
 use Rattle.shape.proofs.StrippingLaws.{strip-volume}
 use Rattle.placements.specs.declared.Table.{Table}
 use Rattle.placements.specs.declared.stripping.StrippedRecord.{StrippedRecord}
-use Rattle.placements.specs.Tables.{noRecord, recordsOf, lentIn, trayIn}
+use Rattle.placements.specs.declared.stripping.StrippedRecords.{StrippedRecords}
+use Rattle.placements.specs.Tables.{noRecord, recordsOf, framedIn, lentIn, trayIn}
 use Rattle.placements.specs.Stages.{gridRows, lentRows}
 use Rattle.placements.specs.Counting.{Accepted9}
 use Rattle.placements.specs.Stripping.{endOf, Before, StripsRecord, StripsPieces, StripsTray}
@@ -170,7 +170,7 @@ module _ (t : Table) (bytes old : List ℕ) (long : length (t .rows) ≡ 16) whe
       record {
         asMany = s .asMany;
         rows = s .many;
-        pieces = ap (map (pieceOf out)) records ∙ s .pieces ∙ sym (ap (λ (rs : List Record). map stripPiece (map (pieceOf bytes) rs)) lent ∙ map-map-of stripPiece (pieceOf bytes) (take i (t .rows)));
+        pieces = ap (map (pieceOf out)) records ∙ s .pieces ∙ sym (ap (λ (rs : List Record). map stripPiece (map (pieceOf bytes) rs)) lent ∙ map-map stripPiece (pieceOf bytes) (take i (t .rows)));
         ends = subst (λ (rs : List Record). T (all (λ q. leb (endOf q) 8704) rs)) (sym records)
             (all-of (λ q. leb (endOf q) 8704) (take i (table .rows)) (λ q m. le→leb (endOf q) 8704 (let a = leb→le (endOf q) (512 * i + 512) (all-at (λ (r : Record). leb (endOf r) (512 * i + 512)) (take i (table .rows)) (s .ends) m) in omega (arith, s .within))));
         before = s .before;
@@ -311,7 +311,7 @@ module _ (t : Table) (board : Record) (bytes : List ℕ) (lent : Lent t board by
           bits = all-stripped areBits (λ q m. strip-bits (q .grid) (all-at (λ (x : Piece). areBits (x .grid)) (tray .pieces) (p .bits) m));
           filled = all-stripped someFilled (λ q m. strip-filled (q .grid) (all-at (λ (x : Piece). areBits (x .grid)) (tray .pieces) (p .bits) m) (piece-whole q m)
               (all-at (λ (x : Piece). someFilled (x .grid)) (tray .pieces) (p .filled) m));
-          fewCopies = let e = ap sum (map-map-of {B = Piece} (λ q. q .count) stripPiece (tray .pieces)) in let h = p .fewCopies in omega arith;
+          fewCopies = let e = ap sum (map-map {B = Piece} (λ q. q .count) stripPiece (tray .pieces)) in let h = p .fewCopies in omega arith;
           fewCells = let e = strip-sum (gridOf bytes board) (p .boardBits) (board-size t board bytes lent) in let h = p .fewCells in omega arith;
         }
 
@@ -372,3 +372,9 @@ pub each-below : (bound n : ℕ) (xs : List ℕ) → T (all (λ i. ltb i bound) 
 each-below bound n xs t i h l =
     let e : i + 1 - 1 ≡ i = omega arith in
     subst (λ (j : ℕ). getD xs j 0 < bound) e (place-in xs n bound l t (i + 1) (omega arith) (omega arith))
+
+-- ---- the stripped records, framed as their board lies in the lent box, are the tray that is listed
+pub framed-stripped : (t : Table) (board : Record) (bytes : List ℕ) {r : StrippedRecords} {cells : List ℕ} → StripsTray t board bytes r cells → (lent : Sides) → lent ≡ sidesOf board
+    → framedIn (recordsOf (r .table)) (r .board) cells (record { lent = lent; at = asCell (r .at) }) ≡ trayIn (recordsOf t) board bytes
+unfolding unframed stripTray frameOf gridOf
+framed-stripped t board bytes s lent e = λ i. record { board = s .tray i .board; pieces = s .tray i .pieces; frame = record { lent = e i; at = s .at i } }

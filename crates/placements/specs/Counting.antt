@@ -1,20 +1,22 @@
 -- How many placements a grid has on a board.
-use Prim.Native.Nat.{ℕ, _≤_}
+use Prim.Native.Nat.{ℕ, _+_, _*_, _≤_, _<_}
 use mathlib.Core.List.{List, map}
 use mathlib.Core.Path.{_≡_}
 use lib.Dec.{T, ltb}
-use lib.ListN.{length, take}
-use Rattle.definitions.specs.Lists.{all, howMany, sum}
+use lib.ListN.{length, take, drop, getD}
+use Rattle.lists.specs.Lists.{all, howMany, sum}
 use Rattle.definitions.specs.Grid.{Grid, volume}
 use Rattle.definitions.specs.Scan.{axes, scan}
 use Rattle.definitions.specs.Kinds.{variants}
-use Rattle.definitions.specs.Placements.{Compiled, fits}
-use Rattle.definitions.specs.Refusals.{placementCount, linkCount, firstThatApplies}
+use Rattle.definitions.specs.Placements.{Compiled, compile, fits}
+use Rattle.definitions.specs.Refusals.{gridOf, sidesOf, placementCount, linkCount, firstThatApplies}
 use Rattle.definitions.specs.declared.Record.{Record}
 use Rattle.shape.specs.Places.{cellAt}
+use Rattle.shape.specs.Variants.{Numbers}
 use Rattle.placements.specs.declared.Table.{Table}
 use Rattle.placements.specs.declared.counting.Counts.{Counts}
-use Rattle.placements.specs.Tables.{recordsOf}
+use Rattle.placements.specs.Tables.{recordsOf, lentIn}
+use Rattle.placements.specs.Merging.{gridAt, AreKinds}
 use Rattle.placements.specs.Stages.{lentRows}
 
 -- the first n places are those of a board's filled cells in scan order, and there are at most 128
@@ -36,6 +38,22 @@ placementsIn order board g = fitsIn order board (variants g)
 pub record CountsOf (c : Compiled) (r : Counts) : Type 0 where
   pub placements : r .placements ≡ placementCount c
   pub links : r .links ≡ linkCount c
+
+-- the variants of a grid stand in a slice: how many they are at a place, and behind it their map numbers
+unfoldable pub VariantsAt : Grid → List ℕ → ℕ → Type 0
+VariantsAt g numbers at = Numbers g (variants g) (drop (at + 1) numbers) (getD numbers at 0)
+
+-- they have been put into a slice, of which nothing before the place is changed
+pub record PutVariants (g : Grid) (at : ℕ) (old new : List ℕ) : Type 0 where
+  pub there : VariantsAt g new at
+  pub before : take at new ≡ take at old
+
+-- what counting leaves of a tray: the places of the board's filled cells, a piece of each kind, each kind's variants, 25 numbers for each, and the counts
+pub record Counted (t : Table) (board : Record) (bytes places first numbers : List ℕ) (r : Counts) : Type 0 where
+  pub onBoard : OnBoard (axes (sidesOf board)) (gridOf bytes board) places (r .cells)
+  pub areKinds : AreKinds t bytes first (r .kinds)
+  pub eachKind : (k : ℕ) → k < r .kinds → VariantsAt (gridAt t bytes (getD first k 0)) numbers (25 * k)
+  pub counts : CountsOf (compile (lentIn (recordsOf t) board bytes)) r
 
 -- rows 2 to 9 let a tray pass
 unfoldable pub Accepted9 : Table → Record → List ℕ → Type 0

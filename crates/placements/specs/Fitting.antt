@@ -1,6 +1,6 @@
 -- The fit test on grids.
 use mathlib.Core.Bool.{Bool, _&&_}
-use Rattle.definitions.specs.Lists.{all, any}
+use Rattle.lists.specs.Lists.{all, any}
 use Rattle.definitions.specs.Grid.{Cell, Grid, filledCells, sameCell}
 use Rattle.definitions.specs.Placements.{reaches, lies}
 

@@ -4,7 +4,7 @@ use mathlib.Core.Bool.{not, _&&_}
 use mathlib.Core.List.{List, [], _∷_}
 use lib.Dec.{ltb}
 use lib.ListN.{length}
-use Rattle.definitions.specs.Lists.{all}
+use Rattle.lists.specs.Lists.{all}
 use Rattle.definitions.specs.Placements.{Compiled}
 use Rattle.definitions.specs.Refusals.{Row, row, sidesFit, cellsLie, areBits, someFilled, copyCount, boardCellCount, isPorted, isKnuth, placementCount, linkCount}
 use Rattle.definitions.specs.Outcomes.{numberOf}
@@ -18,7 +18,7 @@ abbrev pub verdictNumber : Verdict → ℕ
 verdictNumber Accepted = 0
 verdictNumber (Refused why) = numberOf why
 
--- rows 5 to 9, 2 to 9, 10 to 13, 14 and 15
+-- rows 5 to 9, 2 to 9, 10 and 11, 12 and 13, 14 and 15
 unfoldable pub gridRows : List Record → Record → List ℕ → List Row
 gridRows rs board bytes =
     let t = lentIn rs board bytes in
@@ -35,13 +35,25 @@ lentRows rs board bytes =
     row 4 (not (all (cellsLie bytes) (board ∷ rs))) ∷
     gridRows rs board bytes
 
-unfoldable pub callRows : Config → ℕ → ℕ → List Row
-callRows config work links =
+-- the configuration; and the slices, by their lengths
+unfoldable pub configRows : Config → List Row
+configRows config =
     row 10 (config .«identify_mirrored_answers» && not (config .«identify_transformed_answers»)) ∷
     row 11 (not (isPorted (config .solver))) ∷
+    []
+
+unfoldable pub sliceRows : Config → ℕ → ℕ → List Row
+sliceRows config work links =
     row 12 (ltb work 8192) ∷
     row 13 (isKnuth (config .solver) && ltb links 32768) ∷
     []
 
+-- the counts, by their numbers and of a compiled tray
+unfoldable pub countRowsBy : ℕ → ℕ → Config → List Row
+countRowsBy placements links config =
+    row 14 (ltb 1024 placements) ∷
+    row 15 (isKnuth (config .solver) && ltb 4096 links) ∷
+    []
+
 unfoldable pub countRows : Compiled → Config → List Row
-countRows c config = row 14 (ltb 1024 (placementCount c)) ∷ row 15 (isKnuth (config .solver) && ltb 4096 (linkCount c)) ∷ []
+countRows c config = countRowsBy (placementCount c) (linkCount c) config

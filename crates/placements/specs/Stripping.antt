@@ -4,7 +4,7 @@ use mathlib.Core.List.{List, map}
 use mathlib.Core.Path.{_≡_}
 use lib.Dec.{T, leb}
 use lib.ListN.{length, take}
-use Rattle.definitions.specs.Lists.{all}
+use Rattle.lists.specs.Lists.{all}
 use Rattle.definitions.specs.Grid.{Sides, setDown, placeOf, volume}
 use Rattle.definitions.specs.Stripping.{corner, Frame}
 use Rattle.definitions.specs.Framing.{unframed}

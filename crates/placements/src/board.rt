@@ -4,7 +4,7 @@ ghost use mathlib.Core.List.{_++_, map};
 ghost use Prim.Native.Nat.{_≤_};
 ghost use lib.Dec.{T, eqb, ltb};
 ghost use lib.ListN.{length, take, drop, replicate};
-ghost use Rattle.definitions.specs.Lists.{all, before, below};
+ghost use Rattle.lists.specs.Lists.{all, before, below};
 ghost use Rattle.definitions.specs.Grid.{volume};
 ghost use Rattle.definitions.specs.Stripping.{FitsIn};
 ghost use Rattle.shape.specs.Coords.{asSides, asCell, Fit};
@@ -12,6 +12,7 @@ ghost use Rattle.placements.specs.Stripping.{lentPlace};
 use shape::Coord;
 use shape::cells;
 
+// Each number becomes n.
 fn fill(numbers: &mut [u8], n: u8)
     ensures { λ _. ⌜ now (numbers .exit) ≡ replicate (length (now (numbers .entry))) n ⌝ }
 {
@@ -29,6 +30,7 @@ pub fn number_places(places: &[u16], n: usize, numbers: &mut [u8])
 {
     fill(numbers, n as u8);
     let mut k = n;
+    // the places from number k on have theirs; of two equal places the first wins
     while 0 < k {
         k -= 1;
         let i = places[k] as usize;
@@ -38,8 +40,11 @@ pub fn number_places(places: &[u16], n: usize, numbers: &mut [u8])
 
 // The first n places of a box become those of the same cells in the lent box, in which its corner lies at a cell.
 pub fn put_back(places: &mut [u16], n: usize, s: Coord, at: Coord, lent: Coord)
-    requires { ⌜ (n ≤ length (now places)) × T (all (λ i. ltb i (volume (asSides s))) (take n (now places))) × Fit (asSides lent) × FitsIn (record { lent = asSides lent; at = asCell at }) (asSides s) ⌝ }
-    ensures { λ _. ⌜ now (places .exit) ≡ map (lentPlace (asSides s) (record { lent = asSides lent; at = asCell at })) (take n (now (places .entry))) ++ drop n (now (places .entry)) ⌝ }
+    requires { ⌜ (n ≤ length (now places)) × T (all (λ i. ltb i (volume (asSides s))) (take n (now places)))
+        × Fit (asSides lent) × FitsIn (record { lent = asSides lent; at = asCell at }) (asSides s) ⌝ }
+    ensures { λ _. do
+      let f = lentPlace (asSides s) (record { lent = asSides lent; at = asCell at })
+      ⌜ now (places .exit) ≡ map f (take n (now (places .entry))) ++ drop n (now (places .entry)) ⌝ }
 {
     let mut i = 0;
     while i < n {

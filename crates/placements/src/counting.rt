@@ -1,24 +1,19 @@
-// How many placements and links a tray has, worked out before anything is written; with them the whole table of refusals.
+// What counting works out of a tray before anything is written: its kinds, their variants, and how many placements and links it has.
 ghost use mathlib.Core.Path.{_≡_};
-ghost use mathlib.Core.List.{_++_};
-ghost use Prim.Native.Nat.{_≤_, _*_};
+ghost use Prim.Native.Nat.{_+_, _*_, _≤_};
 ghost use lib.ListN.{length, take};
-ghost use Rattle.definitions.specs.Placements.{compile};
 ghost use Rattle.definitions.specs.Refusals.{gridOf, firstThatApplies};
 ghost use Rattle.shape.specs.Grids.{asGrid, Whole};
 ghost use Rattle.shape.specs.Variants.{turnedBy};
 ghost use Rattle.shape.specs.Scans.{asOrder};
-ghost use Rattle.placements.specs.Tables.{recordsOf, lentIn, trayIn};
-ghost use Rattle.placements.specs.Stages.{verdictNumber, lentRows, callRows, countRows};
+ghost use Rattle.placements.specs.Stages.{verdictNumber, countRowsBy};
 ghost use Rattle.placements.specs.Merging.{AreKinds};
-ghost use Rattle.placements.specs.Counting.{fitsIn, placementsIn, OnBoard, Accepted9, CountsOf};
+ghost use Rattle.placements.specs.Counting.{fitsIn, placementsIn, OnBoard, Accepted9, Counted, PutVariants};
 use super::Table;
 use super::Verdict;
 use super::fitting;
 use super::merging;
 use super::records;
-use super::refusals;
-use super::stripping;
 use definitions::Config;
 use definitions::Record;
 use definitions::Refusal;
@@ -31,25 +26,15 @@ use shape::scan;
 use shape::scan::AxisOrder;
 use shape::variants;
 
-// How many placements a piece has on a board whose filled cells are at the first n places.
-pub fn count_piece(
-    board: &[u8],
-    b: Coord,
-    cells: &[u8],
-    s: Coord,
-    order: AxisOrder,
-    places: &[u16],
-    n: usize,
-) -> usize
-    requires { ⌜ Whole b (now board) × Whole s (now cells) × OnBoard (asOrder order) (asGrid b (now board)) (now places) n ⌝ }
-    ensures { λ r. ⌜ (r ≡ placementsIn (asOrder order) (asGrid b (now (board .entry))) (asGrid s (now (cells .entry)))) × (r ≤ 24 * n) ⌝ }
-{
-    let mut numbers = [0u8; 24];
-    let k = variants::variants_of(cells, s, Map(0), &mut numbers);
-    count_cells(board, b, cells, s, &numbers, k, order, places, n)
+// What counting works out of a tray and building goes on from: filled board cells, kinds, and placements and links as 14 and 15 count them.
+pub struct Counts {
+    pub cells: usize,
+    pub kinds: usize,
+    pub placements: usize,
+    pub links: usize,
 }
 
-// The same by the map numbers of its variants.
+// How often the first k turned grids of a piece fit on a board whose filled cells are at the first n places.
 fn count_cells(
     board: &[u8],
     b: Coord,
@@ -61,11 +46,15 @@ fn count_cells(
     places: &[u16],
     n: usize,
 ) -> usize
-    requires { ⌜ Whole b (now board) × Whole s (now cells) × OnBoard (asOrder order) (asGrid b (now board)) (now places) n × (k ≤ length (now numbers)) × (k ≤ 24) ⌝ }
-    ensures { λ r. ⌜ (r ≡ fitsIn (asOrder order) (asGrid b (now (board .entry))) (turnedBy (asGrid s (now (cells .entry))) (take k (now (numbers .entry))))) × (r ≤ k * n) ⌝ }
+    requires { ⌜ Whole b (now board) × Whole s (now cells) × OnBoard (asOrder order) (asGrid b (now board)) (now places) n
+        × (k ≤ length (now numbers)) × (k ≤ 24) ⌝ }
+    ensures { λ r. do
+      let grids = turnedBy (asGrid s (now (cells .entry))) (take k (now (numbers .entry)))
+      ⌜ (r ≡ fitsIn (asOrder order) (asGrid b (now (board .entry))) grids) × (r ≤ k * n) ⌝ }
 {
     let mut count = 0;
     let mut p = 0;
+    // what is counted and what fits at the places from p on make all
     while p < n {
         let at = cells::cell_at(b, places[p] as usize);
         count += fitting::count_at(board, b, cells, s, numbers, k, order, at);
@@ -74,76 +63,117 @@ fn count_cells(
     count
 }
 
-// Placements and links, as 14 and 15 count them.
-pub struct Counts {
-    pub placements: usize,
-    pub links: usize,
-}
-
-pub fn count_tray(
-    t: Table,
-    bytes: &[u8],
-    board: Record,
-    first: &[u8],
-    kinds: usize,
+// The variants of a piece, from a place of the slice on; and how many placements it has on a board whose filled cells are at the first n places.
+fn count_piece(
+    board: &[u8],
+    b: Coord,
+    cells: &[u8],
+    s: Coord,
+    order: AxisOrder,
     places: &[u16],
     n: usize,
+    numbers: &mut [u8],
+    at: usize,
+) -> usize
+    requires { ⌜ Whole b (now board) × Whole s (now cells) × OnBoard (asOrder order) (asGrid b (now board)) (now places) n
+        × (at + 25 ≤ length (now numbers)) ⌝ }
+    ensures { λ r. do
+      let g = asGrid s (now (cells .entry))
+      ⌜ (r ≡ placementsIn (asOrder order) (asGrid b (now (board .entry))) g) × (r ≤ 24 * n)
+          × PutVariants g at (now (numbers .entry)) (now (numbers .exit)) ⌝ }
+{
+    let start = at + 1;
+    let end = at + 25;
+    let k = variants::variants_of(cells, s, Map(0), &mut numbers[start..end]);
+    numbers[at] = k as u8;
+    count_cells(
+        board,
+        b,
+        cells,
+        s,
+        &numbers[start..end],
+        k,
+        order,
+        places,
+        n,
+    )
+}
+
+// The same of a piece of each kind, and the counts of them all.
+fn count_kinds(
+    t: Table,
+    board: Record,
+    bytes: &[u8],
     order: AxisOrder,
+    places: &[u16],
+    n: usize,
+    first: &[u8],
+    kinds: usize,
+    numbers: &mut [u8],
 ) -> Counts
-    requires { ⌜ Accepted9 t board (now bytes) × AreKinds t (now bytes) (now first) kinds × (kinds ≤ length (now first)) × OnBoard (asOrder order) (gridOf (now bytes) board) (now places) n ⌝ }
-    ensures { λ r. ⌜ CountsOf (compile (lentIn (recordsOf t) board (now (bytes .entry)))) r ⌝ }
+    requires { ⌜ Accepted9 t board (now bytes) × OnBoard (asOrder order) (gridOf (now bytes) board) (now places) n
+        × AreKinds t (now bytes) (now first) kinds × (kinds ≤ length (now first)) × (length (now numbers) ≡ 400) ⌝ }
+    ensures { λ r. ⌜ Counted t board (now (bytes .entry)) (now (places .entry)) (now (first .entry)) (now (numbers .exit)) r ⌝ }
 {
     let b = records::sides_of(board);
     let grid = records::cells_of(bytes, board);
     let mut placements = 0;
     let mut links = n + kinds;
     let mut k = 0;
+    // the variants of the kinds before k stand there; what is counted and the counts of the kinds from k on make all
     while k < kinds {
         let i = first[k] as usize;
         let p = t.rows[i];
         let cells = records::cells_of(bytes, p);
-        let rows = count_piece(grid, b, cells, records::sides_of(p), order, places, n);
+        let rows = count_piece(
+            grid,
+            b,
+            cells,
+            records::sides_of(p),
+            order,
+            places,
+            n,
+            numbers,
+            25 * k,
+        );
         placements += rows;
         if 0 < merging::copies_of(t, bytes, i) {
             links += rows * (1 + grids::count_filled(cells));
         }
         k += 1;
     }
-    Counts { placements, links }
+    Counts {
+        cells: n,
+        kinds,
+        placements,
+        links,
+    }
 }
 
-// The counts of grids as they are lent.
-fn count_lent(t: Table, board: Record, bytes: &[u8]) -> Counts
-    requires { ⌜ Accepted9 t board (now bytes) ⌝ }
-    ensures { λ r. ⌜ CountsOf (compile (lentIn (recordsOf t) board (now (bytes .entry)))) r ⌝ }
+// What is counted of grids as they are lent. The places of the board's filled cells, one piece of each kind, and for each kind k how many variants
+// it has (at 25·k) and their map numbers (behind it) go into the three slices; what else stands in them is free.
+pub fn count_tray(
+    t: Table,
+    board: Record,
+    bytes: &[u8],
+    places: &mut [u16],
+    first: &mut [u8],
+    numbers: &mut [u8],
+) -> Counts
+    requires { ⌜ Accepted9 t board (now bytes) × (length (now places) ≡ 512) × (length (now first) ≡ 16) × (length (now numbers) ≡ 400) ⌝ }
+    ensures { λ r. ⌜ Counted t board (now (bytes .entry)) (now (places .exit)) (now (first .exit)) (now (numbers .exit)) r ⌝ }
 {
     let s = records::sides_of(board);
     let order = scan::plan_axis_order(s);
-    let mut places = [0u16; 512];
-    let n = scan::plan_coords(records::cells_of(bytes, board), s, order, &mut places);
-    let mut first = [0u8; 16];
-    let kinds = merging::merge(t, bytes, &mut first);
-    count_tray(t, bytes, board, &first, kinds, &places, n, order)
+    let n = scan::plan_coords(records::cells_of(bytes, board), s, order, places);
+    let kinds = merging::merge(t, bytes, first);
+    count_kinds(t, board, bytes, order, places, n, first, kinds, numbers)
 }
 
-// The counts of a tray that rows 2 to 9 let pass: those of its stripped grids.
-pub fn counts_of(t: Table, board: Record, bytes: &[u8]) -> Counts
-    requires { ⌜ Accepted9 t board (now bytes) ⌝ }
-    ensures { λ r. ⌜ CountsOf (compile (trayIn (recordsOf t) board (now (bytes .entry)))) r ⌝ }
+// Rows 14 and 15, by the counts.
+pub fn refusal_of_counts(counts: Counts, config: Config) -> Verdict
+    ensures { λ r. ⌜ verdictNumber r ≡ firstThatApplies (countRowsBy (counts .placements) (counts .links) config) ⌝ }
 {
-    let mut cells = [0u8; stripping::ROOM];
-    let s = stripping::strip_tray(t, board, bytes, &mut cells);
-    let table = s.table;
-    let stripped = s.board;
-    count_lent(table, stripped, &cells)
-}
-
-// Rows 14 and 15, of a tray that rows 2 to 9 let pass.
-pub fn refusal_of_counts(t: Table, board: Record, bytes: &[u8], config: Config) -> Verdict
-    requires { ⌜ Accepted9 t board (now bytes) ⌝ }
-    ensures { λ r. ⌜ verdictNumber r ≡ firstThatApplies (countRows (compile (trayIn (recordsOf t) board (now (bytes .entry)))) config) ⌝ }
-{
-    let counts = counts_of(t, board, bytes);
     if 1024 < counts.placements {
         return Verdict::Refused(Refusal::TooManyPlacements);
     }
@@ -160,26 +190,4 @@ pub fn refusal_of_counts(t: Table, board: Record, bytes: &[u8], config: Config) 
             }
         }
     }
-}
-
-// The whole table: the first refusal that applies, for any tray, configuration and slices of these lengths.
-pub fn refusal_of(
-    t: Table,
-    board: Record,
-    bytes: &[u8],
-    config: Config,
-    work: usize,
-    links: usize,
-) -> Verdict
-    ensures { λ r. ⌜ verdictNumber r ≡ firstThatApplies (lentRows (recordsOf t) board (now (bytes .entry)) ++ callRows config work links ++ countRows (compile (trayIn (recordsOf t) board (now (bytes .entry)))) config) ⌝ }
-{
-    let lent = refusals::refusal_of_lent(t, board, bytes);
-    let Verdict::Accepted = lent else {
-        return lent;
-    };
-    let call = refusals::refusal_of_call(config, work, links);
-    let Verdict::Accepted = call else {
-        return call;
-    };
-    refusal_of_counts(t, board, bytes, config)
 }

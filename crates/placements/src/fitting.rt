@@ -4,9 +4,9 @@ ghost use mathlib.Core.List.{map};
 ghost use Prim.Native.Nat.{_≤_, _<_};
 ghost use lib.Dec.{T};
 ghost use lib.ListN.{length, take};
-ghost use Rattle.definitions.specs.Lists.{any, howMany};
+ghost use Rattle.lists.specs.Lists.{any, howMany};
 ghost use Rattle.definitions.specs.Grid.{InBox, sameCell, filledCells};
-ghost use Rattle.definitions.specs.Maps.{mapOf, mapGrid, mapSides};
+ghost use Rattle.definitions.specs.Maps.{mapOf, mapGrid};
 ghost use Rattle.definitions.specs.Scan.{scan};
 ghost use Rattle.definitions.specs.Placements.{reaches, lies, fits};
 ghost use Rattle.shape.specs.Coords.{asSides, asCell};
@@ -22,7 +22,7 @@ use shape::scan;
 use shape::scan::AxisOrder;
 
 // Whether the origin o of a grid reaches no further than the cell at which it lies.
-pub fn does_reach(at: Coord, o: Coord) -> bool
+fn does_reach(at: Coord, o: Coord) -> bool
     ensures { λ r. ⌜ r ≡ reaches (asCell at) (asCell o) ⌝ }
 {
     if at.0 < o.0 {
@@ -34,6 +34,7 @@ pub fn does_reach(at: Coord, o: Coord) -> bool
     o.2 <= at.2
 }
 
+// Whether a box has a cell.
 fn in_box(s: Coord, u: Coord) -> bool
     ensures { λ r. ⌜ Decided r (InBox (asSides s) (asCell u)) ⌝ }
 {
@@ -47,7 +48,7 @@ fn in_box(s: Coord, u: Coord) -> bool
 }
 
 // Whether a cell is a filled cell of a grid.
-pub fn is_filled(cells: &[u8], s: Coord, u: Coord) -> bool
+fn is_filled(cells: &[u8], s: Coord, u: Coord) -> bool
     requires { ⌜ Whole s (now cells) ⌝ }
     ensures { λ r. ⌜ r ≡ any (sameCell (asCell u)) (filledCells (asGrid s (now (cells .entry)))) ⌝ }
 {
@@ -77,6 +78,7 @@ pub fn fits_at(board: &[u8], b: Coord, cells: &[u8], s: Coord, m: Map, at: Coord
     let t = m.sides(s);
     let v = cells::volume_of(s);
     let mut j = 0;
+    // the cells before place j lie on filled board cells
     while j < v {
         if grids::turned_byte(cells, s, m, j) == 1 {
             let u = cells::cell_at(t, j);
@@ -90,7 +92,7 @@ pub fn fits_at(board: &[u8], b: Coord, cells: &[u8], s: Coord, m: Map, at: Coord
 }
 
 // How many of the first n turned grids fit with their origins at a cell of the board's box.
-pub fn count_at(
+pub(crate) fn count_at(
     board: &[u8],
     b: Coord,
     cells: &[u8],
@@ -101,10 +103,14 @@ pub fn count_at(
     at: Coord,
 ) -> usize
     requires { ⌜ Whole b (now board) × Whole s (now cells) × InBox (asSides b) (asCell at) × (n ≤ length (now numbers)) × IsOrder (asOrder order) ⌝ }
-    ensures { λ r. ⌜ (r ≡ howMany (fits (scan (asOrder order) (asGrid b (now (board .entry)))) (asCell at)) (map (scan (asOrder order)) (turnedBy (asGrid s (now (cells .entry))) (take n (now (numbers .entry)))))) × (r ≤ n) ⌝ }
+    ensures { λ r. do
+      let cs = scan (asOrder order) (asGrid b (now (board .entry)))
+      let grids = turnedBy (asGrid s (now (cells .entry))) (take n (now (numbers .entry)))
+      ⌜ (r ≡ howMany (fits cs (asCell at)) (map (scan (asOrder order)) grids)) × (r ≤ n) ⌝ }
 {
     let mut count = 0;
     let mut i = 0;
+    // what is counted and what fits of the grids from i on make all
     while i < n {
         let m = Map(numbers[i]);
         let o = scan::origin_of(cells, s, m, order);

@@ -1,4 +1,6 @@
-// From a tray to its rows: refusals, merging, placements, images (solver/mod.rs and `compile` of fast.rs).
+// Trays as they are lent, in records over bytes: the table of refusals in its stages, the stripping of empty outer layers, and what is counted of a tray
+// before anything is written: its board's cells, its kinds, their variants, its placements and links (solver/mod.rs). Nothing is assumed of what is
+// lent: `refusal_of_lent` decides, and what it accepts (`Accepted9`) is what the other functions ask.
 use definitions::Record;
 use definitions::Refusal;
 

@@ -1,4 +1,4 @@
-// Records, their sides and their cells.
+// Records, their sides and their cells; and tables of records by value.
 ghost use mathlib.Core.Path.{_≡_};
 ghost use Prim.Native.Nat.{_≤_};
 ghost use lib.Dec.{T};
@@ -6,15 +6,19 @@ ghost use lib.ListN.{length};
 ghost use Rattle.definitions.specs.Refusals.{sidesOf, gridOf, isSide, sidesFit, cellsLie};
 ghost use Rattle.definitions.specs.Grid.{volume};
 ghost use Rattle.shape.specs.Coords.{asSides};
+ghost use Rattle.placements.specs.Tables.{emptyTable, noRecord, putRow};
+use crate::Table;
 use definitions::Record;
 use shape::Coord;
 
+// The sides of a record's box.
 pub fn sides_of(r: Record) -> Coord
     ensures { λ s. ⌜ asSides s ≡ sidesOf r ⌝ }
 {
     Coord(r.a, r.b, r.c)
 }
 
+// Whether a number is 1 to 8.
 fn is_side(n: usize) -> bool
     ensures { λ r. ⌜ r ≡ isSide n ⌝ }
 {
@@ -46,7 +50,7 @@ pub fn volume_of(r: Record) -> usize
 }
 
 // Whether the cells lie in the lent bytes.
-pub fn cells_lie(bytes: &[u8], r: Record) -> bool
+pub(crate) fn cells_lie(bytes: &[u8], r: Record) -> bool
     requires { ⌜ T (sidesFit r) ⌝ }
     ensures { λ b. ⌜ b ≡ cellsLie (now (bytes .entry)) r ⌝ }
 {
@@ -58,6 +62,7 @@ pub fn cells_lie(bytes: &[u8], r: Record) -> bool
     v <= bytes.len() - start
 }
 
+// The cells of a record's grid, where they lie in the bytes.
 pub fn cells_of(bytes: &[u8], r: Record) -> &[u8]
     requires { ⌜ T (sidesFit r) × T (cellsLie (now bytes) r) ⌝ }
     ensures { λ cells. ⌜ (now cells ≡ gridOf (now (bytes .entry)) r .cells) × (length (now cells) ≡ volume (sidesOf r)) ⌝ }
@@ -65,4 +70,37 @@ pub fn cells_of(bytes: &[u8], r: Record) -> &[u8]
     let start = r.start;
     let end = start + volume_of(r);
     &bytes[start..end]
+}
+
+// The record of zeros.
+pub fn no_record() -> Record
+    ensures { λ r. ⌜ r ≡ noRecord ⌝ }
+{
+    Record {
+        a: 0,
+        b: 0,
+        c: 0,
+        count: 0,
+        wood: 0,
+        start: 0,
+    }
+}
+
+// The table of n records of zeros.
+pub fn empty_table(n: usize) -> Table
+    ensures { λ r. ⌜ r ≡ emptyTable n ⌝ }
+{
+    let p = no_record();
+    Table { rows: [p; 16], n }
+}
+
+// A table with a record at place i; past 16 there is no place, and it stays as it is.
+pub fn put_row(t: Table, i: usize, p: Record) -> Table
+    ensures { λ r. ⌜ r ≡ putRow t i p ⌝ }
+{
+    let mut out = t;
+    if i < 16 {
+        out.rows[i] = p;
+    }
+    out
 }

@@ -3,10 +3,10 @@ ghost use mathlib.Core.Path.{_≡_};
 ghost use mathlib.Core.List.{_∷_, map};
 ghost use Prim.Native.Nat.{_≤_, _<_};
 ghost use lib.Dec.{T};
-ghost use Rattle.definitions.specs.Lists.{all, sum};
+ghost use Rattle.lists.specs.Lists.{all, sum};
 ghost use Rattle.definitions.specs.Refusals.{gridOf, sidesFit, cellsLie, areBits, someFilled, firstThatApplies};
 ghost use Rattle.placements.specs.Tables.{recordsOf};
-ghost use Rattle.placements.specs.Stages.{verdictNumber, gridRows, lentRows, callRows};
+ghost use Rattle.placements.specs.Stages.{verdictNumber, gridRows, lentRows, configRows, sliceRows};
 use super::Table;
 use super::Verdict;
 use super::records;
@@ -145,9 +145,9 @@ fn refusal_of_grids(t: Table, board: Record, bytes: &[u8]) -> Verdict
     Verdict::Accepted
 }
 
-// Rows 10 to 13: configuration and slices.
-pub fn refusal_of_call(config: Config, work: usize, links: usize) -> Verdict
-    ensures { λ r. ⌜ verdictNumber r ≡ firstThatApplies (callRows config work links) ⌝ }
+// Rows 10 and 11: the configuration.
+pub fn refusal_of_config(config: Config) -> Verdict
+    ensures { λ r. ⌜ verdictNumber r ≡ firstThatApplies (configRows config) ⌝ }
 {
     if config.identify_mirrored_answers {
         if !config.identify_transformed_answers {
@@ -158,17 +158,25 @@ pub fn refusal_of_call(config: Config, work: usize, links: usize) -> Verdict
     match solver {
         SolverKind::Auto => Verdict::Refused(Refusal::EngineNotPorted),
         SolverKind::Naive => Verdict::Refused(Refusal::EngineNotPorted),
-        SolverKind::Fast => {
-            if work < 8192 {
-                Verdict::Refused(Refusal::WorkTooShort)
-            } else {
-                Verdict::Accepted
-            }
-        }
+        SolverKind::Fast => Verdict::Accepted,
+        SolverKind::KnuthAlgorithm => Verdict::Accepted,
+    }
+}
+
+// Rows 12 and 13: the slices, by their lengths.
+pub fn refusal_of_slices(config: Config, work: usize, links: usize) -> Verdict
+    ensures { λ r. ⌜ verdictNumber r ≡ firstThatApplies (sliceRows config work links) ⌝ }
+{
+    if work < 8192 {
+        return Verdict::Refused(Refusal::WorkTooShort);
+    }
+    let solver = config.solver;
+    match solver {
+        SolverKind::Auto => Verdict::Accepted,
+        SolverKind::Naive => Verdict::Accepted,
+        SolverKind::Fast => Verdict::Accepted,
         SolverKind::KnuthAlgorithm => {
-            if work < 8192 {
-                Verdict::Refused(Refusal::WorkTooShort)
-            } else if links < 32768 {
+            if links < 32768 {
                 Verdict::Refused(Refusal::LinksTooShort)
             } else {
                 Verdict::Accepted

@@ -58,6 +58,7 @@ fn strip_pieces(t: Table, bytes: &[u8], out: &mut [u8]) -> Table
     let n = t.n;
     let mut table = t;
     let mut i = 0;
+    // the pieces before i are stripped, each behind those before it
     while i < n {
         let p = t.rows[i];
         let s = strip_record(bytes, p, out, 512 * i + 512);

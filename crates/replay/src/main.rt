@@ -1,25 +1,23 @@
 // Reads calls from standard input, each as numbers, and prints the refusal of each, or its row system: sizes, kinds, pieces, what the allowed maps do to
 // cells on smaller boards, and rows; for some calls pages of both engines' lists too. The stored output is the oracle's (oracle/replay.py).
+ghost use mathlib.Core.Path.{_≡_};
 ghost use Prim.Native.Nat.{_+_, _*_, _<_, _≤_};
 ghost use lib.ListN.{length};
-ghost use Rattle.placements.specs.Counting.{Accepted9};
-ghost use Rattle.placements.specs.Tables.{recordsOf, trayIn};
-ghost use Rattle.definitions.specs.Placements.{compile};
-ghost use Rattle.definitions.specs.Refusals.{placementCount};
+ghost use Rattle.rows.specs.Charts.{chartLength};
 use definitions::Config;
 use definitions::Listing;
 use definitions::Record;
 use definitions::SolverKind;
-use fast::page as fast_page;
-use knuth::page as knuth_page;
+use definitions::Start;
 use libc::STDIN_FILENO;
 use libc::STDOUT_FILENO;
 use placements::Table;
-use placements::Verdict;
-use placements::counting;
 use rows::Dims;
-use rows::system;
+use rows::chart;
 use rows::table;
+use solver::pages;
+use solver::prepare;
+use solver::prepare::Prepared;
 
 // A number that was read, and where the next begins.
 struct Token {
@@ -210,27 +208,68 @@ fn print(n: usize) {
     io::print_decimal(STDOUT_FILENO, n as u64);
 }
 
-// The first n numbers of a slice from i on, as far as there are any.
-fn numbers(slice: &[u8], i: usize, n: usize) {
-    let mut k = i;
-    let mut left = n;
-    while 0 < left {
-        if slice.len() <= k {
+// Of each kind its copies and its mirror partner.
+fn show_kinds(chart: &[u16], n: usize)
+    requires { ⌜ length (now chart) ≡ chartLength ⌝ }
+{
+    let mut k = 0;
+    while k < 16 {
+        if n <= k {
             return;
         }
-        print(slice[k] as usize);
+        print(chart::copies_of(chart, k));
+        print(chart::partner_of(chart, k));
         k += 1;
-        left -= 1;
     }
 }
 
-// Twice a number of kinds, pieces or the like.
-fn twice(n: usize) -> usize {
-    if n < 512 { 2 * n } else { 0 }
+// Of each piece its kind and its count.
+fn show_pieces(chart: &[u16], n: usize)
+    requires { ⌜ length (now chart) ≡ chartLength ⌝ }
+{
+    let mut i = 0;
+    while i < 16 {
+        if n <= i {
+            return;
+        }
+        print(chart::kind_of(chart, i));
+        print(chart::count_of(chart, i));
+        i += 1;
+    }
+}
+
+// The scan numbers of the box's places.
+fn show_scan(chart: &[u16], places: usize)
+    requires { ⌜ length (now chart) ≡ chartLength ⌝ }
+{
+    let mut i = 0;
+    while i < 512 {
+        if places <= i {
+            return;
+        }
+        print(chart::scan_at(chart, i));
+        i += 1;
+    }
+}
+
+// Where map m takes the cells.
+fn show_map(chart: &[u16], m: usize, size: usize)
+    requires { ⌜ (length (now chart) ≡ chartLength) × (m < 48) ⌝ }
+{
+    let mut c = 0;
+    while c < 128 {
+        if size <= c {
+            return;
+        }
+        print(chart::image_at(chart, 128 * m + c));
+        c += 1;
+    }
 }
 
 // Where each of n turns and k mirrorings takes the cells.
-fn show_images(images: &[u8], size: usize, n: usize, k: usize) {
+fn show_images(chart: &[u16], size: usize, n: usize, k: usize)
+    requires { ⌜ length (now chart) ≡ chartLength ⌝ }
+{
     let mut m = 0;
     while m < 48 {
         if n <= m {
@@ -239,7 +278,7 @@ fn show_images(images: &[u8], size: usize, n: usize, k: usize) {
             }
         }
         word(b"map");
-        numbers(images, 128 * m, size);
+        show_map(chart, m, size);
         word(b"\n");
         m += 1;
     }
@@ -305,19 +344,19 @@ fn show_sizes(d: Dims) {
 }
 
 // What stands in the slices of a row system of these sizes.
-fn show_parts(d: Dims, work: &[u64], images: &[u8], scans: &[u8], kinds: &[u8], pieces: &[u8])
-    requires { ⌜ 8192 ≤ length (now work) ⌝ }
+fn show_parts(d: Dims, work: &[u64], chart: &[u16])
+    requires { ⌜ (8192 ≤ length (now work)) × (length (now chart) ≡ chartLength) ⌝ }
 {
     word(b"\nkinds");
-    numbers(kinds, 0, twice(d.kinds));
+    show_kinds(chart, d.kinds);
     word(b"\npieces");
-    numbers(pieces, 0, twice(d.pieces));
+    show_pieces(chart, d.pieces);
     word(b"\n");
     if d.cells <= 30 {
         word(b"scan");
-        numbers(scans, 0, d.places);
+        show_scan(chart, d.places);
         word(b"\n");
-        show_images(images, d.cells, d.turns, d.mirrorings);
+        show_images(chart, d.cells, d.turns, d.mirrorings);
     }
     show_rows(work, 0, d.rows);
     if 12 < d.rows {
@@ -325,40 +364,21 @@ fn show_parts(d: Dims, work: &[u64], images: &[u8], scans: &[u8], kinds: &[u8], 
     }
 }
 
-fn show_system(t: Table, board: Record, bytes: &[u8])
-    requires { ⌜ Accepted9 t board (now bytes) × (placementCount (compile (trayIn (recordsOf t) board (now bytes))) ≤ 1024) ⌝ }
-{
-    let mut work = [0u64; 8192];
-    let mut heads = [0u16; 128];
-    let mut images = [0u8; 6144];
-    let mut scans = [0u8; 512];
-    let mut kinds = [0u8; 32];
-    let mut pieces = [0u8; 32];
-    let d = system::build_system(
-        t,
-        board,
-        bytes,
-        &mut work,
-        &mut heads,
-        &mut images,
-        &mut scans,
-        &mut kinds,
-        &mut pieces,
-    );
-    show_sizes(d);
-    show_parts(d, &work, &images, &scans, &kinds, &pieces);
-}
-
-fn show(t: Table, board: Record, bytes: &[u8], config: Config, work: usize, links: usize) {
-    let verdict = counting::refusal_of(t, board, bytes, config, work, links);
-    match verdict {
-        Verdict::Refused(why) => {
+// The refusal of a call, or its row system. A work slice of more than 8,200 words counts as one of 8,200.
+fn show(t: Table, board: Record, bytes: &[u8], config: Config, words: usize, links: usize) {
+    let mut work = [0u64; 8200];
+    let mut chart = [0u16; chart::LENGTH];
+    let w = if words < 8200 { words } else { 8200 };
+    let prepared = prepare::prepare(t, board, bytes, config, links, &mut work[..w], &mut chart);
+    match prepared {
+        Prepared::Refused(why) => {
             word(b"refused");
             print(definitions::refusal_number(why) as usize);
             word(b"\n");
         }
-        Verdict::Accepted => {
-            show_system(t, board, bytes);
+        Prepared::System(d) => {
+            show_sizes(d);
+            show_parts(d, &work, &chart);
         }
     }
 }
@@ -449,42 +469,23 @@ fn both(a: bool, b: bool) -> bool {
     if a { b } else { false }
 }
 
-fn ask_fast(
-    t: Table,
-    board: Record,
-    bytes: &[u8],
-    config: Config,
-    skip: u64,
-    answers: &mut [u8],
-    work: &mut [u64],
-    size: usize,
-    sum: u64,
-) -> Given {
-    let turned = config.identify_transformed_answers;
-    let mirrored = config.identify_mirrored_answers;
-    let r = fast_page::page(t, board, bytes, turned, mirrored, skip, answers, work);
-    match r {
-        Listing::Refused(why) => Given {
-            refused: definitions::refusal_number(why) as usize,
-            written: 0,
-            further: false,
-            sum,
-            kept: both(is_stained(answers, 0), is_cleared(work, 0)),
-        },
-        Listing::Page(written, further) => Given {
-            refused: 0,
-            written,
-            further,
-            sum: sum_bytes(answers, times(written, size), sum),
-            kept: both(
-                is_stained(answers, times(written, size)),
-                is_cleared(work, 8192),
-            ),
-        },
-    }
+// Whether what a refused call must not touch was as before.
+fn is_untouched(answers: &[u8], work: &[u64], links: &[u16]) -> bool {
+    both(
+        both(is_stained(answers, 0), is_cleared(work, 0)),
+        are_links_cleared(links, 0),
+    )
 }
 
-fn ask_knuth(
+// Whether an accepted call that wrote so many bytes left its slices as it must: Fast leaves the links.
+fn is_left(answers: &[u8], work: &[u64], links: &[u16], n: usize, knuth: bool) -> bool {
+    both(
+        both(is_stained(answers, n), is_cleared(work, 8192)),
+        are_links_cleared(links, if knuth { 32768 } else { 0 }),
+    )
+}
+
+fn ask(
     t: Table,
     board: Record,
     bytes: &[u8],
@@ -495,16 +496,16 @@ fn ask_knuth(
     links: &mut [u16],
     size: usize,
     sum: u64,
+    knuth: bool,
 ) -> Given {
-    let turned = config.identify_transformed_answers;
-    let mirrored = config.identify_mirrored_answers;
-    let r = knuth_page::page(
+    let none = [0u8; 1];
+    let r = pages::page(
         t,
         board,
         bytes,
-        turned,
-        mirrored,
-        skip,
+        config,
+        Start::Entry(skip),
+        &none,
         answers,
         work,
         links,
@@ -515,87 +516,23 @@ fn ask_knuth(
             written: 0,
             further: false,
             sum,
-            kept: both(
-                both(is_stained(answers, 0), is_cleared(work, 0)),
-                are_links_cleared(links, 0),
-            ),
+            kept: is_untouched(answers, work, links),
         },
         Listing::Page(written, further) => Given {
             refused: 0,
             written,
             further,
             sum: sum_bytes(answers, times(written, size), sum),
-            kept: both(
-                both(
-                    is_stained(answers, times(written, size)),
-                    is_cleared(work, 8192),
-                ),
-                are_links_cleared(links, 32768),
-            ),
+            kept: is_left(answers, work, links, times(written, size), knuth),
+        },
+        Listing::NoEntry => Given {
+            refused: 0,
+            written: 0,
+            further: true,
+            sum,
+            kept: false,
         },
     }
-}
-
-// A page of Fast with room for so many bytes, at most 4,096, in a work slice of so many words, at most 8,200.
-fn one_fast(
-    t: Table,
-    board: Record,
-    bytes: &[u8],
-    config: Config,
-    words: usize,
-    room: usize,
-    skip: u64,
-    size: usize,
-    sum: u64,
-) -> Given {
-    let mut answers = [STAIN; 4096];
-    let mut work = [WORD_STAIN; 8200];
-    let n = if room < 4096 { room } else { 4096 };
-    let w = if words < 8200 { words } else { 8200 };
-    ask_fast(
-        t,
-        board,
-        bytes,
-        config,
-        skip,
-        &mut answers[..n],
-        &mut work[..w],
-        size,
-        sum,
-    )
-}
-
-// The same of KnuthAlgorithm, with so many links, at most 32,776.
-fn one_knuth(
-    t: Table,
-    board: Record,
-    bytes: &[u8],
-    config: Config,
-    words: usize,
-    numbers: usize,
-    room: usize,
-    skip: u64,
-    size: usize,
-    sum: u64,
-) -> Given {
-    let mut answers = [STAIN; 4096];
-    let mut work = [WORD_STAIN; 8200];
-    let mut links = [LINK_STAIN; 32776];
-    let n = if room < 4096 { room } else { 4096 };
-    let w = if words < 8200 { words } else { 8200 };
-    let l = if numbers < 32776 { numbers } else { 32776 };
-    ask_knuth(
-        t,
-        board,
-        bytes,
-        config,
-        skip,
-        &mut answers[..n],
-        &mut work[..w],
-        &mut links[..l],
-        size,
-        sum,
-    )
 }
 
 // The engine that is asked, and how long the slices are that it works in.
@@ -605,6 +542,20 @@ struct Asked {
     numbers: usize,
 }
 
+// The configuration with the engine that is asked.
+fn asked_config(config: Config, knuth: bool) -> Config {
+    Config {
+        identify_transformed_answers: config.identify_transformed_answers,
+        identify_mirrored_answers: config.identify_mirrored_answers,
+        solver: if knuth {
+            SolverKind::KnuthAlgorithm
+        } else {
+            SolverKind::Fast
+        },
+    }
+}
+
+// A page with room for so many bytes, at most 4,096, in slices of so many words and links, at most 8,200 and 32,776.
 fn one_page(
     t: Table,
     board: Record,
@@ -616,22 +567,33 @@ fn one_page(
     size: usize,
     sum: u64,
 ) -> Given {
-    if asked.knuth {
-        one_knuth(
-            t,
-            board,
-            bytes,
-            config,
-            asked.words,
-            asked.numbers,
-            room,
-            skip,
-            size,
-            sum,
-        )
+    let mut answers = [STAIN; 4096];
+    let mut work = [WORD_STAIN; 8200];
+    let mut links = [LINK_STAIN; 32776];
+    let n = if room < 4096 { room } else { 4096 };
+    let w = if asked.words < 8200 {
+        asked.words
     } else {
-        one_fast(t, board, bytes, config, asked.words, room, skip, size, sum)
-    }
+        8200
+    };
+    let l = if asked.numbers < 32776 {
+        asked.numbers
+    } else {
+        32776
+    };
+    ask(
+        t,
+        board,
+        bytes,
+        asked_config(config, asked.knuth),
+        skip,
+        &mut answers[..n],
+        &mut work[..w],
+        &mut links[..l],
+        size,
+        sum,
+        asked.knuth,
+    )
 }
 
 // An answer's bytes, where the sides are 1 to 8.

@@ -2,24 +2,23 @@
 -- have one kind number where their forms are the same. Assumes nothing.
 use Prim.Native.Nat.{ℕ, suc, _+_, _<_}
 use mathlib.Core.Bool.{Bool, true, false}
-use mathlib.Core.List.{List, [], _∷_, _++_, map}
+use mathlib.Core.List.{List, [], _∷_, _++_, map, map-map}
 use mathlib.Core.Path.{_≡_, refl, sym, ap, ap₂, _∙_, subst}
 use native.Mathlib.Omega.{arith}
 use lib.Dec.{T, eqb, eqb→eq}
 use lib.ListN.{length, getD, length-map}
-use Rattle.definitions.specs.Lists.{consIf, keep, joined, numberedFrom, from, below, before, each, ascending}
+use Rattle.lists.specs.Lists.{consIf, keep, joined, numberedFrom, from, below, before, each, ascending}
+use Rattle.lists.proofs.TestLaws.{eqb-of, tests-same}
+use Rattle.lists.proofs.ListLaws.{each-map, numbered-map}
+use Rattle.lists.proofs.SortLaws.{sort-ascending}
+use Rattle.lists.proofs.NthLaws.{Nth, nth-getD, getD-nth, before-nth}
 use Rattle.definitions.specs.Grid.{box}
 use Rattle.definitions.specs.Scan.{scanNumber}
 use Rattle.definitions.specs.Kinds.{Tray, Piece, Form, pieceForm, sameForm, formAhead, Sorted, sortPiece, Copy, Kind, sorted, forms, copiesOfPiece, copiesOf, kindNamed, kindsOf}
 use Rattle.definitions.specs.Placements.{Placement, compile}
-use Rattle.definitions.specs.Packing.{Packing, limits}
+use Rattle.definitions.specs.Packing.{limits}
 use Rattle.definitions.specs.Answers.{Taken, takes, taken, copyOn, answer, twoBytes, lentCells}
-use Rattle.definitions.specs.Refusals.{Call, trayOf, refusal}
-use Rattle.definitions.proofs.ListLaws.{sort-ascending, eqb-of, numbered-map}
-use Rattle.definitions.proofs.MapLaws.{map-map-of}
-use Rattle.definitions.proofs.WellMadeLaws.{Nth, nth-getD, getD-nth}
-use Rattle.definitions.proofs.PartnerLaws.{sameForm→eq, form-trans, before-holds, before-form}
-use Rattle.placements.proofs.FittingLaws.{both-ways}
+use Rattle.definitions.proofs.PartnerLaws.{sameForm→eq, form-trans, before-form}
 use Rattle.rows.specs.Systems.{Owned, owned, systemOf}
 use Rattle.rows.specs.Answering.{copiesIf, copiesBy, takenBy, answersOver, answerBy}
 
@@ -29,10 +28,6 @@ numbered-by f g i [] h = refl
 numbered-by {A} {B} f g i (x ∷ xs) h =
     ap₂ (λ (y : B) (l : List B). y ∷ l) (ap (λ (k : ℕ). f k x) {x = i} {y = 0 + i} (omega arith) ∙ h 0 x refl ∙ ap g {x = 0 + i} {y = i} (omega arith))
     (numbered-by f g (suc i) xs (λ n z m. ap (λ (k : ℕ). f k z) {x = n + suc i} {y = suc n + i} (omega arith) ∙ h (suc n) z m ∙ ap g {x = suc n + i} {y = n + suc i} (omega arith)))
-
-pub each-of-map : {A B C : Type 0} (m : A → B) (f : B → List C) (xs : List A) → each (map m xs) f ≡ each xs (λ x. f (m x))
-each-of-map m f [] = refl
-each-of-map {C = C} m f (x ∷ xs) = ap (λ (l : List C). f (m x) ++ l) (each-of-map m f xs)
 
 -- ---- a tray's copies
 module _ (t : Tray) where
@@ -46,8 +41,8 @@ module _ (t : Tray) where
   -- a form has the number k where it is the k-th
   same-number : (k : ℕ) (g : Form) → Nth (forms (sorted t)) k g → (s : Form) → eqb (before (sameForm s) (forms (sorted t))) k ≡ sameForm s g
   same-number k g m s =
-      both-ways (eqb (before (sameForm s) shown) k) (sameForm s g)
-      (λ e. before-holds (sameForm s) shown g (subst (λ (n : ℕ). Nth shown n g) (sym (eqb→eq (before (sameForm s) shown) k e)) m))
+      tests-same (eqb (before (sameForm s) shown) k) (sameForm s g)
+      (λ e. before-nth (sameForm s) shown g (subst (λ (n : ℕ). Nth shown n g) (sym (eqb→eq (before (sameForm s) shown) k e)) m))
       (λ e. eqb-of (ap (λ (h : Form). before (sameForm h) shown) (sameForm→eq s g e) ∙ before-form shown up k g m))
 
   abbrev own : Piece → Owned
@@ -92,7 +87,7 @@ module _ (t : Tray) where
   pub same-answer : (P : List Placement) → answerBy (systemOf t) P ≡ answer (compile t) P
   unfolding answerBy systemOf answersOver answer
   same-answer P =
-      each-of-map (scanNumber (lentCells (compile t))) (λ n. let d = copyOn (takenBy (owned t) (length (limits (compile t))) P) n in d .piece ∷ d .copy ∷ []) (box (compile t .frame .lent))
+      each-map (scanNumber (lentCells (compile t))) (λ n. let d = copyOn (takenBy (owned t) (length (limits (compile t))) P) n in d .piece ∷ d .copy ∷ []) (box (compile t .frame .lent))
       ∙ ap (λ (ts : List Taken). each (box (compile t .frame .lent)) (twoBytes ts (lentCells (compile t)))) (taken-same P)
 
   pub copies-many : (k : ℕ) → k < length (compile t .kinds) → length (copiesBy (owned t) k) ≡ getD (limits (compile t)) k 0
@@ -100,10 +95,4 @@ module _ (t : Tray) where
   copies-many k h =
       let r = getD-nth shown k (let e = length-map shown made in omega arith) in
       ap length (copies-are k (r .0) (r .1))
-      ∙ sym (ap (λ (l : List ℕ). getD l k 0) (map-map-of (λ (d : Kind). length (d .copies)) made shown) ∙ nth-getD (λ (g : Form). length (copiesOf (sorted t) g)) 0 shown k (r .1))
-
-pub answer-same : (l : Call) → refusal l ≡ 0 → (P : List Placement) → Packing (compile (trayOf l)) P → answerBy (systemOf (trayOf l)) P ≡ answer (compile (trayOf l)) P
-answer-same l ok P packing = same-answer (trayOf l) P
-
-pub copies-same : (l : Call) → refusal l ≡ 0 → (k : ℕ) → k < length (compile (trayOf l) .kinds) → length (copiesBy (owned (trayOf l)) k) ≡ getD (limits (compile (trayOf l))) k 0
-copies-same l ok k h = copies-many (trayOf l) k h
+      ∙ sym (ap (λ (l : List ℕ). getD l k 0) (map-map (λ (d : Kind). length (d .copies)) made shown) ∙ nth-getD (λ (g : Form). length (copiesOf (sorted t) g)) 0 shown k (r .1))

@@ -1,7 +1,7 @@
 -- The copies that the rows of a path take, one row after the other: where the rows ascend by kind and each kind has copies enough, a row takes the copy of
 -- its kind whose number is that of the rows of the kind before it. Assumes nothing.
 use Prim.Native.Nat.{ℕ, zero, suc, _+_, _-_, _*_, _≤_, _<_}
-use mathlib.Core.Bool.{Bool, true, false, cond, not, _&&_}
+use mathlib.Core.Bool.{Bool, true, false, cond, _&&_}
 use mathlib.Core.List.{List, [], _∷_, _++_, map, map-append, List·Memᴰ, List·Memᴰ·head, List·Memᴰ·tail, List·Memᴰ·not-nil, List·Memᴰ·cases-cons}
 use mathlib.Core.Path.{_≡_, refl, sym, ap, ap₂, _∙_, subst}
 use mathlib.Core.Logic.{_⊎_, inl, inr, ⊎-elim}
@@ -13,24 +13,24 @@ use borrow.Author.Tests.{ne-eqb, eqb-true, eqb-false}
 use lib.Dec.{T, ltb, eqb, ltb→lt, eqb→eq}
 use lib.ListN.{length, getD, take, drop, set, length-map, List·getD-append, drop-of-length-le}
 use lib.Seq.{paste, length-take-le, drop-cons, take-suc, getD-take, take-take, getD-append-add, ext-getD}
-use Rattle.definitions.specs.Lists.{consIf, keep, all, howMany, before, joined, ascending, each, numberedFrom, from, below, member, same, less}
+use Rattle.lists.specs.Lists.{consIf, keep, all, howMany, joined, ascending, numberedFrom, from, below, member, same, less}
+use Rattle.lists.proofs.TestLaws.{and-left, and-right, or-cases, is-true, is-false, tests-same}
+use Rattle.lists.proofs.ListLaws.{all-at, all-of, keep-at, keep-of, map-same, take-in, keep-fails}
+use Rattle.lists.proofs.SortLaws.{same→eq, same-refl}
+use Rattle.lists.proofs.RangeLaws.{below-of, length-below, from-at, member-at, member-of, getD-of}
+use Rattle.lists.proofs.NthLaws.{nth-mem, nth-at}
 use Rattle.definitions.specs.Kinds.{Copy}
 use Rattle.definitions.specs.Placements.{Placement}
 use Rattle.definitions.specs.Packing.{ahead, rank, used}
 use Rattle.definitions.specs.Answers.{Taken, takes, copyOn}
-use Rattle.definitions.proofs.ListLaws.{and-left, and-right, or-cases, all-at, all-of, keep-at, keep-of, below-of, length-below, from-at, is-true, is-false, member-at, member-of, same→eq, same-refl}
-use Rattle.definitions.proofs.GroupLaws.{map-same}
-use Rattle.definitions.proofs.WellMadeLaws.{nth-mem}
-use Rattle.definitions.proofs.KindLaws.{nth-at}
-use Rattle.definitions.proofs.DemandLaws.{take-in}
 use Rattle.masks.specs.Masks.{has}
-use Rattle.placements.proofs.FittingLaws.{both-ways}
+use Rattle.rows.specs.Charts.{piecesPart}
 use Rattle.rows.specs.Rows.{rowAt, maskAt, cellsOf}
 use Rattle.rows.specs.Systems.{Owned, ownedIn}
 use Rattle.rows.specs.Answering.{noCopy, copiesIf, copiesBy, pathIn, takenBy, answersOver, asCopy, Held}
 use Rattle.rows.specs.declared.Dims.{Dims}
 use Rattle.rows.specs.declared.answers.Copied.{Copied}
-use Rattle.rows.proofs.PairLaws.{getD-from, pairs, length-pairs, pair-first, pair-second, pair-stored}
+use Rattle.rows.proofs.PairLaws.{pairs, length-pairs, pair-first, pair-second, pair-stored}
 
 -- ---- the copies of a kind, piece by piece
 abbrev pub ownedAt : List ℕ → ℕ → Owned
@@ -62,7 +62,7 @@ module _ (pieces : List ℕ) (kind n p left : ℕ) where
   copy-found h e l =
       let m = getD pieces (2 * p + 1) 0 in
       copies-next h true e ∙ List·getD-append (ones m) (copiesFrom pieces kind (p + 1) (n - (p + 1))) noCopy left (let k = length-ones m in omega arith)
-      ∙ getD-from (λ k. record { piece = p; copy = k }) 0 m left noCopy l ∙ ap (λ (k : ℕ). record { piece = p; copy = k }) (omega arith)
+      ∙ getD-of (λ k. record { piece = p; copy = k }) noCopy 0 m left l ∙ ap (λ (k : ℕ). record { piece = p; copy = k }) (omega arith)
 
   pub copy-later : p < n → eqb (getD pieces (2 * p) 0) kind ≡ true → getD pieces (2 * p + 1) 0 ≤ left → rest p left ≡ rest (p + 1) (left - getD pieces (2 * p + 1) 0)
   copy-later h e l =
@@ -121,7 +121,7 @@ kind-counted work path n kind = go (take n path)
 pub in-mask : (work : List ℕ) (r cell : ℕ) → cell < 128 → member cell (rowAt work r .cells) ≡ has (maskAt work r) cell
 unfolding rowAt cellsOf
 in-mask work r cell h =
-    both-ways (member cell (keep (has (maskAt work r)) (below 128))) (has (maskAt work r) cell)
+    tests-same (member cell (keep (has (maskAt work r)) (below 128))) (has (maskAt work r) cell)
     (λ t. keep-at (has (maskAt work r)) (below 128) (member-at cell (keep (has (maskAt work r)) (below 128)) t) .1)
     (λ t. member-of (keep (has (maskAt work r)) (below 128)) (keep-of (has (maskAt work r)) (below 128) (below-of 128 h) t))
 
@@ -140,10 +140,6 @@ ahead-kind q r t =
     (λ (s : T (eqb (q .kind) (r .kind) && less (q .p ∷ q .j ∷ []) (r .p ∷ r .j ∷ []))).
     let e = eqb→eq (q .kind) (r .kind) (and-left (eqb (q .kind) (r .kind)) (less (q .p ∷ q .j ∷ []) (r .p ∷ r .j ∷ [])) s) in omega arith)
     (or-cases (ltb (q .kind) (r .kind)) (eqb (q .kind) (r .kind) && less (q .p ∷ q .j ∷ []) (r .p ∷ r .j ∷ [])) t)
-
-pub keep-none : {A : Type 0} (p : A → Bool) (xs : List A) → ((x : A) → List·Memᴰ x xs → p x ≡ false) → keep p xs ≡ []
-keep-none p [] h = refl
-keep-none p (x ∷ xs) h = rw (h x (List·Memᴰ·head refl)) (keep-none p xs (λ z m. h z (List·Memᴰ·tail m)))
 
 takes-none : (ds : List Copy) → takes ds [] ≡ []
 takes-none [] = refl
@@ -206,7 +202,7 @@ module _ (own : List Owned) where
     later : eqb (q .kind) i ≡ false → InOrder n (suc i) → joined (map (part done (q ∷ P)) (from i (suc n))) ≡ takenOn done (q ∷ P)
     later e f =
         ap (λ (l : List Taken). l ++ joined (map (part done (q ∷ P)) (from (suc i) n)))
-        (ap (takes (drop (used done i) (copiesBy own i))) (keep-none (λ (r : Placement). eqb (r .kind) i) (q ∷ P) none) ∙ takes-none (drop (used done i) (copiesBy own i)))
+        (ap (takes (drop (used done i) (copiesBy own i))) (keep-fails (λ (r : Placement). eqb (r .kind) i) (q ∷ P) none) ∙ takes-none (drop (used done i) (copiesBy own i)))
         ∙ f done (q ∷ P) (orderly-later e)
       where
         none : (r : Placement) → List·Memᴰ r (q ∷ P) → eqb (r .kind) i ≡ false
@@ -283,9 +279,9 @@ module _ (own : List Owned) where
     copy-nowhere done (q ∷ qs) h = copy-past done q qs (h q (List·Memᴰ·head refl)) ∙ copy-nowhere (done ++ (q ∷ [])) qs (λ r m. h r (List·Memᴰ·tail m))
 
 -- ---- the copy on a cell, row by row of a path
-module _ (d : Dims) (work pieces path : List ℕ) (n cell : ℕ) (held : Held d work pieces path n) where
+module _ (d : Dims) (work chart path : List ℕ) (n cell : ℕ) (held : Held d work chart path n) where
   abbrev own : List Owned
-  own = ownedIn pieces (d .pieces)
+  own = ownedIn (piecesPart chart) (d .pieces)
 
   -- what the rows from i on lay there
   abbrev copyFrom : ℕ → Copy

@@ -1,32 +1,26 @@
 -- The placements of a tray by a piece of each kind: a kind's variants are those of any of its pieces. Assumes nothing.
-use Prim.Native.Nat.{ℕ, suc, _+_, _*_, _≤_, _<_}
-use mathlib.Core.List.{List, [], _∷_, _++_, map, List·Memᴰ, List·Memᴰ·head, List·Memᴰ·tail}
-use mathlib.Core.Path.{_≡_, refl, sym, ap, ap₂, _∙_}
+use Prim.Native.Nat.{ℕ, _+_, _*_, _≤_, _<_}
+use mathlib.Core.List.{List, [], _++_, map}
+use mathlib.Core.Path.{_≡_, sym, ap, ap₂, _∙_}
 use native.Mathlib.Numerals.{add-one}
 use native.Mathlib.Omega.{arith}
 use lib.Dec.{ltb, ltb→lt}
 use lib.ListN.{length, getD, take, drop, length-drop, drop-of-length-le}
 use lib.Seq.{length-take-le, drop-cons, getD-take}
-use Rattle.definitions.specs.Lists.{joined, numbered, numberedFrom}
+use Rattle.lists.specs.Lists.{joined, numbered, numberedFrom}
+use Rattle.lists.proofs.ListLaws.{numbered-same, all-at, numbered-map}
 use Rattle.definitions.specs.Grid.{Grid, volume}
 use Rattle.definitions.specs.Scan.{axes, scan}
 use Rattle.definitions.specs.Kinds.{Kind, kindsOf, variants}
 use Rattle.definitions.specs.Placements.{Placement, placementsAt, placementsOf, compile}
 use Rattle.definitions.specs.Refusals.{gridOf, sidesOf, placementCount}
 use Rattle.definitions.specs.declared.Record.{Record}
-use Rattle.definitions.proofs.ListLaws.{all-at, numbered-map}
 use Rattle.placements.specs.declared.Table.{Table}
 use Rattle.placements.specs.Tables.{noRecord, recordsOf, lentIn}
 use Rattle.placements.specs.Merging.{gridAt, shapeAt, AreKinds}
 use Rattle.placements.proofs.RefusalLaws.{cells-end}
 use Rattle.placements.proofs.MergingLaws.{record-fits}
 use Rattle.placements.proofs.CountingLaws.{Lent, sound, kinds-shapes, variants-smallest}
-
--- ---- lists with their numbers
-numbered-same : {A B : Type 0} (F G : ℕ → A → B) (i : ℕ) (xs : List A) → ((k : ℕ) (x : A) → List·Memᴰ x xs → F k x ≡ G k x) → numberedFrom i xs F ≡ numberedFrom i xs G
-numbered-same F G i [] h = refl
-numbered-same {B = B} F G i (x ∷ xs) h =
-    ap₂ (λ (y : B) (l : List B). y ∷ l) (h i x (List·Memᴰ·head refl)) (numbered-same F G (suc i) xs (λ k z m. h k z (List·Memᴰ·tail m)))
 
 -- ---- the placements of kind k, given by some grids, and by piece i
 abbrev pub placementsBy : List ℕ → Grid → ℕ → List Grid → List Placement

@@ -1,7 +1,7 @@
 -- Chains of rows: the first row from r on that passes a test is found row by row, and a stored link changes no row. Assumes nothing.
-use Prim.Native.Nat.{ℕ, zero, suc, _+_, _-_, _*_, _^_, _≤_, _<_}
+use Prim.Native.Nat.{ℕ, suc, _+_, _-_, _*_, _^_, _≤_, _<_}
 use mathlib.Core.Bool.{Bool, true, false, cond, _&&_, true≢false}
-use mathlib.Core.List.{List, [], _∷_, map, List·Memᴰ, List·Memᴰ·head, List·Memᴰ·tail}
+use mathlib.Core.List.{List, _∷_, map, List·Memᴰ}
 use mathlib.Core.Logic.{_⊎_, inl, inr, ⊎-elim}
 use mathlib.Core.Path.{_≡_, refl, sym, ap, ap₂, _∙_, subst, fun-ext}
 use native.Mathlib.Decide.{ℕ-discrete}
@@ -11,15 +11,15 @@ use borrow.Author.Tests.{eq-eqb, ne-eqb, eqb-true}
 use lib.Dec.{T, eqb, ltb, ltb→lt}
 use lib.ListN.{length, getD, drop, set, replicate, length-map, getD-replicate}
 use lib.Seq.{drop-drop, drop-set-lt, getD-set-same, getD-set-other}
-use Rattle.definitions.specs.Lists.{all, before, below, from, keep, same}
+use Rattle.lists.specs.Lists.{all, before, below, from, keep, same}
+use Rattle.lists.proofs.TestLaws.{and-right, is-true, is-false, holds, eqb-of, tests-same, lt-or-ge}
+use Rattle.lists.proofs.ListLaws.{before-none, before-by, before-few, all-at, keep-at, keep-of, drop-in, map-same}
+use Rattle.lists.proofs.SortLaws.{same→eq, same-refl}
+use Rattle.lists.proofs.RangeLaws.{map-from-mem, before-holds, drop-from, below-at, below-of, length-below, length-from}
 use Rattle.definitions.specs.Placements.{Placement}
-use Rattle.definitions.proofs.ListLaws.{and-right, is-true, is-false, holds, eqb-of, all-at, keep-at, keep-of, below-at, below-of, length-below, length-from, same→eq, same-refl}
-use Rattle.definitions.proofs.DemandLaws.{drop-in}
-use Rattle.definitions.proofs.GroupLaws.{map-same}
 use Rattle.masks.specs.Masks.{has, SameCells, FirstIn}
 use Rattle.masks.specs.declared.Mask.{Mask}
-use Rattle.placements.proofs.FittingLaws.{both-ways}
-use Rattle.masks.proofs.MaskLaws.{beyond, lt-or-ge}
+use Rattle.masks.proofs.MaskLaws.{beyond}
 use Rattle.rows.specs.Rows.{cellsOf, maskAt, rowAt, rowsIn}
 use Rattle.rows.specs.Chains.{nextAt, Chained, FirstCells}
 use Rattle.rows.specs.Systems.{rowWith}
@@ -29,60 +29,7 @@ module _ {A : Type 0} where
   abbrev pub firstFrom : (A → Bool) → List A → ℕ → ℕ
   firstFrom t qs r = r + before t (drop r qs)
 
-  before-most : (t : A → Bool) (qs : List A) → before t qs ≤ length qs
-  before-most t [] = omega arith
-  before-most t (q ∷ qs) = go (t q) (before-most t qs)
-    where
-      go : (b : Bool) → before t qs ≤ length qs → cond b 0 (suc (before t qs)) ≤ suc (length qs)
-      go true h = omega arith
-      go false h = omega arith
-
-  -- where each that passes t passes u too, the first that passes t is looked for from the first that passes u on
-  before-by : (t u : A → Bool) (qs : List A) → ((q : A) → List·Memᴰ q qs → T (t q) → T (u q)) → before t qs ≡ before u qs + before t (drop (before u qs) qs)
-  before-by t u [] f = refl
-  before-by t u (q ∷ qs) f = go (u q) refl (before-by t u qs (λ x m. f x (List·Memᴰ·tail m)))
-    where
-      go : (b : Bool) → u q ≡ b → before t qs ≡ before u qs + before t (drop (before u qs) qs)
-          → before t (q ∷ qs) ≡ cond b 0 (suc (before u qs)) + before t (drop (cond b 0 (suc (before u qs))) (q ∷ qs))
-      go true e h = sym (zero-add (before t (q ∷ qs)))
-      go false e h =
-          ap {B = ℕ} (λ (b : Bool). cond b 0 (suc (before t qs))) (is-false (t q) (λ s. subst T e (f q (List·Memᴰ·head refl) s)))
-          ∙ ap suc h ∙ omega arith
-
-  before-none : (t : A → Bool) (qs : List A) → ((q : A) → List·Memᴰ q qs → T (t q) → ⊥) → before t qs ≡ length qs
-  before-none t [] f = refl
-  before-none t (q ∷ qs) f =
-      ap {B = ℕ} (λ (b : Bool). cond b 0 (suc (before t qs))) (is-false (t q) (f q (List·Memᴰ·head refl))) ∙ ap suc (before-none t qs (λ x m. f x (List·Memᴰ·tail m)))
-
 -- ---- rows by their numbers
-drop-from : {A : Type 0} (f : ℕ → A) (i n r : ℕ) → r ≤ n → drop r (map f (from i n)) ≡ map f (from (i + r) (n - r))
-drop-from f i n zero h = let e : i ≡ i + 0 = omega arith in let k : n ≡ n - 0 = omega arith in ap₂ (λ (j m : ℕ). map f (from j m)) e k
-drop-from f i zero (suc r) h = absurd (omega arith)
-drop-from f i (suc n) (suc r) h =
-    let e : suc i + r ≡ i + suc r = omega arith in
-    let k : n - r ≡ suc n - suc r = omega arith in
-    drop-from f (suc i) n r (omega arith) ∙ ap₂ (λ (j m : ℕ). map f (from j m)) e k
-
--- the first that passes among n numbered entries passes
-before-holds : {A : Type 0} (t : A → Bool) (f : ℕ → A) (i n : ℕ) → before t (map f (from i n)) < n → T (t (f (i + before t (map f (from i n)))))
-before-holds t f i zero h = absurd (omega arith)
-before-holds t f i (suc n) h = go (t (f i)) refl h (λ (k : before t (map f (from (suc i) n)) < n). before-holds t f (suc i) n k)
-  where
-    b : ℕ
-    b = before t (map f (from (suc i) n))
-
-    go : (c : Bool) → t (f i) ≡ c → cond c 0 (suc b) < suc n → (b < n → T (t (f (suc i + b)))) → T (t (f (i + cond c 0 (suc b))))
-    go true e l r = let k : i ≡ i + 0 = omega arith in subst (λ (j : ℕ). T (t (f j))) k (holds (t (f i)) e)
-    go false e l r = let k : suc i + b ≡ i + suc b = omega arith in subst (λ (j : ℕ). T (t (f j))) k (r (omega arith))
-
-map-from-mem : {A : Type 0} (f : ℕ → A) (i n k : ℕ) → i ≤ k → k < i + n → List·Memᴰ (f k) (map f (from i n))
-map-from-mem f i zero k a b = absurd (omega arith)
-map-from-mem f i (suc n) k a b = go (ℕ-discrete k i) (λ (p : suc i ≤ k) (q : k < suc i + n). map-from-mem f (suc i) n k p q)
-  where
-    go : Dec (k ≡ i) → (suc i ≤ k → k < suc i + n → List·Memᴰ (f k) (map f (from (suc i) n))) → List·Memᴰ (f k) (f i ∷ map f (from (suc i) n))
-    go (yes e) g = List·Memᴰ·head (ap f e)
-    go (no e) g = List·Memᴰ·tail (g (omega arith) (omega arith))
-
 module _ (work : List ℕ) (n : ℕ) where
   pub rows-length : length (rowsIn work n) ≡ n
   unfolding rowsIn
@@ -119,7 +66,7 @@ module _ (work : List ℕ) (n : ℕ) where
     pub first-most : (r : ℕ) → r ≤ n → firstFrom t (rowsIn work n) r ≤ n
     first-most r h =
         let e = length-map (from r (n - r)) (rowAt work) ∙ length-from r (n - r) in
-        let l = before-most t (map (rowAt work) (from r (n - r))) in
+        let l = before-few t (map (rowAt work) (from r (n - r))) in
         omega (arith, first-by r h)
 
     pub first-holds : (r : ℕ) → r ≤ n → firstFrom t (rowsIn work n) r < n → t (rowAt work (firstFrom t (rowsIn work n) r)) ≡ true
@@ -267,7 +214,7 @@ same-numbers a b la lb e = fun-ext λ k. ⊎-elim (λ (h : k < 128). low k h) (�
   where
     low : (k : ℕ) → k < 128 → has a k ≡ has b k
     low k h =
-        both-ways (has a k) (has b k)
+        tests-same (has a k) (has b k)
         (λ t. holds (has b k) (cells-at b (subst (λ (l : List ℕ). List·Memᴰ k l) e (cells-of a h (is-true (has a k) t))) .1))
         (λ t. holds (has a k) (cells-at a (subst (λ (l : List ℕ). List·Memᴰ k l) (sym e) (cells-of b h (is-true (has b k) t))) .1))
 

@@ -1,35 +1,41 @@
--- The kinds and the pieces of a tray, listed two bytes each: a kind's copies and its mirror partner, a piece's kind and its count. Assumes nothing.
+-- The kinds and the pieces of a tray, listed: a kind's copies, its mirror partner and how many cells it has, a piece's kind and its count. Assumes nothing.
 use Prim.Native.Nat.{ℕ, zero, suc, _+_, _*_, _≤_, _<_}
 use mathlib.Core.Bool.{Bool, true, false, cond}
-use mathlib.Core.List.{List, [], _∷_, map}
-use mathlib.Core.Path.{_≡_, refl, sym, ap, ap₂, _∙_}
+use mathlib.Core.List.{List, [], _∷_, map, map-map}
+use mathlib.Core.Path.{_≡_, refl, sym, ap, ap₂, _∙_, subst}
 use native.Mathlib.Omega.{arith}
-use lib.Dec.{ltb, ltb→lt}
-use lib.ListN.{length, getD, take, drop, set, length-map, length-drop, List·getD-map}
+use borrow.Author.Count.{below-more}
+use borrow.Author.Tests.{eqb-true, eqb-false}
+use lib.Dec.{T, eqb, ltb, ltb→lt}
+use lib.ListN.{length, getD, take, drop, set, replicate, getD-replicate, length-map, length-drop, List·getD-map}
 use lib.Seq.{paste, length-take-le, getD-take}
-use Rattle.definitions.specs.Lists.{before, below, sum}
-use Rattle.definitions.specs.Grid.{Grid, volume}
+use Rattle.lists.specs.Lists.{all, before, below, howMany, sum}
+use Rattle.lists.proofs.ListLaws.{before-few, all-at, map-same}
+use Rattle.lists.proofs.RangeLaws.{length-below, number-at, map-below}
+use Rattle.definitions.specs.Grid.{Grid, volume, filledCells}
 use Rattle.definitions.specs.Maps.{Map, mapGrid, mapOf, mirror, product, identity, maps, turns, mirrorings, transform, permutations, parity, axisAt, flipAt}
 use Rattle.definitions.specs.Kinds.{Piece, Tray, Form, pieceForm, sameForm, Kind, kindNamed, kindsOf, smallest, sorted, forms, mirroredForm, partnerOf}
 use Rattle.definitions.specs.Placements.{compile}
 use Rattle.definitions.specs.Packing.{limits}
-use Rattle.definitions.specs.Refusals.{gridOf, sidesOf, copyCount, pieceOf}
+use Rattle.definitions.specs.Orders.{sizes}
+use Rattle.definitions.specs.Refusals.{gridOf, sidesOf, areBits, copyCount, pieceOf}
 use Rattle.definitions.specs.declared.Record.{Record}
-use Rattle.definitions.proofs.ListLaws.{all-at, length-below}
-use Rattle.definitions.proofs.MapLaws.{map-map-of}
-use Rattle.definitions.proofs.GroupLaws.{identity-grid, map-same}
+use Rattle.definitions.proofs.GroupLaws.{identity-grid}
 use Rattle.definitions.proofs.ActLaws.{product-on}
 use Rattle.definitions.proofs.MoveLaws.{mirror-in, mapped-whole}
 use Rattle.definitions.proofs.PartnerLaws.{mirror-twice, form-path}
+use Rattle.definitions.proofs.ShapeLaws.{smallest-at, sum-filled}
+use Rattle.shape.proofs.PlaceLaws.{volume-small}
 use Rattle.placements.specs.declared.Table.{Table}
 use Rattle.placements.specs.Tables.{noRecord, recordsOf, lentIn}
 use Rattle.placements.specs.Merging.{Sound, gridAt, shapeAt, woodAt, formAt, movedForm, formsOf, AreKinds, copiesAt}
 use Rattle.placements.specs.Counting.{Accepted9}
-use Rattle.placements.proofs.RefusalLaws.{cells-end, records-few, records-count}
+use Rattle.placements.proofs.RefusalLaws.{sides-small, cells-end, all-grids, records-few, records-count, record-passes}
 use Rattle.placements.proofs.MergingLaws.{record-fits, unmoved-form, formIn, forms-length, piece-at, counted, copies-all}
-use Rattle.placements.proofs.CountingLaws.{lent-passes, sound, kinds-many}
+use Rattle.placements.proofs.CountingLaws.{lent-passes, sound, kinds-many, filled-smallest, filled-bytes}
+use Rattle.rows.specs.Built.{KindsSmall}
 use Rattle.rows.specs.Systems.{Owned, KindsIn, owned, ownedIn}
-use Rattle.rows.proofs.PairLaws.{number-at, map-below, pairs, first-stored, second-stored, front-next}
+use Rattle.rows.proofs.PairLaws.{pairs, first-stored, second-stored, front-next, set3, set3-first, set3-second, set3-third, set3-other}
 
 -- ---- a tray has at most 128 copies
 pub few-copies : (t : Table) (board : Record) (bytes : List ℕ) → Accepted9 t board bytes → copyCount (lentIn (recordsOf t) board bytes) ≤ 128
@@ -52,14 +58,6 @@ one-few bytes [] i = omega arith
 one-few bytes (r ∷ rs) zero = omega arith
 one-few bytes (r ∷ rs) (suc i) = let h = one-few bytes rs i in omega arith
 
-before-few : {A : Type 0} (p : A → Bool) (xs : List A) → before p xs ≤ length xs
-before-few p [] = omega arith
-before-few p (x ∷ xs) = go (p x) (before-few p xs)
-  where
-    go : (b : Bool) → before p xs ≤ length xs → cond b 0 (suc (before p xs)) ≤ suc (length xs)
-    go true h = omega arith
-    go false h = omega arith
-
 -- ---- mirrored, a kind's smallest turned grid stands for the kind of any of its mirrored grids
 is-mirror : mapOf 26 ≡ mirror
 unfolding mapOf maps turns mirrorings transform permutations parity mirror
@@ -74,9 +72,52 @@ smallest-mirrored g e =
     let back : mapGrid mirror (mapGrid mirror g) ≡ g = product-on true true mirror mirror mirror-in mirror-in g ∙ ap (λ (m : Map). mapGrid m g) mirror-mirror ∙ identity-grid g e in
     ap (λ (h : Grid). smallest (mapGrid mirror (smallest h))) (sym back) ∙ mirror-twice (mapGrid mirror g) (mapped-whole mirror g)
 
--- ---- what is written: of the kind of piece i its copies and its partner, of piece i its kind and its count
+-- ---- as many cells of a kind's smallest turned grid are filled as of any of its grids
+pub smallest-size : (g : Grid) → T (areBits g) → length (g .cells) ≡ volume (g .sides) → sum (smallest g .cells) ≡ howMany (eqb 1) (g .cells)
+smallest-size g bits e =
+    let r = smallest-at g in
+    ap (λ (h : Grid). sum (h .cells)) (sym (r .2)) ∙ sum-filled (r .0) g bits ∙ ap (λ (h : Grid). length (filledCells h)) (r .2) ∙ filled-smallest g ∙ filled-bytes g e
+
+-- ---- three numbers of a kind that are small leave the others so
+pub small-next : (old : List ℕ) (k a b c : ℕ) → 3 * k + 2 < length old → KindsSmall old → a < 256 → c ≤ 512 → KindsSmall (set3 old k a b c)
+small-next old k a b c room small p q =
+    record {
+      copies = λ j h. at-first j (eqb j k) refl (small .copies j h);
+      cells = λ j h. at-third j (eqb j k) refl (small .cells j h);
+    }
+  where
+    at-first : (j : ℕ) (same : Bool) → eqb j k ≡ same → getD old (3 * j) 0 < 256 → getD (set3 old k a b c) (3 * j) 0 < 256
+    at-first j true e h = let s = eqb-true j k e in let f = ap (λ (i : ℕ). getD (set3 old k a b c) (3 * i) 0) s ∙ set3-first old k a b c room in omega arith
+    at-first j false e h =
+        let f = eqb-false j k e in
+        let s = set3-other old k a b c (3 * j) (λ d. f (omega arith)) (λ d. omega arith) (λ d. omega arith) in
+        omega arith
+
+    at-third : (j : ℕ) (same : Bool) → eqb j k ≡ same → getD old (3 * j + 2) 0 ≤ 512 → getD (set3 old k a b c) (3 * j + 2) 0 ≤ 512
+    at-third j true e h = let s = eqb-true j k e in let f = ap (λ (i : ℕ). getD (set3 old k a b c) (3 * i + 2) 0) s ∙ set3-third old k a b c room in omega arith
+    at-third j false e h =
+        let f = eqb-false j k e in
+        let s = set3-other old k a b c (3 * j + 2) (λ d. omega arith) (λ d. omega arith) (λ d. f (omega arith)) in
+        omega arith
+
+pub zeros-small : KindsSmall (replicate 48 0)
+zeros-small =
+    record {
+      copies = λ k h. let e = getD-replicate {A = ℕ} 48 (3 * k) 0 0 (omega arith) in omega arith;
+      cells = λ k h. let e = getD-replicate {A = ℕ} 48 (3 * k + 2) 0 0 (omega arith) in omega arith;
+    }
+
+-- ---- what is written: of the kind of piece i its copies, its partner and how many cells it has, of piece i its kind and its count
 abbrev pub partnerAt : Table → List ℕ → List ℕ → ℕ → ℕ → ℕ
 partnerAt t bytes first n i = before (sameForm (movedForm (mapOf 26) t bytes i)) (formsOf t bytes (take n first))
+
+abbrev pub sizeAt : Table → List ℕ → ℕ → ℕ
+sizeAt t bytes i = howMany (eqb 1) (gridAt t bytes i .cells)
+
+pub record KindAt (t : Table) (bytes first : List ℕ) (n : ℕ) (kinds : List ℕ) (k : ℕ) : Type 0 where
+  pub copies : getD kinds (3 * k) 0 ≡ copiesAt t bytes (getD first k 0)
+  pub partner : getD kinds (3 * k + 1) 0 ≡ partnerAt t bytes first n (getD first k 0)
+  pub cells : getD kinds (3 * k + 2) 0 ≡ sizeAt t bytes (getD first k 0)
 
 abbrev pub kindAt : Table → List ℕ → List ℕ → ℕ → ℕ → ℕ
 kindAt t bytes first n i = before (sameForm (formAt t bytes i)) (formsOf t bytes (take n first))
@@ -87,6 +128,9 @@ countAt t i = getD (t .rows) i noRecord .count
 module _ (t : Table) (board : Record) (bytes first : List ℕ) (n : ℕ) (long : length (t .rows) ≡ 16) (ok : Accepted9 t board bytes) (are : AreKinds t bytes first n) (h : n ≤ length first) where
   pub lent-sound : Sound t bytes
   lent-sound = sound t board bytes (lent-passes t board bytes ok)
+
+  all-bits : T (all (λ q. areBits (gridOf bytes q)) (recordsOf t))
+  all-bits = subst T (all-grids areBits bytes (recordsOf t)) (lent-passes t board bytes ok .passed .bits)
 
   pub kind-piece : (k : ℕ) → k < n → getD first k 0 < t .n
   kind-piece k l = piece-at t bytes first n h (are .ordered) k l
@@ -114,6 +158,11 @@ module _ (t : Table) (board : Record) (bytes first : List ℕ) (n : ℕ) (long :
       let e : getD (recordsOf t) i noRecord .count ≡ countAt t i = ap (λ (r : Record). r .count) (record-is i l) in
       omega arith
 
+  pub size-fits : (r : ℕ) (cells : List ℕ) (i : ℕ) → i < t .n → length cells ≡ volume (sidesOf (getD (t .rows) i noRecord)) → r ≤ length cells → r ≤ 512
+  size-fits r cells i l e k =
+      let v = volume-small (sidesOf (getD (t .rows) i noRecord)) (sides-small (getD (t .rows) i noRecord) (record-fits t bytes lent-sound long i l .0)) .1 in
+      omega arith
+
   pub number-fits : (g : Form) → before (sameForm g) (formsOf t bytes (take n first)) ≤ 16
   number-fits g =
       let a = before-few (sameForm g) (formsOf t bytes (take n first)) in
@@ -129,14 +178,20 @@ module _ (t : Table) (board : Record) (bytes first : List ℕ) (n : ℕ) (long :
   size : length xs ≡ n
   size = length-take-le n first h
 
-  pub kind-next : (old : List ℕ) → 2 * n ≤ length old → (k : ℕ) → k < n → (new : List ℕ) → new ≡ paste old 0 (pairs (copiesAt t bytes) (partnerAt t bytes first n) (take n first)) (2 * k)
-      → (a b : ℕ) → a ≡ copiesAt t bytes (getD first k 0) → b ≡ partnerAt t bytes first n (getD first k 0)
-      → set (set new (2 * k) a) (2 * k + 1) b ≡ paste old 0 (pairs (copiesAt t bytes) (partnerAt t bytes first n) (take n first)) (2 * (k + 1))
-  kind-next old fits k l new e a b p q =
-      let s = size in
-      let x = sym (getD-take n first k 0 l) in
-      front-next (copiesAt t bytes) (partnerAt t bytes first n) old xs 0 (omega arith) k (omega arith) new e a b
-      (p ∙ ap (copiesAt t bytes) x) (q ∙ ap (partnerAt t bytes first n) x)
+  -- what the code stores of kind k leaves the kinds before it, and keeps the numbers small
+  pub kind-next : (old : List ℕ) (k a b c : ℕ) → 3 * k + 2 < length old → ((j : ℕ) → j < k → KindAt t bytes first n old j)
+      → a ≡ copiesAt t bytes (getD first k 0) → b ≡ partnerAt t bytes first n (getD first k 0) → c ≡ sizeAt t bytes (getD first k 0)
+      → (j : ℕ) → j < k + 1 → KindAt t bytes first n (set3 old k a b c) j
+  kind-next old k a b c room all p q r =
+      below-more (λ (j : ℕ). KindAt t bytes first n (set3 old k a b c) j) k
+      (λ j l.
+      let at = all j l in
+      record {
+        copies = set3-other old k a b c (3 * j) (λ e. omega arith) (λ e. omega arith) (λ e. omega arith) ∙ at .copies;
+        partner = set3-other old k a b c (3 * j + 1) (λ e. omega arith) (λ e. omega arith) (λ e. omega arith) ∙ at .partner;
+        cells = set3-other old k a b c (3 * j + 2) (λ e. omega arith) (λ e. omega arith) (λ e. omega arith) ∙ at .cells;
+      })
+      (record { copies = set3-first old k a b c room ∙ p; partner = set3-second old k a b c room ∙ q; cells = set3-third old k a b c room ∙ r })
 
   abbrev tray : Tray
   tray = lentIn (recordsOf t) board bytes
@@ -153,7 +208,7 @@ module _ (t : Table) (board : Record) (bytes first : List ℕ) (n : ℕ) (long :
   by-pieces f g e =
       let qs = sorted tray in
       let make : Form → Kind = kindNamed qs (forms qs) in
-      map-map-of f make (forms qs) ∙ ap (map (λ (s : Form). f (make s))) forms-are ∙ map-map-of (λ (s : Form). f (make s)) (formAt t bytes) xs
+      map-map f make (forms qs) ∙ ap (map (λ (s : Form). f (make s))) forms-are ∙ map-map (λ (s : Form). f (make s)) (formAt t bytes) xs
       ∙ map-same (λ i. f (make (formAt t bytes i))) g xs (λ i m. e i (ltb→lt i (t .n) (all-at (λ (j : ℕ). ltb j (t .n)) xs (are .ordered .pieces) m)))
 
   partner-is : (i : ℕ) → i < t .n → partnerOf (forms (sorted tray)) (formAt t bytes i) ≡ partnerAt t bytes first n i
@@ -169,24 +224,25 @@ module _ (t : Table) (board : Record) (bytes first : List ℕ) (n : ℕ) (long :
   partners-are : map (λ (d : Kind). d .partner) (kindsOf tray) ≡ map (partnerAt t bytes first n) xs
   partners-are = by-pieces (λ (d : Kind). d .partner) (partnerAt t bytes first n) partner-is
 
-  pub kinds-end : (old : List ℕ) → 2 * n ≤ length old → (new : List ℕ) → new ≡ paste old 0 (pairs (copiesAt t bytes) (partnerAt t bytes first n) (take n first)) (2 * n)
-      → KindsIn new n (compile (lentIn (recordsOf t) board bytes))
-  unfolding compile limits
-  kinds-end old fits new e =
-      let s = size in
-      let at : new ≡ paste old 0 (pairs (copiesAt t bytes) (partnerAt t bytes first n) xs) (2 * length xs) = e ∙ ap (λ (k : ℕ). paste old 0 (pairs (copiesAt t bytes) (partnerAt t bytes first n) xs) (2 * k)) (sym s) in
+  size-is : (i : ℕ) → i < t .n → sum (formAt t bytes i .grid .cells) ≡ sizeAt t bytes i
+  unfolding formAt shapeAt gridAt
+  size-is i l = smallest-size (gridAt t bytes i) (record-passes t (lent-sound .few) long i l (λ q. areBits (gridOf bytes q)) all-bits) (whole i l)
+
+  sizes-are : map (λ (d : Kind). sum (d .shape .cells)) (kindsOf tray) ≡ map (sizeAt t bytes) xs
+  sizes-are = by-pieces (λ (d : Kind). sum (d .shape .cells)) (sizeAt t bytes) size-is
+
+  pub kinds-end : (new : List ℕ) → ((k : ℕ) → k < n → KindAt t bytes first n new k) → KindsIn new n (compile (lentIn (recordsOf t) board bytes))
+  unfolding compile limits sizes
+  kinds-end new all =
       record {
         count = sym (kinds-many t board bytes first n are h);
-        copies = listed (λ k. getD new (2 * k) 0) (copiesAt t bytes)
-            (λ k l. ap (λ (w : List ℕ). getD w (2 * k) 0) at ∙ first-stored (copiesAt t bytes) (partnerAt t bytes first n) old xs 0 (omega arith) k (omega arith))
-            ∙ sym copies-are;
-        partners = listed (λ k. getD new (2 * k + 1) 0) (partnerAt t bytes first n)
-            (λ k l. ap (λ (w : List ℕ). getD w (2 * k + 1) 0) at ∙ second-stored (copiesAt t bytes) (partnerAt t bytes first n) old xs 0 (omega arith) k (omega arith))
-            ∙ sym partners-are;
+        copies = listed (λ k. getD new (3 * k) 0) (copiesAt t bytes) (λ k l. all k l .copies) ∙ sym copies-are;
+        partners = listed (λ k. getD new (3 * k + 1) 0) (partnerAt t bytes first n) (λ k l. all k l .partner) ∙ sym partners-are;
+        cells = listed (λ k. getD new (3 * k + 2) 0) (sizeAt t bytes) (λ k l. all k l .cells) ∙ sym sizes-are;
       }
     where
-      listed : (f g : ℕ → ℕ) → ((k : ℕ) → k < n → f k ≡ g (getD xs k 0)) → map f (below n) ≡ map g xs
-      listed f g e = map-below f n (g 0) (map g xs) (length-map xs g ∙ size) (λ k l. e k l ∙ sym (List·getD-map g xs k 0))
+      listed : (f g : ℕ → ℕ) → ((k : ℕ) → k < n → f k ≡ g (getD first k 0)) → map f (below n) ≡ map g xs
+      listed f g e = map-below f n (g 0) (map g xs) (length-map xs g ∙ size) (λ k l. e k l ∙ ap g (sym (getD-take n first k 0 l)) ∙ sym (List·getD-map g xs k 0))
 
   -- ---- pieces
   abbrev is : List ℕ

@@ -5,6 +5,8 @@ pub mod KindListLaws
 pub mod AnswerLaws
 pub mod ChainLaws
 pub mod MovedLaws
+pub mod ChartLaws
+pub mod LayingLaws
 pub mod PictureLaws
 pub mod SystemMapLaws
 pub mod SystemLaws

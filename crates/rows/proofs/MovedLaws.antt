@@ -7,27 +7,20 @@ use mathlib.Core.Path.{_≡_, refl, sym, ap, ap₂, _∙_, subst, fun-ext}
 use native.Mathlib.Numerals.{add-one}
 use native.Mathlib.Omega.{arith}
 use lib.Dec.{T, eqb, ltb, ltb→lt, lt→ltb}
-use lib.ListN.{length, getD, take, drop, length-drop}
-use lib.Seq.{length-take-le, getD-take, getD-drop}
-use Rattle.definitions.specs.Lists.{consIf, all, keep, from, below, member, sort}
+use lib.ListN.{length, getD}
+use Rattle.lists.specs.Lists.{consIf, all, keep, from, below, member, sort}
+use Rattle.lists.proofs.TestLaws.{and-both, ltb-trans, ltb-irrefl, ltb-tied, lt-or-ge}
+use Rattle.lists.proofs.ListLaws.{all-at, keep-at, keep-of}
+use Rattle.lists.proofs.SortLaws.{keep-ascending, ascending-unique, sort-ascending, sort-at, sort-of}
+use Rattle.lists.proofs.RangeLaws.{from-ascending, below-at, below-of, getD-of, member-at, member-of}
 use Rattle.definitions.specs.Placements.{Placement}
-use Rattle.definitions.proofs.ListLaws.{and-left, and-right, and-both, ltb-trans, ltb-irrefl, all-at, keep-at, keep-of, keep-ascending, from-ascending, below-at, below-of, member-at, member-of, ascending-unique, sort-ascending}
-use Rattle.definitions.proofs.EngineLaws.{sort-at}
-use Rattle.definitions.proofs.ShapeLaws.{sort-of}
-use Rattle.definitions.proofs.ImageLaws.{ltb-tied}
 use Rattle.masks.specs.Masks.{has, nothing, only, either, FirstIn}
 use Rattle.masks.specs.declared.Mask.{Mask}
-use Rattle.masks.proofs.MaskLaws.{lt-or-ge}
 use Rattle.rows.specs.Rows.{cellsOf, maskAt, rowAt}
 use Rattle.rows.specs.Systems.{kindBy, cellsBy, movedBy, rowWith}
 use Rattle.rows.specs.Lawful.{Permutes}
 
 -- ---- the kind after a map
-pub getD-of : {A : Type 0} (f : ℕ → A) (d : A) (i n z : ℕ) → z < n → getD (map f (from i n)) z d ≡ f (i + z)
-getD-of f d i zero z h = absurd (omega arith)
-getD-of f d i (suc n) zero h = let e : i ≡ i + 0 = omega arith in ap f e
-getD-of f d i (suc n) (suc z) h = let e : suc i + z ≡ i + suc z = omega arith in getD-of f d (suc i) n z (omega arith) ∙ ap f e
-
 pub kind-odd : (f : ℕ → ℕ) (n k : ℕ) (odd : Bool) → k < n → odd ≡ true → f k ≡ kindBy (map f (below n)) odd k
 unfolding kindBy
 kind-odd f n k odd h e =
@@ -91,21 +84,7 @@ module _ (t : ℕ → Bool) (f : ℕ → ℕ) where
       alone true = refl
       alone false = refl
 
--- ---- a part of a slice
-pub all-getD : (p : ℕ → Bool) (xs : List ℕ) (i : ℕ) → i < length xs → T (all p xs) → T (p (getD xs i 0))
-all-getD p [] i h t = absurd (omega arith)
-all-getD p (x ∷ xs) zero h t = and-left (p x) (all p xs) t
-all-getD p (x ∷ xs) (suc i) h t = all-getD p xs i (omega arith) (and-right (p x) (all p xs) t)
-
-module _ (xs : List ℕ) (start size : ℕ) where
-  pub part-at : (i : ℕ) → i < size → getD (take size (drop start xs)) i 0 ≡ getD xs (start + i) 0
-  part-at i h = getD-take size (drop start xs) i 0 h ∙ getD-drop start xs i 0
-
-  pub part-small : start + size ≤ length xs → T (all (λ n. ltb n 128) (take size (drop start xs))) → (i : ℕ) → i < size → getD xs (start + i) 0 < 128
-  part-small l t i h =
-      let e : length (take size (drop start xs)) ≡ size = length-take-le size (drop start xs) (simp length-drop (omega arith)) in
-      subst (λ (n : ℕ). n < 128) (part-at i h) (ltb→lt (getD (take size (drop start xs)) i 0) 128 (all-getD (λ n. ltb n 128) (take size (drop start xs)) i (omega arith) t))
-
+-- ---- what holds of all numbers of a list, one by one
 all-below : (p : ℕ → Bool) (xs : List ℕ) → ((i : ℕ) → i < length xs → T (p (getD xs i 0))) → T (all p xs)
 all-below p [] f = tt
 all-below p (x ∷ xs) f = and-both (p x) (all p xs) (f 0 (omega arith)) (all-below p xs (λ i h. f (suc i) (omega arith)))

@@ -1,37 +1,11 @@
--- Bytes that are written two by two: two for each entry of a list, from a place of a slice on. Assumes nothing.
+-- Numbers that are written two by two, two for each entry of a list, from a place of a slice on; and three by three. Assumes nothing.
 use Prim.Native.Nat.{ℕ, zero, suc, _+_, _*_, _≤_, _<_}
-use mathlib.Core.List.{List, [], _∷_, map}
+use mathlib.Core.List.{List, [], _∷_}
 use mathlib.Core.Path.{_≡_, refl, sym, ap, ap₂, _∙_}
 use native.Mathlib.Omega.{arith}
-use lib.ListN.{length, getD, take, set}
-use lib.Seq.{paste, paste-suc, take-paste, getD-take}
-use Rattle.definitions.specs.Lists.{each, from, below}
-
--- ---- numbers in order
-number-from : (i n k : ℕ) → k < n → getD (from i n) k 0 ≡ i + k
-number-from i zero k h = absurd (omega arith)
-number-from i (suc n) zero h = omega arith
-number-from i (suc n) (suc k) h = let e = number-from (suc i) n k (omega arith) in omega arith
-
-pub number-at : (n k : ℕ) → k < n → getD (below n) k 0 ≡ k
-number-at n k h = let e = number-from 0 n k h in omega arith
-
-module _ {A : Type 0} (f : ℕ → A) where
-  pub getD-from : (i n k : ℕ) (d : A) → k < n → getD (map f (from i n)) k d ≡ f (i + k)
-  getD-from i zero k d h = absurd (omega arith)
-  getD-from i (suc n) zero d h = ap f (omega arith)
-  getD-from i (suc n) (suc k) d h = getD-from (suc i) n k d (omega arith) ∙ ap f (omega arith)
-
-  -- a list is what its entries are, number by number
-  pub map-from : (i : ℕ) (d : A) (xs : List A) → ((k : ℕ) → k < length xs → f (i + k) ≡ getD xs k d) → map f (from i (length xs)) ≡ xs
-  map-from i d [] h = refl
-  map-from i d (x ∷ xs) h =
-      ap (λ (y : A). y ∷ map f (from (suc i) (length xs))) (ap f (omega arith) ∙ h 0 (omega arith))
-      ∙ ap (λ (l : List A). x ∷ l) (map-from (suc i) d xs (λ k l. ap f (omega arith) ∙ h (suc k) (omega arith)))
-
-pub map-below : {A : Type 0} (f : ℕ → A) (n : ℕ) (d : A) (xs : List A) → length xs ≡ n → ((k : ℕ) → k < n → f k ≡ getD xs k d) → map f (below n) ≡ xs
-map-below f n d xs e h =
-    ap (λ (m : ℕ). map f (below m)) (sym e) ∙ map-from f 0 d xs (λ k l. ap f (omega arith) ∙ h k (omega arith))
+use lib.ListN.{length, getD, take, set, length-set}
+use lib.Seq.{paste, paste-suc, take-paste, getD-take, getD-set-same, getD-set-other, lt-length-set}
+use Rattle.lists.specs.Lists.{each}
 
 -- ---- two numbers for each entry
 module _ {A : Type 0} (f g : A → ℕ) where
@@ -92,3 +66,30 @@ module _ {A : Type 0} (f g : A → ℕ) where
       ∙ ap₂ (λ (j k : ℕ). set (set (paste old 0 (pairs xs) (2 * i)) (2 * i) j) (2 * i + 1) k) p q
       ∙ ap (λ (j : ℕ). set (set (paste old 0 (pairs xs) (2 * i)) j (f (getD xs i d))) (j + 1) (g (getD xs i d))) z
       ∙ pair-stored old 0 xs d (omega arith) i h
+
+-- ---- three numbers for entry k
+module _ (old : List ℕ) (k a b c : ℕ) where
+  abbrev pub set3 : List ℕ
+  set3 = set (set (set old (3 * k) a) (3 * k + 1) b) (3 * k + 2) c
+
+  pub set3-long : length set3 ≡ length old
+  set3-long = length-set (set (set old (3 * k) a) (3 * k + 1) b) (3 * k + 2) c ∙ length-set (set old (3 * k) a) (3 * k + 1) b ∙ length-set old (3 * k) a
+
+  pub set3-other : (i : ℕ) → (i ≡ 3 * k → ⊥) → (i ≡ 3 * k + 1 → ⊥) → (i ≡ 3 * k + 2 → ⊥) → getD set3 i 0 ≡ getD old i 0
+  set3-other i p q r =
+      getD-set-other (set (set old (3 * k) a) (3 * k + 1) b) (3 * k + 2) i c 0 r ∙ getD-set-other (set old (3 * k) a) (3 * k + 1) i b 0 q ∙ getD-set-other old (3 * k) i a 0 p
+
+  module _ (room : 3 * k + 2 < length old) where
+    pub set3-first : getD set3 (3 * k) 0 ≡ a
+    set3-first =
+        getD-set-other (set (set old (3 * k) a) (3 * k + 1) b) (3 * k + 2) (3 * k) c 0 (λ e. let d : 3 * k ≡ 3 * k + 2 = e in omega arith)
+        ∙ getD-set-other (set old (3 * k) a) (3 * k + 1) (3 * k) b 0 (λ e. let d : 3 * k ≡ 3 * k + 1 = e in omega arith) ∙ getD-set-same old (3 * k) a 0 (omega arith)
+
+    pub set3-second : getD set3 (3 * k + 1) 0 ≡ b
+    set3-second =
+        getD-set-other (set (set old (3 * k) a) (3 * k + 1) b) (3 * k + 2) (3 * k + 1) c 0 (λ e. let d : 3 * k + 1 ≡ 3 * k + 2 = e in omega arith)
+        ∙ getD-set-same (set old (3 * k) a) (3 * k + 1) b 0 (lt-length-set old (3 * k) a (omega arith))
+
+    pub set3-third : getD set3 (3 * k + 2) 0 ≡ c
+    set3-third =
+        getD-set-same (set (set old (3 * k) a) (3 * k + 1) b) (3 * k + 2) c 0 (lt-length-set (set old (3 * k) a) (3 * k + 1) b (lt-length-set old (3 * k) a (omega arith)))

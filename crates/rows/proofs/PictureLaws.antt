@@ -2,21 +2,23 @@
 -- Assumes nothing.
 use Prim.Native.Nat.{ℕ, zero, suc, _+_, _-_, _*_, _≤_, _<_}
 use mathlib.Core.Bool.{Bool, true, false}
-use mathlib.Core.List.{List, [], _∷_, _++_, map, map-append, append-assoc, append-nil}
+use mathlib.Core.List.{List, [], _∷_, _++_, map, map-append, append-assoc, append-nil, map-map}
 use mathlib.Core.Path.{_≡_, refl, sym, ap, ap₂, _∙_, subst}
 use native.Mathlib.Numerals.{add-one}
 use native.Mathlib.Omega.{arith}
 use lib.Dec.{T, ltb, ltb→lt}
 use lib.ListN.{length, getD, take, drop, set, length-map, length-take, length-drop, List·getD-append}
 use lib.Seq.{paste, paste-suc, length-paste, drop-paste, length-take-le, length-paste-head, take-all, take-at, drop-at, drop-drop, getD-take, getD-drop, ext-getD}
-use Rattle.definitions.specs.Lists.{consIf, all, below, from}
+use Rattle.lists.specs.Lists.{consIf, all, below, from}
+use Rattle.lists.proofs.TestLaws.{holds}
+use Rattle.lists.proofs.ListLaws.{all-at, map-same, all-getD, getD-map}
+use Rattle.lists.proofs.RangeLaws.{map-entries, from-at, length-below, getD-of}
 use Rattle.definitions.specs.Grid.{Grid, Sides, Cell, InBox, volume, placeOf, box, sameGrid}
 use Rattle.definitions.specs.Maps.{Map, mapOf, mapSides, mapCell, mapGrid}
 use Rattle.definitions.specs.Scan.{scan, scanNumber}
 use Rattle.definitions.specs.Kept.{symmetries}
-use Rattle.definitions.proofs.ListLaws.{holds, all-at, from-at, length-below}
-use Rattle.definitions.proofs.MapLaws.{map-map-of, mapped-sides}
-use Rattle.definitions.proofs.GroupLaws.{map-same, sameGrid→eq}
+use Rattle.definitions.proofs.MapLaws.{mapped-sides}
+use Rattle.definitions.proofs.GroupLaws.{sameGrid→eq}
 use Rattle.shape.specs.Coords.{Fit}
 use Rattle.shape.specs.Places.{cellAt, imagePlace}
 use Rattle.shape.proofs.PlaceLaws.{place-lt, cell-at-place, cell-in-box, image-in-box}
@@ -24,18 +26,12 @@ use Rattle.shape.proofs.GridLaws.{box-places}
 use Rattle.placements.specs.Counting.{OnBoard}
 use Rattle.rows.specs.Boards.{CanMove, Numbered, Pictured, boardImages, placeImages}
 use Rattle.rows.specs.Systems.{imagesIn}
-use Rattle.rows.proofs.MovedLaws.{all-getD, getD-of}
 
 -- ---- a map's images, place by place
 pub place-at : (places : List ℕ) (n size : ℕ) → n ≤ length places → T (all (λ i. ltb i size) (take n places)) → (i : ℕ) → i < n → getD places i 0 < size
 place-at places n size h t i l =
     let e = length-take-le n places h in
-    subst (λ (j : ℕ). j < size) (getD-take n places i 0 l) (ltb→lt (getD (take n places) i 0) size (all-getD (λ j. ltb j size) (take n places) i (omega arith) t))
-
-getD-map : (f : ℕ → ℕ) (xs : List ℕ) (i : ℕ) → i < length xs → getD (map f xs) i 0 ≡ f (getD xs i 0)
-getD-map f [] i h = absurd (omega arith)
-getD-map f (x ∷ xs) zero h = refl
-getD-map f (x ∷ xs) (suc i) h = getD-map f xs i (omega arith)
+    subst (λ (j : ℕ). j < size) (getD-take n places i 0 l) (ltb→lt (getD (take n places) i 0) size (all-getD (λ j. ltb j size) 0 (take n places) t i (omega arith)))
 
 module _ (s : Sides) (m : Map) (places scans : List ℕ) (n : ℕ) (h : n ≤ length places) where
   pub images-length : length (placeImages s m places scans n) ≡ n
@@ -49,19 +45,11 @@ module _ (s : Sides) (m : Map) (places scans : List ℕ) (n : ℕ) (h : n ≤ le
       let long = images-length in
       let same : getD scans j 0 ≡ getD (placeImages s m places scans n) i 0
       = ap (λ (z : ℕ). getD scans z 0) (e ∙ ap (imagePlace m s) (sym (getD-take n places i 0 k)))
-      ∙ sym (getD-map (λ z. getD scans (imagePlace m s z) 0) (take n places) i (omega (arith, length-take-le n places h))) in
+      ∙ sym (getD-map 0 0 (λ z. getD scans (imagePlace m s z) 0) (take n places) i (omega (arith, length-take-le n places h))) in
       ap₂ (λ (x : List ℕ) (v : ℕ). set x (start + i) v) is same ∙ paste-suc d start (placeImages s m places scans n) i 0 (omega arith) (omega arith)
       ∙ ap (λ (z : ℕ). paste d start (placeImages s m places scans n) z) (sym (add-one i))
 
 -- ---- the images of a board's cells
-map-shift : {A : Type 0} (f : ℕ → A) (i n : ℕ) → map f (from (suc i) n) ≡ map (λ j. f (suc j)) (from i n)
-map-shift f i zero = refl
-map-shift f i (suc n) = ap (λ (l : List _). f (suc i) ∷ l) (map-shift f (suc i) n)
-
-map-entries : {A B : Type 0} (f : A → B) (d : A) (xs : List A) → map (λ i. f (getD xs i d)) (below (length xs)) ≡ map f xs
-map-entries f d [] = refl
-map-entries f d (x ∷ xs) = ap (λ (l : List _). f x ∷ l) (map-shift (λ i. f (getD (x ∷ xs) i d)) 0 (length xs) ∙ map-entries f d xs)
-
 module _ (order : List ℕ) (g : Grid) (places scans : List ℕ) (n : ℕ) (on : OnBoard order g places n) (num : Numbered order g scans) where
   -- the number at a place
   number-at : (w : Cell) → InBox (g .sides) w → getD scans (placeOf (g .sides) w) 0 ≡ scanNumber (scan order g) w
@@ -70,7 +58,7 @@ module _ (order : List ℕ) (g : Grid) (places scans : List ℕ) (n : ℕ) (on :
       let l = place-lt s w b in
       let z : 0 + placeOf s w ≡ placeOf s w = omega arith in
       sym (getD-take (volume s) scans (placeOf s w) 0 l)
-      ∙ ap (λ (xs : List ℕ). getD xs (placeOf s w) 0) (num .each ∙ ap (map (scanNumber (scan order g))) (box-places s) ∙ map-map-of (scanNumber (scan order g)) (cellAt s) (below (volume s)))
+      ∙ ap (λ (xs : List ℕ). getD xs (placeOf s w) 0) (num .each ∙ ap (map (scanNumber (scan order g))) (box-places s) ∙ map-map (scanNumber (scan order g)) (cellAt s) (below (volume s)))
       ∙ getD-of (λ i. scanNumber (scan order g) (cellAt s i)) 0 0 (volume s) (placeOf s w) l ∙ ap (scanNumber (scan order g)) (ap (cellAt s) z ∙ cell-at-place s w b)
 
   module _ (k : ℕ) (keeps : sameGrid (mapGrid (mapOf k) g) g ≡ true) where
@@ -91,7 +79,7 @@ module _ (order : List ℕ) (g : Grid) (places scans : List ℕ) (n : ℕ) (on :
         let f : Cell → ℕ = λ u. scanNumber (scan order g) (mapCell (mapOf k) s u) in
         map-same (λ i. getD scans (imagePlace (mapOf k) s i) 0) (λ i. f (cellAt s i)) (take n places)
         (λ i m. image-number i (ltb→lt i (volume s) (all-at (λ (j : ℕ). ltb j (volume s)) (take n places) (on .inBox) m)))
-        ∙ sym (map-map-of f (cellAt s) (take n places)) ∙ ap (map f) (on .cells) ∙ sym (map-entries f (record { x = 0; y = 0; z = 0 }) (scan order g))
+        ∙ sym (map-map f (cellAt s) (take n places)) ∙ ap (map f) (on .cells) ∙ sym (map-entries f (record { x = 0; y = 0; z = 0 }) (scan order g))
 
 -- each place of the board's box has a number, and its filled cells can be moved
 pub can-move : (order : List ℕ) (g : Grid) (places scans : List ℕ) (n : ℕ) → OnBoard order g places n → Numbered order g scans → Fit (g .sides) → CanMove (g .sides) places scans n

@@ -1,6 +1,6 @@
 -- A row of a packing is shown by the packing's answer, on each of its cells by one copy of a piece of its kind; and what an answer shows on the cells of
 -- the board, found cell by cell. Assumes nothing.
-use Prim.Native.Nat.{ℕ, zero, suc, _+_, _*_, _≤_, _<_}
+use Prim.Native.Nat.{ℕ, suc, _+_, _*_, _≤_, _<_}
 use mathlib.Core.Bool.{Bool, true, false, cond, _&&_, true≢false}
 use mathlib.Core.List.{List, [], _∷_, map, List·Memᴰ, List·Memᴰ·head, List·Memᴰ·tail, List·Memᴰ·not-nil, List·Memᴰ·cases-cons, Memᴰ·cast, Memᴰ·map, Memᴰ·of-map}
 use mathlib.Core.Logic.{_⊎_, inl, inr}
@@ -11,37 +11,28 @@ use borrow.Author.Tests.{eqb-true, eqb-false}
 use lib.Dec.{T, eqb, ltb, eqb→eq, eqb-refl, ltb→lt, lt→ltb}
 use lib.ListN.{length, getD, take, set, length-map}
 use lib.Seq.{length-take-le, getD-take, getD-set-same, getD-set-other, lt-length-set}
-use Rattle.definitions.specs.Lists.{all, before, below, headOr, keep, member, numbered, same}
+use Rattle.lists.specs.Lists.{all, before, below, headOr, keep, member, numbered, same}
+use Rattle.lists.proofs.TestLaws.{and-left, and-right, and-both, is-true, is-false, holds, eqb-of, lt-or-ge, tests-same}
+use Rattle.lists.proofs.ListLaws.{before-is, all-at, all-of, keep-at, keep-of, keep-same, joined-at, joined-of}
+use Rattle.lists.proofs.SortLaws.{same→eq, same-refl}
+use Rattle.lists.proofs.RangeLaws.{below-at, below-of, length-below, member-at, member-of, getD-of}
+use Rattle.lists.proofs.CountLaws.{howMany-length}
+use Rattle.lists.proofs.NthLaws.{nth-below, numbered-at, nth-value}
 use Rattle.definitions.specs.Kinds.{Copy}
 use Rattle.definitions.specs.Placements.{Placement}
 use Rattle.definitions.specs.Packing.{used}
 use Rattle.definitions.specs.Answers.{Taken, takes, copyOn}
-use Rattle.definitions.proofs.ListLaws.{and-left, and-right, and-both, is-true, is-false, holds, eqb-of, all-at, all-of, keep-at, keep-of, keep-same, below-at, below-of, length-below, member-at, member-of, same→eq, same-refl}
-use Rattle.definitions.proofs.CountLaws.{howMany-length}
-use Rattle.definitions.proofs.WellMadeLaws.{nth-below, joined-at, numbered-at}
-use Rattle.definitions.proofs.CellLaws.{nth-value}
-use Rattle.definitions.proofs.AnswerLaws.{joined-of}
 use Rattle.masks.specs.Masks.{has, FirstIn}
 use Rattle.masks.specs.declared.Mask.{Mask}
-use Rattle.masks.proofs.MaskLaws.{lt-or-ge}
-use Rattle.placements.proofs.FittingLaws.{both-ways}
 use Rattle.rows.specs.Rows.{cellsOf, maskAt, rowAt}
 use Rattle.rows.specs.Systems.{Owned, System, ownedIn}
 use Rattle.rows.specs.Answering.{noCopy, copiesIf, copiesBy, takenBy, answersOver, answerBy}
 use Rattle.rows.specs.Lawful.{Lawful}
 use Rattle.rows.specs.Shown.{Shown, nothingOwned, showsRow}
-use Rattle.rows.proofs.PairLaws.{getD-from, pair-first, pair-second}
+use Rattle.rows.proofs.PairLaws.{pair-first, pair-second}
 use Rattle.rows.proofs.AnsweringLaws.{in-mask}
 
 -- ---- the place of a cell
--- the first entry that passes, by those before it
-before-is : {A : Type 0} (p : A → Bool) (d : A) (xs : List A) (i : ℕ) → i ≤ length xs → ((k : ℕ) → k < i → T (p (getD xs k d)) → ⊥) → (i < length xs → T (p (getD xs i d))) → before p xs ≡ i
-before-is p d [] i h f g = omega arith
-before-is p d (x ∷ xs) zero h f g = ap {B = ℕ} (λ (b : Bool). cond b 0 (suc (before p xs))) (is-true (p x) (g (omega arith)))
-before-is p d (x ∷ xs) (suc i) h f g =
-    ap {B = ℕ} (λ (b : Bool). cond b 0 (suc (before p xs))) (is-false (p x) (f 0 (omega arith)))
-    ∙ ap suc (before-is p d xs i (omega arith) (λ k l. f (suc k) (omega arith)) (λ l. g (omega arith)))
-
 before-found : (n : ℕ) (xs : List ℕ) → List·Memᴰ n xs → (before (eqb n) xs < length xs) × (getD xs (before (eqb n) xs) 0 ≡ n)
 before-found n [] m = absurd (List·Memᴰ·not-nil m)
 before-found n (x ∷ xs) m = go (eqb n x) refl (List·Memᴰ·cases-cons m) (λ (k : List·Memᴰ n xs). before-found n xs k)
@@ -130,10 +121,23 @@ module _ (own : List Owned) (shown : List ℕ) (q : Placement) (piece copy : ℕ
       let on = all-of onCell (q .cells) (λ c m. let r = f c m in and-both (eqb (getD shown (2 * c) 0) piece) (eqb (getD shown (2 * c + 1) 0) copy) (eqb-of (r .0)) (eqb-of (r .1))) in
       shows-is ∙ is-true (p && (ofKind && cs)) (and-both p (ofKind && cs) (lt→ltb piece (length own) h) (and-both ofKind cs (eqb-of e) on))
 
--- the same of row r of the work slice and the pieces of a slice
-module _ (work pieces shown : List ℕ) (n r piece copy : ℕ) (first : piece ≡ getD shown (2 * rowAt work r .p) 0) (second : copy ≡ getD shown (2 * rowAt work r .p + 1) 0) where
+-- the same of row r of the work slice, whose first cell is p, and the pieces of a slice
+module _ (work pieces shown : List ℕ) (n r p : ℕ) (e : p ≡ rowAt work r .p) where
   abbrev own : List Owned
   own = ownedIn pieces n
+
+  -- the copy that its first cell shows
+  abbrev piece : ℕ
+  piece = getD shown (2 * p) 0
+
+  abbrev copy : ℕ
+  copy = getD shown (2 * p + 1) 0
+
+  first : piece ≡ getD shown (2 * rowAt work r .p) 0
+  first = ap (λ (c : ℕ). getD shown (2 * c) 0) e
+
+  second : copy ≡ getD shown (2 * rowAt work r .p + 1) 0
+  second = ap (λ (c : ℕ). getD shown (2 * c + 1) 0) e
 
   abbrev row : Placement
   row = rowAt work r
@@ -145,7 +149,7 @@ module _ (work pieces shown : List ℕ) (n r piece copy : ℕ) (first : piece �
   own-kind : piece < n → getD own piece nothingOwned .kind ≡ getD pieces (2 * piece) 0
   unfolding ownedIn
   own-kind h =
-      ap (λ (o : Owned). o .kind) (getD-from (λ i. record { kind = getD pieces (2 * i) 0; count = getD pieces (2 * i + 1) 0 }) 0 n piece nothingOwned h)
+      ap (λ (o : Owned). o .kind) (getD-of (λ i. record { kind = getD pieces (2 * i) 0; count = getD pieces (2 * i + 1) 0 }) nothingOwned 0 n piece h)
       ∙ ap (λ (k : ℕ). getD pieces (2 * k) 0) {x = 0 + piece} {y = piece} (omega arith)
 
   pub no-piece : n ≤ piece → false ≡ showsRow own shown row
@@ -259,7 +263,7 @@ module _ (s : System) (law : Lawful s) (P : List Placement) (q : Placement) (m :
       alike : (t : Taken) → List·Memᴰ t ts → member c (t .cells) ≡ same (t .cells) (q .cells)
       alike t h =
           let x = taken-at (s .pieces) (length (s .copies)) P h in
-          both-ways (member c (t .cells)) (same (t .cells) (q .cells))
+          tests-same (member c (t .cells)) (same (t .cells) (q .cells))
           (λ u. let e = alone (x .0) (x .1) c k (subst (λ (l : List ℕ). List·Memᴰ c l) (x .2) (member-at c (t .cells) u)) in
           subst (λ (l : List ℕ). T (same (t .cells) l)) (x .2 ∙ ap (λ (z : Placement). z .cells) e) (same-refl (t .cells)))
           (λ u. member-of (t .cells) (subst (λ (l : List ℕ). List·Memᴰ c l) (sym (same→eq (t .cells) (q .cells) u)) k))

@@ -1,12 +1,17 @@
 -- The system of an accepted tray is lawful: its rows are the tray's placements, its maps the board's, and the limits are those that a call must keep. Assumes nothing.
 use Prim.Native.Nat.{ℕ, suc, _+_, _≤_, _<_}
 use mathlib.Core.Bool.{Bool, true, false, cond}
-use mathlib.Core.List.{List, [], _∷_, map, List·Memᴰ, Memᴰ·cast, Memᴰ·map}
+use mathlib.Core.List.{List, [], _∷_, map, List·Memᴰ, Memᴰ·cast, Memᴰ·map, map-map}
 use mathlib.Core.Path.{_≡_, refl, sym, ap, _∙_}
 use native.Mathlib.Omega.{arith}
-use lib.Dec.{T, ltb}
+use lib.Dec.{T}
 use lib.ListN.{length, getD, length-map, length-append}
-use Rattle.definitions.specs.Lists.{consIf, all, keep, each, below, numberedFrom, member, ascending, sum}
+use Rattle.lists.specs.Lists.{consIf, all, keep, each, below, numberedFrom, ascending, sum}
+use Rattle.lists.proofs.TestLaws.{and-right, is-false}
+use Rattle.lists.proofs.ListLaws.{length-numbered, apart-length, map-still}
+use Rattle.lists.proofs.SortLaws.{not-again, apart-ascending, sort-at}
+use Rattle.lists.proofs.RangeLaws.{length-below, members-below}
+use Rattle.lists.proofs.CountLaws.{total, total-add, total-zero, total-same, sum-map}
 use Rattle.definitions.specs.Grid.{Cell, setDown, box}
 use Rattle.definitions.specs.Maps.{identity}
 use Rattle.definitions.specs.Scan.{scanNumber}
@@ -17,10 +22,7 @@ use Rattle.definitions.specs.Placements.{Placement, Compiled, compile}
 use Rattle.definitions.specs.Packing.{limits}
 use Rattle.definitions.specs.Kept.{kindAfter}
 use Rattle.definitions.specs.Refusals.{Call, lentOf, stripTray, trayOf, copyCount, boardCellCount, placementCount, refusal}
-use Rattle.definitions.proofs.ListLaws.{keep-at, keep-of, keep-ascending, below-of, from-ascending, member-at, member-of, ltb-trans, ltb-irrefl, ascending-unique, and-right, not-again, length-below, apart-ascending, apart-length, is-false}
-use Rattle.definitions.proofs.CountLaws.{total, total-add, total-zero, total-same, sum-map}
-use Rattle.definitions.proofs.MapLaws.{map-map-of, box-of}
-use Rattle.definitions.proofs.EngineLaws.{sort-at}
+use Rattle.definitions.proofs.MapLaws.{box-of}
 use Rattle.definitions.proofs.RefusalLaws.{PassedLent, passed}
 use Rattle.definitions.proofs.ShapeLaws.{scan-length, lent-board-whole}
 use Rattle.definitions.proofs.StrippingLaws.{strip-count, sum-bits}
@@ -33,13 +35,9 @@ use Rattle.rows.specs.Rows.{spread}
 use Rattle.rows.specs.Systems.{owned, systemOf, kindBy}
 use Rattle.rows.specs.Answering.{copiesBy}
 use Rattle.rows.specs.Lawful.{Lawful}
-use Rattle.rows.proofs.SystemMapLaws.{map-still, map-permutes, map-identity, map-inverse, map-product, map-image, kind-is, kind-back}
+use Rattle.rows.proofs.SystemMapLaws.{map-permutes, map-identity, map-inverse, map-product, map-image, kind-is, kind-back}
 
 -- ---- counting
-length-numbered : {A B : Type 0} (f : ℕ → A → B) (i : ℕ) (xs : List A) → length (numberedFrom i xs f) ≡ length xs
-length-numbered f i [] = refl
-length-numbered f i (x ∷ xs) = ap suc (length-numbered f (suc i) xs)
-
 -- of forms that ascend at most one is a given one
 form-at-most-once : (s : Form) (n : ℕ) (hs : List Form) → T (ascending formAhead hs) → total (λ g. cond (sameForm s g) n 0) hs ≤ n
 form-at-most-once s n [] t = omega arith
@@ -88,11 +86,6 @@ counts-same i [] = refl
 counts-same i (p ∷ ps) = ap (λ (n : ℕ). p .count + n) (counts-same (suc i) ps)
 
 -- ---- cells that ascend and are below 128 are given back as they were
-pub spread-cells : (xs : List ℕ) → T (ascending ltb xs) → ((n : ℕ) → List·Memᴰ n xs → n < 128) → keep (λ n. member n xs) (below 128) ≡ xs
-spread-cells xs t h =
-    ascending-unique ltb ltb-trans ltb-irrefl (keep (λ n. member n xs) (below 128)) xs (keep-ascending ltb (λ n. member n xs) (below 128) (from-ascending 0 128)) t
-    (λ z m. member-at z xs (keep-at (λ n. member n xs) (below 128) m .1)) (λ z m. keep-of (λ n. member n xs) (below 128) (below-of 128 (h z m)) (member-of xs m))
-
 module _ (l : Call) (ok : refusal l ≡ 0) where
   abbrev C : Compiled
   C = compile (trayOf l)
@@ -137,7 +130,7 @@ module _ (l : Call) (ok : refusal l ≡ 0) where
       let b = copies-all (forms qs) (fs-up (trayOf l) (piece-whole l ok)) qs in
       let c = counts-same 0 (trayOf l .pieces) in
       let d : sum (limits C) ≡ total (λ g. length (copiesOf qs g)) (forms qs) =
-      ap sum (map-map-of (λ (d : Kind). length (d .copies)) _ (forms qs)) ∙ sum-map (λ g. length (copiesOf qs g)) (forms qs) in
+      ap sum (map-map (λ (d : Kind). length (d .copies)) _ (forms qs)) ∙ sum-map (λ g. length (copiesOf qs g)) (forms qs) in
       omega arith
 
   -- ---- a placement's cells ascend and are below 128, so a row gives it back
@@ -147,7 +140,7 @@ module _ (l : Call) (ok : refusal l ≡ 0) where
     where
       back : (q : Placement) → List·Memᴰ q (C .placements) → spread q ≡ q
       back q m =
-          let e = spread-cells (q .cells) (W l ok .cellsAscend q m) (λ n k. let a = W l ok .onBoard q m n k in let b = few-cells in omega arith) in
+          let e = members-below 128 (q .cells) (W l ok .cellsAscend q m) (λ n k. let a = W l ok .onBoard q m n k in let b = few-cells in omega arith) in
           (λ i. record { kind = q .kind; p = q .p; j = q .j; cells = e i })
 
   -- ---- each cell has a place in the box that was lent

@@ -1,13 +1,18 @@
 -- The maps of an accepted tray's system are its board's allowed maps by scan numbers, so they are a group that takes rows to rows. Assumes nothing.
-use Prim.Native.Nat.{ℕ, zero, suc, _+_, _<_}
+use Prim.Native.Nat.{ℕ, _<_}
 use mathlib.Core.Bool.{Bool, true, false, cond, not}
-use mathlib.Core.List.{List, [], _∷_, map, List·Memᴰ, List·Memᴰ·head, List·Memᴰ·tail, Memᴰ·cast, Memᴰ·map, Memᴰ·of-map}
+use mathlib.Core.List.{List, map, List·Memᴰ, Memᴰ·cast, Memᴰ·map, Memᴰ·of-map}
 use mathlib.Core.Path.{_≡_, refl, sym, ap, _∙_, subst}
 use mathlib.Core.Logic.{_⊎_, inl, inr}
 use native.Mathlib.Omega.{arith}
 use lib.Dec.{T, ltb, ltb→lt, nltb→le}
 use lib.ListN.{length, getD, length-map, List·getD-eq-default}
-use Rattle.definitions.specs.Lists.{below, from, sort}
+use Rattle.lists.specs.Lists.{below, sort}
+use Rattle.lists.proofs.TestLaws.{ltb-trans, ltb-irrefl, decide, ltb-tied}
+use Rattle.lists.proofs.ListLaws.{map-still, keep-of, map-same}
+use Rattle.lists.proofs.SortLaws.{sort-ascending, ascending-unique, sort-at, sort-of}
+use Rattle.lists.proofs.RangeLaws.{below-at, length-below, getD-below}
+use Rattle.lists.proofs.NthLaws.{nth-getD, getD-nth}
 use Rattle.definitions.specs.Grid.{Cell, sameGrid}
 use Rattle.definitions.specs.Maps.{Map, mapCell, mapGrid, turns, mirrorings, product, identity}
 use Rattle.definitions.specs.Scan.{scanNumber}
@@ -15,12 +20,8 @@ use Rattle.definitions.specs.Kinds.{Kind, kindsOf}
 use Rattle.definitions.specs.Placements.{Placement, Compiled, compile}
 use Rattle.definitions.specs.Kept.{kindAfter, cellAfter, symmetries}
 use Rattle.definitions.specs.Refusals.{Call, trayOf, refusal}
-use Rattle.definitions.proofs.ListLaws.{keep-of, below-at, length-below, ltb-trans, ltb-irrefl, sort-ascending, ascending-unique, decide}
-use Rattle.definitions.proofs.GroupLaws.{identity-cell, sameGrid-of, map-same}
-use Rattle.definitions.proofs.EngineLaws.{sort-at}
-use Rattle.definitions.proofs.ShapeLaws.{sort-of}
-use Rattle.definitions.proofs.WellMadeLaws.{nth-getD, getD-nth}
-use Rattle.definitions.proofs.ImageLaws.{ltb-tied, Numbered, Onto-placement, after-below, after-after, after-still, numbers-inj}
+use Rattle.definitions.proofs.GroupLaws.{identity-cell, sameGrid-of}
+use Rattle.definitions.proofs.ImageLaws.{Numbered, Onto-placement, after-below, after-after, after-still, numbers-inj}
 use Rattle.definitions.proofs.ActLaws.{plus, mapsOf, Allowed, allowed-identity, allowed-product, allowed-back, allowed-then, identity-then-cell, symmetry-at, on-cells, act-inj}
 use Rattle.definitions.proofs.PartnerLaws.{partner-back}
 use Rattle.definitions.proofs.GeometryLaws.{piece-whole, W, numbered-cells, to-filled, of-filled, whole, partners}
@@ -29,19 +30,6 @@ use Rattle.rows.specs.Systems.{System, cellImages, systemOf, kindBy, cel
 use Rattle.rows.specs.Lawful.{Permutes, ImageOf, allowed, afterBy, differ}
 
 -- ---- lists of numbers
-pub getD-from : (f : ℕ → ℕ) (i n k : ℕ) → k < n → getD (map f (from i n)) k 0 ≡ f (i + k)
-getD-from f i zero k h = absurd (omega arith)
-getD-from f i (suc n) zero h = ap f (omega arith)
-getD-from f i (suc n) (suc k) h = getD-from f (suc i) n k (omega arith) ∙ ap f (omega arith)
-
-pub getD-below : (f : ℕ → ℕ) (n k : ℕ) → k < n → getD (map f (below n)) k 0 ≡ f k
-getD-below f n k h = getD-from f 0 n k h ∙ ap f (omega arith)
-
--- a function that leaves each entry as it is leaves the list as it is
-pub map-still : {A : Type 0} (f : A → A) (xs : List A) → ((x : A) → List·Memᴰ x xs → f x ≡ x) → map f xs ≡ xs
-map-still f [] h = refl
-map-still f (x ∷ xs) h = (λ i. h x (List·Memᴰ·head refl) i ∷ map-still f xs (λ z m. h z (List·Memᴰ·tail m)) i)
-
 pub map-below : (f g : ℕ → ℕ) (n : ℕ) → ((k : ℕ) → k < n → f k ≡ g k) → map f (below n) ≡ map g (below n)
 map-below f g n h = map-same f g (below n) (λ k m. h k (below-at n m))
 
@@ -94,7 +82,7 @@ module _ (l : Call) (ok : refusal l ≡ 0) where
 
   pub takes-to : (m : Map) (n : ℕ) → n < size → getD (cellImages C m) n 0 ≡ cellAfter C (act m) n
   unfolding cellImages
-  takes-to m n h = getD-below (cellAfter C (act m)) size n h
+  takes-to m n h = getD-below (cellAfter C (act m)) 0 size n h
 
   -- ---- no two cells to one
   permutes-map : (odd : Bool) (m : Map) → Fine odd m → Permutes size (cellImages C m)

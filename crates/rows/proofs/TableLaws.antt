@@ -1,21 +1,22 @@
 -- Rows written one behind the other, the cells of a row as a mask, and the rows of a kind as the loops write them. Assumes nothing.
-use Prim.Native.Nat.{ℕ, zero, suc, _+_, _*_, _-_, _≤_, _<_}
+use Prim.Native.Nat.{ℕ, suc, _+_, _*_, _-_, _≤_, _<_}
 use mathlib.Core.Bool.{Bool, true, false, _&&_, _||_}
-use mathlib.Core.List.{List, [], _∷_, _++_, map, append-assoc, append-nil, List·Memᴰ, Memᴰ·map, Memᴰ·of-map, Memᴰ·cast}
+use mathlib.Core.List.{List, [], _∷_, _++_, map, append-assoc, append-nil, List·Memᴰ, Memᴰ·map, Memᴰ·of-map, Memᴰ·cast, map-append, map-map}
 use mathlib.Core.Path.{_≡_, refl, sym, ap, ap₂, _∙_, subst, fun-ext}
 use native.Mathlib.Numerals.{add-one}
 use native.Mathlib.Omega.{arith}
 use lib.Dec.{T, eqb, ltb, eqb→eq, ltb→lt, lt→ltb}
 use lib.ListN.{length, getD, take, drop, set, length-append, length-map, length-take, drop-of-length-le, List·getD-append, List·getD-map}
-use lib.Seq.{getD-append-add, getD-take, length-take-le, drop-drop, drop-cons, drop-set-lt, getD-set-other, sets-eq}
-use Rattle.definitions.specs.Lists.{consIf, keep, all, any, from, below, member, joined, numberedFrom}
+use lib.Seq.{getD-append-add, getD-take, length-take-le, drop-cons, drop-set-lt, sets-eq}
+use Rattle.lists.specs.Lists.{consIf, keep, all, any, from, below, member, joined, numberedFrom}
+use Rattle.lists.proofs.TestLaws.{or-no, or-assoc, and-left, and-right, and-both, is-false, tests-same}
+use Rattle.lists.proofs.ListLaws.{drop-later, all-at, all-of, any-at, keep-same, map-same}
+use Rattle.lists.proofs.RangeLaws.{below-at, length-below, member-at, member-of, from-append, getD-of}
 use Rattle.definitions.specs.Grid.{Sides, Cell, Grid, InBox, box, volume, placeOf, byteAt, sameCell, filledCells}
 use Rattle.definitions.specs.Maps.{mapOf, mapGrid}
 use Rattle.definitions.specs.Scan.{scan, scanNumber}
 use Rattle.definitions.specs.Placements.{Placement, origin, lies, reaches, fits, placementsAt}
-use Rattle.definitions.proofs.ListLaws.{and-left, and-right, and-both, is-false, all-at, all-of, any-at, keep-same, below-at, length-below, member-at, member-of}
-use Rattle.definitions.proofs.MapLaws.{filled-of, filled-at, map-map-of}
-use Rattle.definitions.proofs.GroupLaws.{map-same, from-append}
+use Rattle.definitions.proofs.MapLaws.{filled-of, filled-at}
 use Rattle.definitions.proofs.WellMadeLaws.{sameCell→eq, scan-ascending, number-below}
 use Rattle.masks.specs.Masks.{has, nothing, only, either}
 use Rattle.masks.specs.declared.Mask.{Mask}
@@ -27,7 +28,7 @@ use Rattle.shape.proofs.GridLaws.{box-places}
 use Rattle.shape.proofs.VariantLaws.{scan-has, scan-from}
 use Rattle.placements.specs.Fitting.{fitsGrid}
 use Rattle.placements.specs.Counting.{OnBoard}
-use Rattle.placements.proofs.FittingLaws.{both-ways, fitsBy}
+use Rattle.placements.proofs.FittingLaws.{fitsBy}
 use Rattle.placements.proofs.CountingLaws.{cells-many}
 use Rattle.rows.specs.Rows.{cellsOf, maskAt, rowAt, rowsIn, spread, Appended}
 use Rattle.rows.specs.Boards.{Numbered, lands}
@@ -48,10 +49,6 @@ module _ (old new : List ℕ) where
   pub rows-same : (n : ℕ) → ((i : ℕ) → i < 8 * n → getD new i 0 ≡ getD old i 0) → rowsIn new n ≡ rowsIn old n
   unfolding rowsIn
   rows-same n f = map-same (rowAt new) (rowAt old) (below n) (λ r m. let l = below-at n m in row-same r (λ i h. f i (omega arith)))
-
--- a word stored behind the rows
-pub rows-store : (work : List ℕ) (n i v : ℕ) → 8 * n ≤ i → rowsIn (set work i v) n ≡ rowsIn work n
-rows-store work n i v h = rows-same work (set work i v) n (λ k l. getD-set-other work i k v 0 (λ e. let d : k ≡ i = e in omega arith))
 
 pub rows-snoc : (work : List ℕ) (n : ℕ) → rowsIn work (n + 1) ≡ rowsIn work n ++ (rowAt work n ∷ [])
 unfolding rowsIn
@@ -116,11 +113,6 @@ module _ (old : List ℕ) (r low high kind p j : ℕ) (room : 8 * r + 8 ≤ leng
 pub append-none : (work : List ℕ) (n : ℕ) → Appended work n work n []
 append-none work n = record { count = omega arith; rows = sym (append-nil (rowsIn work n)); behind = refl }
 
-pub drop-later : (m n : ℕ) (a b : List ℕ) → m ≤ n → drop m a ≡ drop m b → drop n a ≡ drop n b
-drop-later m n a b h e =
-    let s : n ≡ m + (n - m) = omega arith in
-    ap (λ (k : ℕ). drop k a) s ∙ sym (drop-drop (n - m) m a) ∙ ap (drop (n - m)) e ∙ drop-drop (n - m) m b ∙ ap (λ (k : ℕ). drop k b) (sym s)
-
 pub append-then : {a b d : List ℕ} {n m k : ℕ} {qs rs : List Placement} → Appended a n b m qs → Appended b m d k rs → Appended a n d k (qs ++ rs)
 append-then {a} {b} {d} {n} {m} {k} {qs} {rs} x y =
     record {
@@ -139,10 +131,6 @@ pub record Reached (old : List ℕ) (n : ℕ) (new : List ℕ) (m : ℕ) (left a
   pub done : List Placement
   pub appended : Appended old n new m (map spread done)
   pub makes : done ++ left ≡ all
-
-map-append : {A B : Type 0} (f : A → B) (xs ys : List A) → map f (xs ++ ys) ≡ map f xs ++ map f ys
-map-append f [] ys = refl
-map-append f (x ∷ xs) ys = ap (λ (l : List _). f x ∷ l) (map-append f xs ys)
 
 pub reached-none : (work : List ℕ) (n : ℕ) (left all : List Placement) → left ≡ all → Reached work n work n left all
 reached-none work n left all e = record { done = []; appended = append-none work n; makes = e }
@@ -197,14 +185,6 @@ filledFrom h j n = keep (λ u. eqb (byteAt h u) 1) (map (cellAt (h .sides)) (fro
 abbrev pub numbersFrom : (Cell → ℕ) → Grid → ℕ → ℕ → ℕ → Bool
 numbersFrom f h j n k = member k (map f (filledFrom h j n))
 
-or-assoc : (a b d : Bool) → (a || b) || d ≡ a || (b || d)
-or-assoc true b d = refl
-or-assoc false b d = refl
-
-or-false : (a : Bool) → a || false ≡ a
-or-false true = refl
-or-false false = refl
-
 module _ (f : Cell → ℕ) (h : Grid) where
   pub mask-start : (m : ℕ → Bool) (n : ℕ) → m ≡ nothing → n ≡ volume (h .sides) → either m (numbersFrom f h 0 n) ≡ (λ k. member k (map f (filledCells h)))
   unfolding either nothing filledCells
@@ -234,7 +214,7 @@ module _ (f : Cell → ℕ) (h : Grid) where
 
     pub mask-end : v ≤ j → either m (numbersFrom f h j (v - j)) ≡ m
     unfolding either
-    mask-end l = let e : v - j ≡ 0 = omega arith in fun-ext λ k. rw e (or-false (m k))
+    mask-end l = let e : v - j ≡ 0 = omega arith in fun-ext λ k. rw e (or-no (m k))
 
 -- where a filled cell lies that lands
 module _ (s : Sides) (scans : List ℕ) (v o : Cell) where
@@ -263,11 +243,6 @@ module _ (s : Sides) (scans : List ℕ) (v o : Cell) where
       (subst (InBox s) (sym is) (r .0), subst (λ (x : Cell). getD scans (placeOf s x) 0 < 128) (sym is) (r .1), is)
 
 -- ---- the scan numbers of a board
-at-from : (f : ℕ → ℕ) (i n k : ℕ) → k < n → getD (map f (from i n)) k 0 ≡ f (i + k)
-at-from f i zero k h = absurd (omega arith)
-at-from f i (suc n) zero h = ap f (let e : i ≡ i + 0 = omega arith in e)
-at-from f i (suc n) (suc k) h = at-from f (suc i) n k (omega arith) ∙ ap f (let e : suc i + k ≡ i + suc k = omega arith in e)
-
 module _ (order : List ℕ) (g : Grid) (scans : List ℕ) (n : Numbered order g scans) where
   pub numbered-order : IsOrder order
   numbered-order = record { box = g .sides; isIts = n .isOrder }
@@ -289,8 +264,8 @@ module _ (order : List ℕ) (g : Grid) (scans : List ℕ) (n : Numbered order g 
       let z : 0 + i ≡ i = omega arith in
       let f : Cell → ℕ = scanNumber (scan order g) in
       sym (getD-take v scans i 0 (place-lt (g .sides) w b))
-      ∙ ap (λ (l : List ℕ). getD l i 0) (n .each ∙ ap (map f) (box-places (g .sides)) ∙ map-map-of f (cellAt (g .sides)) (below v))
-      ∙ at-from (λ k. f (cellAt (g .sides) k)) 0 v i (place-lt (g .sides) w b)
+      ∙ ap (λ (l : List ℕ). getD l i 0) (n .each ∙ ap (map f) (box-places (g .sides)) ∙ map-map f (cellAt (g .sides)) (below v))
+      ∙ getD-of (λ k. f (cellAt (g .sides) k)) 0 0 v i (place-lt (g .sides) w b)
       ∙ ap (λ (k : ℕ). f (cellAt (g .sides) k)) z ∙ ap f (cell-at-place (g .sides) w b)
 
   -- a grid that fits at v with its cell o there
@@ -345,7 +320,7 @@ module _ (order : List ℕ) (g : Grid) (scans : List ℕ) (n : Numbered order g 
         same : (k : ℕ) → has mask k ≡ member k (map to (scan order h))
         same k =
             ap (λ (f : ℕ → Bool). f k) d
-            ∙ both-ways (member k (map by (filledCells h))) (member k (map to (scan order h)))
+            ∙ tests-same (member k (map by (filledCells h))) (member k (map to (scan order h)))
             (λ t.
             let r = Memᴰ·of-map by (filledCells h) (member-at k (map by (filledCells h)) t) in
             member-of (map to (scan order h)) (Memᴰ·cast (sym (r .2) ∙ agree (r .0) (r .1)) (Memᴰ·map to (scan-has order numbered-order h (r .0) (r .1)))))
@@ -360,36 +335,32 @@ module _ (order : List ℕ) (g h : Grid) (kind p : ℕ) (v : Cell) where
   abbrev pub placed : ℕ → List Cell → Placement
   placed j us = record { kind = kind; p = p; j = j; cells = map (λ u. scanNumber (scan order g) (lies v (origin us) u)) us }
 
-  abbrev pub leftAt : List ℕ → ℕ → ℕ → ℕ → List Placement
-  leftAt numbers n j i = numberedFrom j (keep (fits (scan order g) v) (map (scan order) (turnedBy h (drop i (take n numbers))))) placed
+  abbrev pub leftAt : List ℕ → ℕ → ℕ → List Placement
+  leftAt numbers j i = numberedFrom j (keep (fits (scan order g) v) (map (scan order) (turnedBy h (drop i numbers)))) placed
 
-  pub left-start : (numbers : List ℕ) (n : ℕ) → leftAt numbers n 0 0 ≡ placementsAt (scan order g) kind (map (scan order) (turnedBy h (take n numbers))) p v
+  pub left-start : (numbers : List ℕ) → leftAt numbers 0 0 ≡ placementsAt (scan order g) kind (map (scan order) (turnedBy h numbers)) p v
   unfolding placementsAt
-  left-start numbers n = refl
+  left-start numbers = refl
 
-  module _ (numbers : List ℕ) (n j i : ℕ) (within : n ≤ length numbers) where
+  module _ (numbers : List ℕ) (j i : ℕ) where
     abbrev grid : Grid
     grid = mapGrid (mapOf (getD numbers i 0)) h
 
-    left-more : i < n → (b : Bool) → fitsBy order g v h (getD numbers i 0) ≡ b
-        → leftAt numbers n j i ≡ numberedFrom j (consIf b (scan order grid) (keep (fits (scan order g) v) (map (scan order) (turnedBy h (drop (i + 1) (take n numbers)))))) placed
+    left-more : i < length numbers → (b : Bool) → fitsBy order g v h (getD numbers i 0) ≡ b
+        → leftAt numbers j i ≡ numberedFrom j (consIf b (scan order grid) (keep (fits (scan order g) v) (map (scan order) (turnedBy h (drop (i + 1) numbers))))) placed
     unfolding turnedBy
-    left-more l b e =
-        let a = length-take-le n numbers within in
-        rw (add-one i, drop-cons (take n numbers) i 0 (omega arith), getD-take n numbers i 0 l, e)
+    left-more l b e = rw (add-one i, drop-cons numbers i 0 l, e)
 
-    pub left-hit : i < n → fitsBy order g v h (getD numbers i 0) ≡ true
-        → leftAt numbers n j i ≡ (placed j (scan order (mapGrid (mapOf (getD numbers i 0)) h)) ∷ []) ++ leftAt numbers n (j + 1) (i + 1)
+    pub left-hit : i < length numbers → fitsBy order g v h (getD numbers i 0) ≡ true
+        → leftAt numbers j i ≡ (placed j (scan order (mapGrid (mapOf (getD numbers i 0)) h)) ∷ []) ++ leftAt numbers (j + 1) (i + 1)
     left-hit l e = left-more l true e ∙ rw (add-one j)
 
-    pub left-miss : i < n → fitsBy order g v h (getD numbers i 0) ≡ false → leftAt numbers n j i ≡ leftAt numbers n j (i + 1)
+    pub left-miss : i < length numbers → fitsBy order g v h (getD numbers i 0) ≡ false → leftAt numbers j i ≡ leftAt numbers j (i + 1)
     left-miss l e = left-more l false e
 
-    pub left-end : n ≤ i → leftAt numbers n j i ≡ []
+    pub left-end : length numbers ≤ i → leftAt numbers j i ≡ []
     unfolding turnedBy
-    left-end l =
-        let a : length (take n numbers) ≤ i = let b = length-take-le n numbers within in omega arith in
-        rw (drop-of-length-le (take n numbers) a)
+    left-end l = rw (drop-of-length-le numbers l)
 
 -- ---- the rows of a kind
 module _ (order : List ℕ) (g : Grid) (places : List ℕ) (n : ℕ) (on : OnBoard order g places n) where

@@ -5,12 +5,13 @@ use mathlib.Core.List.{List, [], _∷_, map}
 use mathlib.Core.Path.{_≡_}
 use lib.Dec.{T, eqb, ltb}
 use lib.ListN.{length, getD, take}
-use Rattle.definitions.specs.Lists.{all, keep, each, below, numbered, joined, ascending}
+use Rattle.lists.specs.Lists.{all, keep, each, below, numbered, joined, ascending}
 use Rattle.definitions.specs.Kinds.{Copy}
 use Rattle.definitions.specs.Placements.{Placement}
 use Rattle.definitions.specs.Packing.{ahead, used}
 use Rattle.definitions.specs.Answers.{Taken, takes, copyOn}
 use Rattle.rows.specs.Systems.{System, Owned, ownedIn}
+use Rattle.rows.specs.Charts.{Charted, piecesPart}
 use Rattle.rows.specs.Rows.{rowAt}
 use Rattle.rows.specs.declared.Dims.{Dims}
 use Rattle.rows.specs.declared.answers.Copied.{Copied}
@@ -37,6 +38,10 @@ pathIn work path n = map (rowAt work) (take n path)
 unfoldable pub takenBy : List Owned → ℕ → List Placement → List Taken
 takenBy pieces kinds P = joined (map (λ k. takes (copiesBy pieces k) (keep (λ q. eqb (q .kind) k) P)) (below kinds))
 
+-- what the rows of a path take, of the pieces of a chart
+abbrev pub takenIn : Dims → List ℕ → List ℕ → List ℕ → ℕ → List Taken
+takenIn d work chart path n = takenBy (ownedIn (piecesPart chart) (d .pieces)) (d .kinds) (pathIn work path n)
+
 -- two bytes for each of a list of scan numbers
 unfoldable pub answersOver : List Taken → List ℕ → List ℕ
 answersOver ts scans = each scans (λ n. let d = copyOn ts n in d .piece ∷ d .copy ∷ [])
@@ -46,12 +51,13 @@ answerBy s P = answersOver (takenBy (s .pieces) (length (s .copies)) P) (s .scan
 
 -- what an answer asks of a path: its rows stand in the work slice, ascend by kind, are of kinds below a number, cover cells below another, and of each
 -- kind there are enough copies
-pub record Held (d : Dims) (work pieces path : List ℕ) (n : ℕ) : Type 0 where
+pub record Held (d : Dims) (work chart path : List ℕ) (n : ℕ) : Type 0 where
   pub within : n ≤ length path
   pub areRows : T (all (λ r. ltb (8 * r + 7) (length work)) (take n path))
   pub fewCells : d .cells ≤ 128
-  pub fewPieces : (d .pieces ≤ 16) × (2 * d .pieces ≤ length pieces)
+  pub fewPieces : d .pieces ≤ 16
+  pub charted : Charted chart
   pub ascend : T (ascending ahead (pathIn work path n))
   pub ofKinds : T (all (λ q. ltb (q .kind) (d .kinds)) (pathIn work path n))
   pub onBoard : T (all (λ q. all (λ m. ltb m (d .cells)) (q .cells)) (pathIn work path n))
-  pub enough : (k : ℕ) → k < d .kinds → used (pathIn work path n) k ≤ length (copiesBy (ownedIn pieces (d .pieces)) k)
+  pub enough : (k : ℕ) → k < d .kinds → used (pathIn work path n) k ≤ length (copiesBy (ownedIn (piecesPart chart) (d .pieces)) k)

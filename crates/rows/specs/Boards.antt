@@ -5,8 +5,8 @@ use mathlib.Core.List.{List, _++_, map}
 use mathlib.Core.Path.{_≡_}
 use lib.Dec.{T, ltb}
 use lib.ListN.{length, getD, take, drop}
-use Rattle.definitions.specs.Lists.{all, below}
-use Rattle.definitions.specs.Maps.{Map, mapSides, mapCell}
+use Rattle.lists.specs.Lists.{all, below}
+use Rattle.definitions.specs.Maps.{Map, mapCell}
 use Rattle.shape.specs.Coords.{Fit}
 use Rattle.shape.specs.Places.{imagePlace}
 use Rattle.rows.specs.Systems.{imagesIn}

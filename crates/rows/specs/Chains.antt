@@ -4,7 +4,7 @@ use mathlib.Core.List.{List, List·Memᴰ}
 use mathlib.Core.Path.{_≡_}
 use lib.Dec.{eqb}
 use lib.ListN.{getD, drop}
-use Rattle.definitions.specs.Lists.{before}
+use Rattle.lists.specs.Lists.{before}
 use Rattle.definitions.specs.Placements.{Placement}
 use Rattle.rows.specs.Rows.{rowAt, rowsIn}
 

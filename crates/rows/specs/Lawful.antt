@@ -5,7 +5,7 @@ use mathlib.Core.List.{List, [], _∷_, map, List·Memᴰ}
 use mathlib.Core.Path.{_≡_}
 use lib.Dec.{T, ltb}
 use lib.ListN.{length, getD}
-use Rattle.definitions.specs.Lists.{ascending, below, sum}
+use Rattle.lists.specs.Lists.{ascending, below, sum}
 use Rattle.definitions.specs.Placements.{Placement}
 use Rattle.definitions.specs.Packing.{ahead}
 use Rattle.rows.specs.Systems.{System, kindBy, cellsBy}

@@ -1,3 +1,5 @@
+pub mod Charts
+pub mod Built
 pub mod Rows
 pub mod Systems
 pub mod Boards

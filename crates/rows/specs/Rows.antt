@@ -5,7 +5,7 @@ use mathlib.Core.List.{List, _++_, map}
 use mathlib.Core.Path.{_≡_}
 use lib.Dec.{T, ltb}
 use lib.ListN.{length, getD, drop}
-use Rattle.definitions.specs.Lists.{all, keep, below, member}
+use Rattle.lists.specs.Lists.{all, keep, below, member}
 use Rattle.definitions.specs.Placements.{Placement, Compiled}
 use Rattle.masks.specs.Masks.{has}
 use Rattle.masks.specs.declared.Mask.{Mask}

@@ -5,7 +5,7 @@ use mathlib.Core.List.{List}
 use mathlib.Core.Path.{_≡_}
 use lib.Dec.{eqb, ltb}
 use lib.ListN.{length, getD}
-use Rattle.definitions.specs.Lists.{all, before}
+use Rattle.lists.specs.Lists.{all, before}
 use Rattle.definitions.specs.Placements.{Placement}
 use Rattle.rows.specs.Systems.{Owned}
 

@@ -5,7 +5,7 @@ use mathlib.Core.List.{List, _∷_, map}
 use mathlib.Core.Path.{_≡_}
 use lib.Dec.{ltb}
 use lib.ListN.{length, getD, take, drop}
-use Rattle.definitions.specs.Lists.{below, from, before, sort, same}
+use Rattle.lists.specs.Lists.{below, from, before, sort, same}
 use Rattle.definitions.specs.Grid.{box}
 use Rattle.definitions.specs.Maps.{Map, mapCell, turns, mirrorings}
 use Rattle.definitions.specs.Scan.{scanNumber}
@@ -14,7 +14,9 @@ use Rattle.definitions.specs.Kinds.{Tray, pieceForm, sameForm, sorted, forms}
 use Rattle.definitions.specs.Placements.{Placement, Compiled, compile}
 use Rattle.definitions.specs.Packing.{limits}
 use Rattle.definitions.specs.Kept.{cellAfter, symmetries}
+use Rattle.definitions.specs.Orders.{sizes}
 use Rattle.rows.specs.Rows.{rowsIn}
+use Rattle.rows.specs.Charts.{imagesPart, scansPart, kindsPart, piecesPart}
 use Rattle.rows.specs.declared.Dims.{Dims}
 
 -- a piece of the box: the number of its kind, and how many copies of it there are
@@ -29,6 +31,8 @@ pub record System : Type 0 where
   -- for each kind how many copies it has, and its mirror partner (the number of kinds where it has none)
   pub copies : List ℕ
   pub partners : List ℕ
+  -- and of how many cells it is
+  pub sizes : List ℕ
   -- for each allowed turn, and each allowed mirroring, where it takes each cell, by scan numbers
   pub turned : List (List ℕ)
   pub mirrored : List (List ℕ)
@@ -52,13 +56,14 @@ systemOf t =
       rows = c .placements;
       copies = limits c;
       partners = map (λ d. d .partner) (c .kinds);
+      sizes = sizes c;
       turned = map (cellImages c) (symmetries (c .board) turns);
       mirrored = map (cellImages c) (symmetries (c .board) mirrorings);
       scans = map (scanNumber (lentCells c)) (box (c .frame .lent));
       pieces = owned t;
     }
 
--- The system that stands in slices. A map takes 128 numbers of its slice, a kind two (copies, partner), a piece two (kind, count).
+-- The system that stands in slices. A map takes 128 numbers of its slice, a kind three (copies, partner, cells), a piece two (kind, count).
 unfoldable pub imagesIn : List ℕ → ℕ → ℕ → ℕ → List (List ℕ)
 imagesIn images size i n = map (λ m. take size (drop (128 * m) images)) (from i n)
 
@@ -68,21 +73,27 @@ ownedIn pieces n = map (λ i. record { kind = getD pieces (2 * i) 0; count = get
 -- the copies and the partners of a tray's kinds stand in a slice
 pub record KindsIn (kinds : List ℕ) (n : ℕ) (c : Compiled) : Type 0 where
   pub count : n ≡ length (c .kinds)
-  pub copies : map (λ k. getD kinds (2 * k) 0) (below n) ≡ limits c
-  pub partners : map (λ k. getD kinds (2 * k + 1) 0) (below n) ≡ map (λ d. d .partner) (c .kinds)
+  pub copies : map (λ k. getD kinds (3 * k) 0) (below n) ≡ limits c
+  pub partners : map (λ k. getD kinds (3 * k + 1) 0) (below n) ≡ map (λ d. d .partner) (c .kinds)
+  pub cells : map (λ k. getD kinds (3 * k + 2) 0) (below n) ≡ sizes c
 
-unfoldable pub systemIn : Dims → List ℕ → List ℕ → List ℕ → List ℕ → List ℕ → System
-systemIn d work images scans kinds pieces =
+unfoldable pub systemOver : Dims → List ℕ → List ℕ → List ℕ → List ℕ → List ℕ → System
+systemOver d work images scans kinds pieces =
     record {
       size = d .cells;
       rows = rowsIn work (d .rows);
-      copies = map (λ k. getD kinds (2 * k) 0) (below (d .kinds));
-      partners = map (λ k. getD kinds (2 * k + 1) 0) (below (d .kinds));
+      copies = map (λ k. getD kinds (3 * k) 0) (below (d .kinds));
+      partners = map (λ k. getD kinds (3 * k + 1) 0) (below (d .kinds));
+      sizes = map (λ k. getD kinds (3 * k + 2) 0) (below (d .kinds));
       turned = imagesIn images (d .cells) 0 (d .turns);
       mirrored = imagesIn images (d .cells) (d .turns) (d .mirrorings);
       scans = take (d .places) scans;
       pieces = ownedIn pieces (d .pieces);
     }
+
+-- the system whose rows stand in the work slice, and all else in a chart
+unfoldable pub systemIn : Dims → List ℕ → List ℕ → System
+systemIn d work chart = systemOver d work (imagesPart chart) (scansPart chart) (kindsPart chart) (piecesPart chart)
 
 -- ---- what a map makes of a row
 -- the kind after a map, by the partners; the cells of a placement after a map, by where it takes each cell; both, as the image has them

@@ -4,11 +4,13 @@ ghost use Prim.Native.Nat.{_+_, _*_, _≤_, _<_};
 ghost use lib.Dec.{T, eqb, ltb};
 ghost use lib.ListN.{getD, length, take};
 ghost use lib.Seq.{paste};
-ghost use Rattle.definitions.specs.Lists.{all, each, howMany, same};
+ghost use Rattle.lists.specs.Lists.{all, howMany, same};
 ghost use Rattle.definitions.specs.Answers.{copyOn};
+ghost use Rattle.rows.specs.Charts.{Charted, piecesPart, scansPart};
 ghost use Rattle.rows.specs.Systems.{ownedIn};
-ghost use Rattle.rows.specs.Answering.{Held, answersOver, asCopy, copiesBy, noCopy, pathIn, takenBy};
+ghost use Rattle.rows.specs.Answering.{Held, answersOver, asCopy, copiesBy, noCopy, pathIn, takenIn};
 use super::Dims;
+use super::chart;
 use super::table;
 
 // A copy of a piece: the piece's number as lent, and the copy's.
@@ -18,15 +20,15 @@ pub struct Copied {
 }
 
 // Copy i of a kind, through its pieces in lent order; 255, 255 where it has no such copy.
-fn copy_of(pieces: &[u8], n: usize, kind: usize, i: usize) -> Copied
-    requires { ⌜ (n ≤ 16) × (2 * n ≤ length (now pieces)) ⌝ }
-    ensures { λ r. ⌜ asCopy r ≡ getD (copiesBy (ownedIn (now (pieces .entry)) n) kind) i noCopy ⌝ }
+fn copy_of(chart: &[u16], n: usize, kind: usize, i: usize) -> Copied
+    requires { ⌜ (n ≤ 16) × Charted (now chart) ⌝ }
+    ensures { λ r. ⌜ asCopy r ≡ getD (copiesBy (ownedIn (piecesPart (now (chart .entry))) n) kind) i noCopy ⌝ }
 {
     let mut left = i;
     let mut p = 0;
     while p < n {
-        if pieces[2 * p] as usize == kind {
-            let count = pieces[2 * p + 1] as usize;
+        if chart::kind_of(chart, p) == kind {
+            let count = chart::count_of(chart, p);
             if left < count {
                 return Copied {
                     piece: p as u8,
@@ -60,16 +62,16 @@ pub fn used_before(work: &[u64], path: &[u16], n: usize, kind: usize) -> usize
 }
 
 // The copy on a cell: that of the row that covers it; 255, 255 where none does.
-fn copy_on(d: Dims, work: &[u64], pieces: &[u8], path: &[u16], n: usize, cell: usize) -> Copied
-    requires { ⌜ Held d (now work) (now pieces) (now path) n × (cell < 128) ⌝ }
-    ensures { λ r. ⌜ asCopy r ≡ copyOn (takenBy (ownedIn (now (pieces .entry)) (d .pieces)) (d .kinds) (pathIn (now (work .entry)) (now (path .entry)) n)) cell ⌝ }
+fn copy_on(d: Dims, work: &[u64], chart: &[u16], path: &[u16], n: usize, cell: usize) -> Copied
+    requires { ⌜ Held d (now work) (now chart) (now path) n × (cell < 128) ⌝ }
+    ensures { λ r. ⌜ asCopy r ≡ copyOn (takenIn d (now (work .entry)) (now (chart .entry)) (now (path .entry)) n) cell ⌝ }
 {
     let mut i = 0;
     while i < n {
         let r = path[i] as usize;
         if table::mask_at(work, r).has_cell(cell) {
             let kind = table::kind_at(work, r);
-            return copy_of(pieces, d.pieces, kind, used_before(work, path, i, kind));
+            return copy_of(chart, d.pieces, kind, used_before(work, path, i, kind));
         }
         i += 1;
     }
@@ -80,21 +82,15 @@ fn copy_on(d: Dims, work: &[u64], pieces: &[u8], path: &[u16], n: usize, cell: u
 }
 
 // The copy at a place of the board's box.
-fn copy_at(
-    d: Dims,
-    work: &[u64],
-    scans: &[u8],
-    pieces: &[u8],
-    path: &[u16],
-    n: usize,
-    place: usize,
-) -> Copied
-    requires { ⌜ Held d (now work) (now pieces) (now path) n × (place < length (now scans)) ⌝ }
-    ensures { λ r. ⌜ asCopy r ≡ copyOn (takenBy (ownedIn (now (pieces .entry)) (d .pieces)) (d .kinds) (pathIn (now (work .entry)) (now (path .entry)) n)) (getD (now (scans .entry)) place 0) ⌝ }
+fn copy_at(d: Dims, work: &[u64], chart: &[u16], path: &[u16], n: usize, place: usize) -> Copied
+    requires { ⌜ Held d (now work) (now chart) (now path) n × (place < 512) ⌝ }
+    ensures { λ r. do
+      let cell = getD (scansPart (now (chart .entry))) place 0
+      ⌜ asCopy r ≡ copyOn (takenIn d (now (work .entry)) (now (chart .entry)) (now (path .entry)) n) cell ⌝ }
 {
-    let cell = scans[place] as usize;
+    let cell = chart::scan_at(chart, place);
     if cell < d.cells {
-        copy_on(d, work, pieces, path, n, cell)
+        copy_on(d, work, chart, path, n, cell)
     } else {
         Copied {
             piece: 255,
@@ -107,20 +103,22 @@ fn copy_at(
 pub fn reconstruct_answer(
     d: Dims,
     work: &[u64],
-    scans: &[u8],
-    pieces: &[u8],
+    chart: &[u16],
     path: &[u16],
     n: usize,
     answers: &mut [u8],
     at: usize,
 )
-    requires { ⌜ Held d (now work) (now pieces) (now path) n × (d .places ≤ length (now scans)) × (at + 2 * d .places ≤ length (now answers)) ⌝ }
-    ensures { λ _. ⌜ now (answers .exit) ≡ paste (now (answers .entry)) at (answersOver (takenBy (ownedIn (now (pieces .entry)) (d .pieces)) (d .kinds) (pathIn (now (work .entry)) (now (path .entry)) n)) (take (d .places) (now (scans .entry)))) (2 * d .places) ⌝ }
+    requires { ⌜ Held d (now work) (now chart) (now path) n × (d .places ≤ 512) × (at + 2 * d .places ≤ length (now answers)) ⌝ }
+    ensures { λ _. do
+      let taken = takenIn d (now (work .entry)) (now (chart .entry)) (now (path .entry)) n
+      let told = answersOver taken (take (d .places) (scansPart (now (chart .entry))))
+      ⌜ now (answers .exit) ≡ paste (now (answers .entry)) at told (2 * d .places) ⌝ }
 {
     let v = d.places;
     let mut i = 0;
     while i < v {
-        let c = copy_at(d, work, scans, pieces, path, n, i);
+        let c = copy_at(d, work, chart, path, n, i);
         answers[at + 2 * i] = c.piece;
         answers[at + 2 * i + 1] = c.copy;
         i += 1;
@@ -128,17 +126,12 @@ pub fn reconstruct_answer(
 }
 
 // Whether a slice is the answer of a packing whose rows are the first n of an ascending path.
-pub fn is_answer(
-    d: Dims,
-    work: &[u64],
-    scans: &[u8],
-    pieces: &[u8],
-    path: &[u16],
-    n: usize,
-    last: &[u8],
-) -> bool
-    requires { ⌜ Held d (now work) (now pieces) (now path) n × (d .places ≤ length (now scans)) × (d .places ≤ 512) ⌝ }
-    ensures { λ b. ⌜ b ≡ same (answersOver (takenBy (ownedIn (now (pieces .entry)) (d .pieces)) (d .kinds) (pathIn (now (work .entry)) (now (path .entry)) n)) (take (d .places) (now (scans .entry)))) (now (last .entry)) ⌝ }
+pub fn is_answer(d: Dims, work: &[u64], chart: &[u16], path: &[u16], n: usize, last: &[u8]) -> bool
+    requires { ⌜ Held d (now work) (now chart) (now path) n × (d .places ≤ 512) ⌝ }
+    ensures { λ b. do
+      let taken = takenIn d (now (work .entry)) (now (chart .entry)) (now (path .entry)) n
+      let told = answersOver taken (take (d .places) (scansPart (now (chart .entry))))
+      ⌜ b ≡ same told (now (last .entry)) ⌝ }
 {
     let v = d.places;
     if last.len() != 2 * v {
@@ -146,7 +139,7 @@ pub fn is_answer(
     }
     let mut i = 0;
     while i < v {
-        let c = copy_at(d, work, scans, pieces, path, n, i);
+        let c = copy_at(d, work, chart, path, n, i);
         if last[2 * i] != c.piece {
             return false;
         }

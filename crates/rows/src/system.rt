@@ -1,40 +1,50 @@
 // A tray's row system, whole.
 ghost use mathlib.Core.Path.{_≡_};
-ghost use Prim.Native.Nat.{_*_, _≤_};
-ghost use lib.ListN.{drop, length};
+ghost use mathlib.Core.List.{_++_, map};
+ghost use Prim.Native.Nat.{_+_, _*_, _≤_};
+ghost use lib.ListN.{drop, length, take};
 ghost use Rattle.definitions.specs.Placements.{compile};
-ghost use Rattle.definitions.specs.Grid.{volume};
-ghost use Rattle.definitions.specs.Refusals.{gridOf, placementCount, sidesOf};
-ghost use Rattle.definitions.specs.Scan.{axes};
-ghost use Rattle.placements.specs.Counting.{Accepted9, OnBoard};
+ghost use Rattle.definitions.specs.Refusals.{sidesOf};
+ghost use Rattle.definitions.specs.Stripping.{FitsIn};
+ghost use Rattle.shape.specs.Coords.{Fit, asSides};
+ghost use Rattle.placements.specs.Counting.{Accepted9, Counted};
 ghost use Rattle.placements.specs.Merging.{AreKinds};
-ghost use Rattle.placements.specs.Tables.{recordsOf, lentIn, trayIn};
+ghost use Rattle.placements.specs.Stripping.{lentPlace};
+ghost use Rattle.placements.specs.Tables.{framedIn, lentIn, recordsOf};
+ghost use Rattle.rows.specs.Built.{AreBytes, BuiltLent, BuiltSystem, KindsSmall, Laid, LaidAt, frameAt};
+ghost use Rattle.rows.specs.Charts.{chartLength};
 ghost use Rattle.rows.specs.Rows.{RowsFit};
-ghost use Rattle.rows.specs.Chains.{Chained};
-ghost use Rattle.rows.specs.Systems.{KindsIn, owned, ownedIn, systemIn, systemOf};
+ghost use Rattle.rows.specs.Systems.{KindsIn, owned, ownedIn};
 use super::Dims;
+use super::chart;
 use super::images;
 use super::table;
 use definitions::Record;
 use placements::Table;
 use placements::board;
+use placements::counting::Counts;
 use placements::merging;
 use placements::records;
-use placements::stripping;
+use shape::Coord;
 use shape::cells;
+use shape::grids;
 use shape::maps::Map;
 use shape::scan;
 
-// For each kind its copies and its mirror partner.
-fn list_kinds(t: Table, board: Record, bytes: &[u8], first: &[u8], n: usize, kinds: &mut [u8])
-    requires { ⌜ Accepted9 t board (now bytes) × AreKinds t (now bytes) (now first) n × (n ≤ length (now first)) × (2 * n ≤ length (now kinds)) ⌝ }
-    ensures { λ _. ⌜ KindsIn (now (kinds .exit)) n (compile (lentIn (recordsOf t) board (now (bytes .entry)))) ⌝ }
+// For each kind its copies, its mirror partner and how many cells it has.
+fn list_kinds(t: Table, board: Record, bytes: &[u8], first: &[u8], n: usize, kinds: &mut [u16])
+    requires { ⌜ Accepted9 t board (now bytes) × AreKinds t (now bytes) (now first) n × (n ≤ length (now first))
+        × (3 * n ≤ length (now kinds)) × KindsSmall (now kinds) ⌝ }
+    ensures { λ _. ⌜ KindsIn (now (kinds .exit)) n (compile (lentIn (recordsOf t) board (now (bytes .entry)))) × KindsSmall (now (kinds .exit)) ⌝ }
 {
     let mut k = 0;
+    // the numbers of the kinds before k stand there
     while k < n {
         let i = first[k] as usize;
-        kinds[2 * k] = merging::copies_of(t, bytes, i) as u8;
-        kinds[2 * k + 1] = merging::kind_of(t, bytes, i, Map(merging::MIRROR), first, n) as u8;
+        let p = t.rows[i];
+        kinds[3 * k] = merging::copies_of(t, bytes, i) as u16;
+        kinds[3 * k + 1] = merging::kind_of(t, bytes, i, Map(merging::MIRROR), first, n) as u16;
+        kinds[3 * k + 2] = grids::count_filled(records::cells_of(bytes, p)) as u16;
         k += 1;
     }
 }
@@ -46,6 +56,7 @@ fn list_pieces(t: Table, board: Record, bytes: &[u8], first: &[u8], n: usize, pi
 {
     let m = t.n;
     let mut i = 0;
+    // the kinds and the counts of the pieces before i stand there
     while i < m {
         let p = t.rows[i];
         pieces[2 * i] = merging::kind_of(t, bytes, i, Map(0), first, n) as u8;
@@ -54,103 +65,168 @@ fn list_pieces(t: Table, board: Record, bytes: &[u8], first: &[u8], n: usize, pi
     }
 }
 
-// The row system of grids as they are lent, into slices; and how large it is. The places of the board's filled cells are left in `places`.
+// The first n bytes of a slice into another from a place on.
+fn lay_bytes(numbers: &[u8], n: usize, out: &mut [u16], at: usize)
+    requires { ⌜ (n ≤ length (now numbers)) × (at + n ≤ length (now out)) ⌝ }
+    ensures { λ _. ⌜ LaidAt at n (now (numbers .entry)) (now (out .entry)) (now (out .exit)) ⌝ }
+{
+    let mut i = 0;
+    // the numbers before i stand there
+    while i < n {
+        out[at + i] = numbers[i] as u16;
+        i += 1;
+    }
+}
+
+// The same of numbers of 16 bits.
+fn lay_numbers(numbers: &[u16], n: usize, out: &mut [u16], at: usize)
+    requires { ⌜ (n ≤ length (now numbers)) × (at + n ≤ length (now out)) ⌝ }
+    ensures { λ _. ⌜ LaidAt at n (now (numbers .entry)) (now (out .entry)) (now (out .exit)) ⌝ }
+{
+    let mut i = 0;
+    // the numbers before i stand there
+    while i < n {
+        out[at + i] = numbers[i];
+        i += 1;
+    }
+}
+
+// The parts of a chart into it; of the images those of as many maps as there are.
+fn lay_chart(
+    d: Dims,
+    heads: &[u16],
+    images: &[u8],
+    scans: &[u8],
+    kinds: &[u16],
+    pieces: &[u8],
+    chart: &mut [u16],
+)
+    requires { ⌜ (length (now heads) ≡ 128) × (length (now images) ≡ 6144) × (length (now scans) ≡ 512) × (length (now kinds) ≡ 48)
+        × (length (now pieces) ≡ 32) × (length (now chart) ≡ chartLength) × (d .turns + d .mirrorings ≤ 48) ⌝ }
+    ensures { λ _. ⌜ Laid d (now (heads .entry)) (now (images .entry)) (now (scans .entry)) (now (kinds .entry)) (now (pieces .entry)) (now (chart .exit))
+        × AreBytes (now (pieces .entry)) ⌝ }
+{
+    lay_numbers(heads, 128, chart, 0);
+    lay_bytes(images, 128 * (d.turns + d.mirrorings), chart, chart::IMAGES);
+    lay_bytes(scans, 512, chart, chart::SCANS);
+    lay_numbers(kinds, 48, chart, chart::KINDS);
+    lay_bytes(pieces, 32, chart, chart::PIECES);
+}
+
+// How many rows, allowed turns and allowed mirrorings there are.
+struct Placed {
+    rows: usize,
+    turns: usize,
+    mirrorings: usize,
+}
+
+// The rows of a tray, the first row at each cell, and the images of its board's cells, by what was counted of it.
 fn build_lent(
     t: Table,
     board: Record,
     bytes: &[u8],
-    places: &mut [u16],
+    counts: Counts,
+    places: &[u16],
+    first: &[u8],
+    numbers: &[u8],
     work: &mut [u64],
     heads: &mut [u16],
     images: &mut [u8],
-    scans: &mut [u8],
-    kinds: &mut [u8],
-    pieces: &mut [u8],
-) -> Dims
-    requires { ⌜ Accepted9 t board (now bytes) × RowsFit (compile (lentIn (recordsOf t) board (now bytes))) × (placementCount (compile (lentIn (recordsOf t) board (now bytes))) ≤ 1024) × (8192 ≤ length (now work)) ⌝ }
-    requires { ⌜ (length (now heads) ≡ 128) × (length (now images) ≡ 6144) × (length (now scans) ≡ 512) × (length (now kinds) ≡ 32) × (length (now pieces) ≡ 32) × (length (now places) ≡ 512) ⌝ }
-    ensures { λ d. ⌜ (systemIn d (now (work .exit)) (now (images .exit)) (now (scans .exit)) (now (kinds .exit)) (now (pieces .exit)) ≡ systemOf (lentIn (recordsOf t) board (now (bytes .entry)))) × Chained (now (work .exit)) (now (heads .exit)) (d .rows) × (drop 8192 (now (work .exit)) ≡ drop 8192 (now (work .entry))) × OnBoard (axes (sidesOf board)) (gridOf (now (bytes .entry)) board) (now (places .exit)) (d .cells) ⌝ }
+) -> Placed
+    requires { ⌜ Accepted9 t board (now bytes) × Counted t board (now bytes) (now places) (now first) (now numbers) counts
+        × (counts .placements ≤ 1024) × RowsFit (compile (lentIn (recordsOf t) board (now bytes))) ⌝ }
+    requires { ⌜ (length (now first) ≡ 16) × (length (now numbers) ≡ 400) × (8192 ≤ length (now work)) × (length (now heads) ≡ 128)
+        × (length (now images) ≡ 6144) ⌝ }
+    ensures { λ r. do
+      let c = compile (lentIn (recordsOf t) board (now (bytes .entry)))
+      ⌜ BuiltLent c (counts .cells) r (now (work .entry)) (now (work .exit)) (now (heads .exit)) (now (images .exit)) ⌝ }
 {
     let b = records::sides_of(board);
     let grid = records::cells_of(bytes, board);
     let order = scan::plan_axis_order(b);
-    let cells = scan::plan_coords(grid, b, order, places);
-    board::number_places(places, cells, scans);
-    let mut first = [0u8; 16];
-    let n = merging::merge(t, bytes, &mut first);
-    list_kinds(t, board, bytes, &first, n, kinds);
-    list_pieces(t, board, bytes, &first, n, pieces);
-    let turns = images::board_images(grid, b, order, places, scans, cells, 0, 24, images, 0);
-    let maps = images::board_images(grid, b, order, places, scans, cells, 24, 48, images, turns);
+    let size = counts.cells;
+    let mut scans = [0u8; 512];
+    board::number_places(places, size, &mut scans);
+    let turns = images::board_images(grid, b, order, places, &scans, size, 0, 24, images, 0);
+    let maps = images::board_images(grid, b, order, places, &scans, size, 24, 48, images, turns);
     let rows = table::build_rows(
         t,
-        bytes,
         board,
-        &first,
-        n,
+        bytes,
+        counts,
         places,
-        scans,
-        cells,
+        first,
+        numbers,
+        &scans,
         order,
         work,
     );
     table::chain_rows(work, rows, heads);
-    Dims {
-        cells,
+    Placed {
         rows,
-        kinds: n,
         turns,
         mirrorings: maps - turns,
-        places: cells::volume_of(b),
-        pieces: t.n,
     }
 }
 
-// The row system of a tray that is not refused, into slices; and how large it is. It is built of the stripped grids; then the scan numbers of the lent box, in
-// which answers are written, are put in.
+// The row system of a tray whose grids are stripped and that is not refused, by what was counted of it, into slices; and how large it is. Its board lies in
+// the lent box with its corner at a cell. The places of the board's filled cells become those of the lent box, in which answers are written.
 pub fn build_system(
     t: Table,
     board: Record,
     bytes: &[u8],
+    counts: Counts,
+    places: &mut [u16],
+    first: &[u8],
+    numbers: &[u8],
+    lent: Coord,
+    at: Coord,
     work: &mut [u64],
-    heads: &mut [u16],
-    images: &mut [u8],
-    scans: &mut [u8],
-    kinds: &mut [u8],
-    pieces: &mut [u8],
+    chart: &mut [u16],
 ) -> Dims
-    requires { ⌜ Accepted9 t board (now bytes) × (placementCount (compile (trayIn (recordsOf t) board (now bytes))) ≤ 1024) × (8192 ≤ length (now work)) ⌝ }
-    requires { ⌜ (length (now heads) ≡ 128) × (length (now images) ≡ 6144) × (length (now scans) ≡ 512) × (length (now kinds) ≡ 32) × (length (now pieces) ≡ 32) ⌝ }
-    ensures { λ d. ⌜ (systemIn d (now (work .exit)) (now (images .exit)) (now (scans .exit)) (now (kinds .exit)) (now (pieces .exit)) ≡ systemOf (trayIn (recordsOf t) board (now (bytes .entry)))) × Chained (now (work .exit)) (now (heads .exit)) (d .rows) × (drop 8192 (now (work .exit)) ≡ drop 8192 (now (work .entry))) × (d .places ≡ volume (sidesOf board)) ⌝ }
+    requires { ⌜ Accepted9 t board (now bytes) × Counted t board (now bytes) (now places) (now first) (now numbers) counts
+        × (counts .placements ≤ 1024) × RowsFit (compile (lentIn (recordsOf t) board (now bytes))) ⌝ }
+    requires { ⌜ Fit (asSides lent) × FitsIn (frameAt lent at) (sidesOf board) ⌝ }
+    requires { ⌜ (length (now first) ≡ 16) × (length (now numbers) ≡ 400) × (8192 ≤ length (now work)) × (length (now chart) ≡ chartLength) ⌝ }
+    ensures { λ d. do
+      let tray = framedIn (recordsOf t) board (now (bytes .entry)) (frameAt lent at)
+      let put = lentPlace (sidesOf board) (frameAt lent at)
+      let n = counts .cells
+      ⌜ BuiltSystem tray d (now (work .entry)) (now (work .exit)) (now (chart .exit))
+          × (now (places .exit) ≡ map put (take n (now (places .entry))) ++ drop n (now (places .entry))) ⌝ }
 {
-    let mut stripped = [0u8; stripping::ROOM];
-    let s = stripping::strip_tray(t, board, bytes, &mut stripped);
-    let table = s.table;
-    let part = s.board;
-    let at = s.at;
-    let mut places = [0u16; 512];
-    let d = build_lent(
-        table,
-        part,
-        &stripped,
-        &mut places,
+    let mut heads = [0u16; 128];
+    let mut images = [0u8; 6144];
+    let r = build_lent(
+        t,
+        board,
+        bytes,
+        counts,
+        places,
+        first,
+        numbers,
         work,
-        heads,
-        images,
-        scans,
-        kinds,
-        pieces,
+        &mut heads,
+        &mut images,
     );
-    let lent = records::sides_of(board);
-    board::put_back(&mut places, d.cells, records::sides_of(part), at, lent);
-    board::number_places(&places, d.cells, scans);
-    Dims {
-        cells: d.cells,
-        rows: d.rows,
-        kinds: d.kinds,
-        turns: d.turns,
-        mirrorings: d.mirrorings,
+    let n = counts.kinds;
+    let mut kinds = [0u16; 48];
+    list_kinds(t, board, bytes, first, n, &mut kinds);
+    let mut pieces = [0u8; 32];
+    list_pieces(t, board, bytes, first, n, &mut pieces);
+    let size = counts.cells;
+    board::put_back(places, size, records::sides_of(board), at, lent);
+    let mut scans = [0u8; 512];
+    board::number_places(places, size, &mut scans);
+    let d = Dims {
+        cells: size,
+        rows: r.rows,
+        kinds: n,
+        turns: r.turns,
+        mirrorings: r.mirrorings,
         places: cells::volume_of(lent),
-        pieces: d.pieces,
-    }
+        pieces: t.n,
+    };
+    lay_chart(d, &heads, &images, &scans, &kinds, &pieces, chart);
+    d
 }

@@ -3,28 +3,27 @@ ghost use mathlib.Core.Path.{_≡_};
 ghost use mathlib.Core.List.{[], _∷_, map};
 ghost use Prim.Native.Nat.{_+_, _*_, _≤_, _<_};
 ghost use lib.Dec.{T, ltb};
-ghost use lib.ListN.{length, take, drop, getD, replicate};
-ghost use Rattle.definitions.specs.Lists.{all, joined, member, numbered};
+ghost use lib.ListN.{length, drop, getD, replicate};
+ghost use Rattle.lists.specs.Lists.{all, joined, member, numbered};
 ghost use Rattle.definitions.specs.Grid.{InBox, filledCells, placeOf, volume};
 ghost use Rattle.definitions.specs.Maps.{mapOf, mapGrid};
 ghost use Rattle.definitions.specs.Scan.{scan};
-ghost use Rattle.definitions.specs.Kinds.{variants};
 ghost use Rattle.definitions.specs.Placements.{compile, lies, placementsAt, reaches};
-ghost use Rattle.definitions.specs.Refusals.{gridOf, placementCount};
+ghost use Rattle.definitions.specs.Refusals.{gridOf};
 ghost use Rattle.masks.specs.Masks.{has};
 ghost use Rattle.shape.specs.Coords.{Fit, asCell, asSides};
 ghost use Rattle.shape.specs.Grids.{Whole, asGrid};
 ghost use Rattle.shape.specs.Scans.{asOrder};
 ghost use Rattle.shape.specs.Variants.{turnedBy};
 ghost use Rattle.placements.specs.Tables.{recordsOf, lentIn};
-ghost use Rattle.placements.specs.Merging.{AreKinds};
-ghost use Rattle.placements.specs.Counting.{Accepted9, OnBoard};
+ghost use Rattle.placements.specs.Counting.{Accepted9, Counted, OnBoard};
 ghost use Rattle.rows.specs.Rows.{Appended, cellsOf, maskAt, rowAt, rowsIn, spread};
 ghost use Rattle.rows.specs.Boards.{Numbered, lands};
 ghost use Rattle.rows.specs.Chains.{Chained};
 use definitions::Record;
 use masks::Mask;
 use placements::Table;
+use placements::counting::Counts;
 use placements::fitting;
 use placements::records;
 use shape::Coord;
@@ -33,9 +32,8 @@ use shape::grids;
 use shape::maps::Map;
 use shape::scan;
 use shape::scan::AxisOrder;
-use shape::variants;
 
-// The cells of a row, its kind, its p.
+// The cells of a row.
 pub fn mask_at(work: &[u64], r: usize) -> Mask
     requires { ⌜ 8 * r + 8 ≤ length (now work) ⌝ }
     ensures { λ m. ⌜ m ≡ maskAt (now (work .entry)) r ⌝ }
@@ -46,6 +44,7 @@ pub fn mask_at(work: &[u64], r: usize) -> Mask
     }
 }
 
+// The kind of a row.
 pub fn kind_at(work: &[u64], r: usize) -> usize
     requires { ⌜ 8 * r + 8 ≤ length (now work) ⌝ }
     ensures { λ k. ⌜ k ≡ rowAt (now (work .entry)) r .kind ⌝ }
@@ -53,6 +52,7 @@ pub fn kind_at(work: &[u64], r: usize) -> usize
     work[8 * r + 2] as usize
 }
 
+// The first cell of a row, its p.
 pub fn first_at(work: &[u64], r: usize) -> usize
     requires { ⌜ 8 * r + 8 ≤ length (now work) ⌝ }
     ensures { λ p. ⌜ p ≡ rowAt (now (work .entry)) r .p ⌝ }
@@ -83,14 +83,18 @@ fn write_row(work: &mut [u64], r: usize, mask: Mask, kind: usize, p: usize, j: u
 
 // The cells, by scan number, on which the filled cells of a turned grid lie when its origin o lies at a cell of the board's box with the sides b.
 fn mask_of(b: Coord, scans: &[u8], cells: &[u8], s: Coord, m: Map, at: Coord, o: Coord) -> Mask
-    requires { ⌜ Whole s (now cells) × Fit (asSides b) × (volume (asSides b) ≤ length (now scans)) × InBox (asSides b) (asCell at) × T (reaches (asCell at) (asCell o)) ⌝ }
+    requires { ⌜ Whole s (now cells) × Fit (asSides b) × (volume (asSides b) ≤ length (now scans)) × InBox (asSides b) (asCell at)
+        × T (reaches (asCell at) (asCell o)) ⌝ }
     requires { ⌜ T (all (lands (asSides b) (now scans) (asCell at) (asCell o)) (filledCells (mapGrid (mapOf (m .0)) (asGrid s (now cells))))) ⌝ }
-    ensures { λ r. ⌜ has r ≡ (λ n. member n (map (λ u. getD (now (scans .entry)) (placeOf (asSides b) (lies (asCell at) (asCell o) u)) 0) (filledCells (mapGrid (mapOf (m .0)) (asGrid s (now (cells .entry))))))) ⌝ }
+    ensures { λ r. do
+      let us = filledCells (mapGrid (mapOf (m .0)) (asGrid s (now (cells .entry))))
+      ⌜ has r ≡ (λ n. member n (map (λ u. getD (now (scans .entry)) (placeOf (asSides b) (lies (asCell at) (asCell o) u)) 0) us)) ⌝ }
 {
     let t = m.sides(s);
     let v = cells::volume_of(s);
     let mut mask = Mask::empty();
     let mut j = 0;
+    // the mask has the cells on which those before place j lie
     while j < v {
         if grids::turned_byte(cells, s, m, j) == 1 {
             let u = fitting::lies_at(at, o, cells::cell_at(t, j));
@@ -102,7 +106,7 @@ fn mask_of(b: Coord, scans: &[u8], cells: &[u8], s: Coord, m: Map, at: Coord, o:
     mask
 }
 
-// The rows of a kind whose origins lie at the cell with the scan number p: a row for each turned grid that fits there.
+// The rows of a kind whose origins lie at the cell with the scan number p: a row for each turned grid, by its map number, that fits there.
 fn rows_at(
     board: &[u8],
     b: Coord,
@@ -110,7 +114,6 @@ fn rows_at(
     cells: &[u8],
     s: Coord,
     numbers: &[u8],
-    n: usize,
     order: AxisOrder,
     kind: usize,
     p: usize,
@@ -118,13 +121,21 @@ fn rows_at(
     work: &mut [u64],
     r: usize,
 ) -> usize
-    requires { ⌜ Whole b (now board) × Whole s (now cells) × InBox (asSides b) (asCell at) × Numbered (asOrder order) (asGrid b (now board)) (now scans) × (n ≤ length (now numbers)) × (n ≤ 24) ⌝ }
-    requires { ⌜ 8 * (r + length (placementsAt (scan (asOrder order) (asGrid b (now board))) kind (map (scan (asOrder order)) (turnedBy (asGrid s (now cells)) (take n (now numbers)))) p (asCell at))) ≤ length (now work) ⌝ }
-    ensures { λ t. ⌜ Appended (now (work .entry)) r (now (work .exit)) t (map spread (placementsAt (scan (asOrder order) (asGrid b (now (board .entry)))) kind (map (scan (asOrder order)) (turnedBy (asGrid s (now (cells .entry))) (take n (now (numbers .entry))))) p (asCell at))) ⌝ }
+    requires { ⌜ Whole b (now board) × Whole s (now cells) × InBox (asSides b) (asCell at)
+        × Numbered (asOrder order) (asGrid b (now board)) (now scans) × (length (now numbers) ≤ 24) ⌝ }
+    requires { do
+      let cs = scan (asOrder order) (asGrid b (now board))
+      let vs = map (scan (asOrder order)) (turnedBy (asGrid s (now cells)) (now numbers))
+      ⌜ 8 * (r + length (placementsAt cs kind vs p (asCell at))) ≤ length (now work) ⌝ }
+    ensures { λ t. do
+      let cs = scan (asOrder order) (asGrid b (now (board .entry)))
+      let vs = map (scan (asOrder order)) (turnedBy (asGrid s (now (cells .entry))) (now (numbers .entry)))
+      ⌜ Appended (now (work .entry)) r (now (work .exit)) t (map spread (placementsAt cs kind vs p (asCell at))) ⌝ }
 {
     let mut j = 0;
     let mut i = 0;
-    while i < n {
+    // the rows written and the placements of the numbers from i on make all
+    while i < numbers.len() {
         let m = Map(numbers[i]);
         let o = scan::origin_of(cells, s, m, order);
         if fitting::fits_at(board, b, cells, s, m, at, o) {
@@ -137,7 +148,7 @@ fn rows_at(
     r + j
 }
 
-// The rows of a kind, given by the map numbers of its variants.
+// The rows of a kind, given by a grid and the map numbers of its variants.
 fn rows_by(
     board: &[u8],
     b: Coord,
@@ -147,18 +158,25 @@ fn rows_by(
     cells: &[u8],
     s: Coord,
     numbers: &[u8],
-    n: usize,
     order: AxisOrder,
     kind: usize,
     work: &mut [u64],
     r: usize,
 ) -> usize
-    requires { ⌜ Whole b (now board) × Whole s (now cells) × Numbered (asOrder order) (asGrid b (now board)) (now scans) × OnBoard (asOrder order) (asGrid b (now board)) (now places) size × (n ≤ length (now numbers)) × (n ≤ 24) ⌝ }
-    requires { ⌜ 8 * (r + length (joined (numbered (scan (asOrder order) (asGrid b (now board))) (placementsAt (scan (asOrder order) (asGrid b (now board))) kind (map (scan (asOrder order)) (turnedBy (asGrid s (now cells)) (take n (now numbers)))))))) ≤ length (now work) ⌝ }
-    ensures { λ t. ⌜ Appended (now (work .entry)) r (now (work .exit)) t (map spread (joined (numbered (scan (asOrder order) (asGrid b (now (board .entry)))) (placementsAt (scan (asOrder order) (asGrid b (now (board .entry)))) kind (map (scan (asOrder order)) (turnedBy (asGrid s (now (cells .entry))) (take n (now (numbers .entry))))))))) ⌝ }
+    requires { ⌜ Whole b (now board) × Whole s (now cells) × Numbered (asOrder order) (asGrid b (now board)) (now scans)
+        × OnBoard (asOrder order) (asGrid b (now board)) (now places) size × (length (now numbers) ≤ 24) ⌝ }
+    requires { do
+      let cs = scan (asOrder order) (asGrid b (now board))
+      let vs = map (scan (asOrder order)) (turnedBy (asGrid s (now cells)) (now numbers))
+      ⌜ 8 * (r + length (joined (numbered cs (placementsAt cs kind vs)))) ≤ length (now work) ⌝ }
+    ensures { λ t. do
+      let cs = scan (asOrder order) (asGrid b (now (board .entry)))
+      let vs = map (scan (asOrder order)) (turnedBy (asGrid s (now (cells .entry))) (now (numbers .entry)))
+      ⌜ Appended (now (work .entry)) r (now (work .exit)) t (map spread (joined (numbered cs (placementsAt cs kind vs)))) ⌝ }
 {
     let mut t = r;
     let mut p = 0;
+    // the rows written and the placements at the cells from p on make all
     while p < size {
         let at = cells::cell_at(b, places[p] as usize);
         t = rows_at(
@@ -168,7 +186,6 @@ fn rows_by(
             cells,
             s,
             numbers,
-            n,
             order,
             kind,
             p,
@@ -181,76 +198,49 @@ fn rows_by(
     t
 }
 
-// The rows of a kind, given by one of its pieces.
-fn rows_of(
-    board: &[u8],
-    b: Coord,
-    scans: &[u8],
-    places: &[u16],
-    size: usize,
-    cells: &[u8],
-    s: Coord,
-    order: AxisOrder,
-    kind: usize,
-    work: &mut [u64],
-    r: usize,
-) -> usize
-    requires { ⌜ Whole b (now board) × Whole s (now cells) × Numbered (asOrder order) (asGrid b (now board)) (now scans) × OnBoard (asOrder order) (asGrid b (now board)) (now places) size ⌝ }
-    requires { ⌜ 8 * (r + length (joined (numbered (scan (asOrder order) (asGrid b (now board))) (placementsAt (scan (asOrder order) (asGrid b (now board))) kind (map (scan (asOrder order)) (variants (asGrid s (now cells)))))))) ≤ length (now work) ⌝ }
-    ensures { λ t. ⌜ Appended (now (work .entry)) r (now (work .exit)) t (map spread (joined (numbered (scan (asOrder order) (asGrid b (now (board .entry)))) (placementsAt (scan (asOrder order) (asGrid b (now (board .entry)))) kind (map (scan (asOrder order)) (variants (asGrid s (now (cells .entry))))))))) ⌝ }
-{
-    let mut numbers = [0u8; 24];
-    let n = variants::variants_of(cells, s, Map(0), &mut numbers);
-    rows_by(
-        board,
-        b,
-        scans,
-        places,
-        size,
-        cells,
-        s,
-        &numbers,
-        n,
-        order,
-        kind,
-        work,
-        r,
-    )
-}
-
-// The rows of a tray: its placements, as many as there are.
-pub fn build_rows(
+// The rows of a tray: its placements, by the kinds, variants and board cells that were counted; and how many they are.
+pub(crate) fn build_rows(
     t: Table,
-    bytes: &[u8],
     board: Record,
-    first: &[u8],
-    kinds: usize,
+    bytes: &[u8],
+    counts: Counts,
     places: &[u16],
+    first: &[u8],
+    numbers: &[u8],
     scans: &[u8],
-    size: usize,
     order: AxisOrder,
     work: &mut [u64],
 ) -> usize
-    requires { ⌜ Accepted9 t board (now bytes) × AreKinds t (now bytes) (now first) kinds × (kinds ≤ length (now first)) × OnBoard (asOrder order) (gridOf (now bytes) board) (now places) size × Numbered (asOrder order) (gridOf (now bytes) board) (now scans) ⌝ }
-    requires { ⌜ 8 * placementCount (compile (lentIn (recordsOf t) board (now bytes))) ≤ length (now work) ⌝ }
-    ensures { λ r. ⌜ Appended (now (work .entry)) 0 (now (work .exit)) r (map spread (compile (lentIn (recordsOf t) board (now (bytes .entry))) .placements)) ⌝ }
+    requires { ⌜ Accepted9 t board (now bytes) × Counted t board (now bytes) (now places) (now first) (now numbers) counts
+        × (length (now first) ≡ 16) × (length (now numbers) ≡ 400) × Numbered (asOrder order) (gridOf (now bytes) board) (now scans) ⌝ }
+    requires { ⌜ 8 * counts .placements ≤ length (now work) ⌝ }
+    ensures { λ r. do
+      let c = compile (lentIn (recordsOf t) board (now (bytes .entry)))
+      ⌜ Appended (now (work .entry)) 0 (now (work .exit)) r (map spread (c .placements)) ⌝ }
 {
     let b = records::sides_of(board);
     let grid = records::cells_of(bytes, board);
+    let kinds = counts.kinds;
+    let size = counts.cells;
     let mut r = 0;
     let mut k = 0;
+    // the rows written and the placements of the kinds from k on make all
     while k < kinds {
         let i = first[k] as usize;
         let p = t.rows[i];
         let cells = records::cells_of(bytes, p);
-        r = rows_of(
+        let s = records::sides_of(p);
+        let start = 25 * k + 1;
+        let end = start + numbers[25 * k] as usize;
+        r = rows_by(
             grid,
             b,
             scans,
             places,
             size,
             cells,
-            records::sides_of(p),
+            s,
+            &numbers[start..end],
             order,
             k,
             work,
@@ -261,6 +251,7 @@ pub fn build_rows(
     r
 }
 
+// Each number becomes n.
 fn fill(heads: &mut [u16], n: u16)
     ensures { λ _. ⌜ now (heads .exit) ≡ replicate (length (now (heads .entry))) n ⌝ }
 {
@@ -272,12 +263,14 @@ fn fill(heads: &mut [u16], n: u16)
 }
 
 // Rows with the same p, chained: the first at each cell into heads, the next into the row.
-pub fn chain_rows(work: &mut [u64], rows: usize, heads: &mut [u16])
+pub(crate) fn chain_rows(work: &mut [u64], rows: usize, heads: &mut [u16])
     requires { ⌜ (8 * rows ≤ length (now work)) × (rows ≤ 1024) × (length (now heads) ≡ 128) × T (all (λ q. ltb (q .p) 128) (rowsIn (now work) rows)) ⌝ }
-    ensures { λ _. ⌜ Chained (now (work .exit)) (now (heads .exit)) rows × (rowsIn (now (work .exit)) rows ≡ rowsIn (now (work .entry)) rows) × (drop (8 * rows) (now (work .exit)) ≡ drop (8 * rows) (now (work .entry))) ⌝ }
+    ensures { λ _. ⌜ Chained (now (work .exit)) (now (heads .exit)) rows × (rowsIn (now (work .exit)) rows ≡ rowsIn (now (work .entry)) rows)
+        × (drop (8 * rows) (now (work .exit)) ≡ drop (8 * rows) (now (work .entry))) ⌝ }
 {
     fill(heads, rows as u16);
     let mut r = rows;
+    // the rows from r on are chained
     while 0 < r {
         r -= 1;
         let p = work[8 * r + 3] as usize;

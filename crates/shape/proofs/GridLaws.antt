@@ -1,7 +1,7 @@
 -- Grids: how numbers, sides and grids compare, and the cells of a box by their places. Assumes nothing.
-use Prim.Native.Nat.{ℕ, zero, suc, _+_, _≤_, _<_}
-use mathlib.Core.Bool.{Bool, true, false, cond, not, _&&_, _||_}
-use mathlib.Core.List.{List, [], _∷_, map, List·Memᴰ}
+use Prim.Native.Nat.{ℕ, suc, _+_, _≤_, _<_}
+use mathlib.Core.Bool.{Bool, true, false, not, _&&_, _||_}
+use mathlib.Core.List.{List, [], _∷_, map, List·Memᴰ, map-id, map-map}
 use mathlib.Core.Path.{_≡_, refl, sym, ap, ap₂, _∙_, subst}
 use mathlib.Core.Logic.{_⊎_, inl, inr}
 use native.Mathlib.Numerals.{add-one}
@@ -10,15 +10,17 @@ use borrow.Author.Tests.{lt-ltb, le-ltb, eq-eqb, ne-eqb, eqb-true, eqb-false}
 use lib.Dec.{T, ltb, eqb}
 use lib.ListN.{length, getD, drop, drop-of-length-le}
 use lib.Seq.{drop-cons}
-use Rattle.definitions.specs.Lists.{all, howMany, less, same, from, below}
+use Rattle.lists.specs.Lists.{all, less, same, below}
+use Rattle.lists.proofs.TestLaws.{holds, decide}
+use Rattle.lists.proofs.ListLaws.{map-same}
+use Rattle.lists.proofs.RangeLaws.{length-below, getD-number}
+use Rattle.lists.proofs.NameLaws.{StrictOrder, ahead-other}
 use Rattle.definitions.specs.Grid.{Sides, Cell, Grid, box, volume, placeOf, byteAt, sidesThenCells, sameGrid, gridAhead}
 use Rattle.definitions.specs.Maps.{maps, turns, transform, parity, permutations, mapOf, identity, mapSides, mapGrid}
-use Rattle.definitions.proofs.ListLaws.{length-below, holds, decide}
-use Rattle.definitions.proofs.NameLaws.{StrictOrder, ahead-other}
 use Rattle.definitions.proofs.PartnerLaws.{grids-ordered}
-use Rattle.definitions.proofs.MapLaws.{map-map-of, box-at, mapped-sides}
+use Rattle.definitions.proofs.MapLaws.{box-at, mapped-sides}
 use Rattle.definitions.proofs.MoveLaws.{mapped-whole}
-use Rattle.definitions.proofs.GroupLaws.{map-same, bytes-whole, identity-grid, sameGrid→eq}
+use Rattle.definitions.proofs.GroupLaws.{bytes-whole, identity-grid, sameGrid→eq}
 use Rattle.shape.specs.Coords.{asSides, Fit}
 use Rattle.shape.specs.Places.{cellAt}
 use Rattle.shape.specs.Grids.{Decided, Whole, orderBy, numberOrder, sideList, sidesOrder, gridOrder}
@@ -233,18 +235,6 @@ turned-lengths m n g h w e = (turned-length m g ∙ sym w, turned-length n h ∙
 
 -- ---- tests of the entries from place i on
 module _ (p : ℕ → Bool) (xs : List ℕ) (i : ℕ) where
-  count-at : i < length xs → (b : Bool) → p (getD xs i 0) ≡ b → howMany p (drop i xs) ≡ cond b 1 0 + howMany p (drop (i + 1) xs)
-  count-at h b e = rw (add-one, drop-cons xs i 0, e)
-
-  pub count-hit : i < length xs → p (getD xs i 0) ≡ true → howMany p (drop i xs) ≡ 1 + howMany p (drop (i + 1) xs)
-  count-hit h e = count-at h true e
-
-  pub count-miss : i < length xs → p (getD xs i 0) ≡ false → howMany p (drop i xs) ≡ howMany p (drop (i + 1) xs)
-  count-miss h e = count-at h false e ∙ omega arith
-
-  pub count-end : length xs ≤ i → howMany p (drop i xs) ≡ 0
-  count-end h = ap (howMany p) (drop-of-length-le xs h)
-
   pub all-from : i < length xs → all p (drop i xs) ≡ p (getD xs i 0) && all p (drop (i + 1) xs)
   all-from h = rw (add-one, drop-cons xs i 0)
 
@@ -252,19 +242,10 @@ module _ (p : ℕ → Bool) (xs : List ℕ) (i : ℕ) where
   all-end h = ap (all p) (drop-of-length-le xs h)
 
 -- ---- the cells of a box by their places
-getD-from : (i n k : ℕ) → k < n → getD (from i n) k 0 ≡ i + k
-getD-from i zero k h = absurd (omega arith)
-getD-from i (suc n) zero h = omega arith
-getD-from i (suc n) (suc k) h = getD-from (suc i) n k (omega arith) ∙ omega arith
-
-map-id : {A : Type 0} (xs : List A) → map (λ x. x) xs ≡ xs
-map-id [] = refl
-map-id (x ∷ xs) = ap (λ (l : List _). x ∷ l) (map-id xs)
-
 pub box-places : (s : Sides) → box s ≡ map (cellAt s) (below (volume s))
 unfolding byteAt
 box-places s =
-    sym (map-id (box s)) ∙ map-same (λ u. u) (λ u. cellAt s (byteAt g u)) (box s) back ∙ sym (map-map-of (cellAt s) (byteAt g) (box s))
+    sym (map-id (box s)) ∙ map-same (λ u. u) (λ u. cellAt s (byteAt g u)) (box s) back ∙ sym (map-map (cellAt s) (byteAt g) (box s))
     ∙ ap (map (cellAt s)) (bytes-whole g (length-below (volume s)))
   where
     g : Grid
@@ -273,4 +254,4 @@ box-places s =
     back : (u : Cell) → List·Memᴰ u (box s) → u ≡ cellAt s (byteAt g u)
     back u m =
         let b = box-at s u m in
-        sym (cell-at-place s u b) ∙ ap (cellAt s) (sym (getD-from 0 (volume s) (placeOf s u) (place-lt s u b) ∙ omega arith))
+        sym (cell-at-place s u b) ∙ ap (cellAt s) (sym (getD-number 0 (volume s) (placeOf s u) 0 (place-lt s u b) ∙ omega arith))

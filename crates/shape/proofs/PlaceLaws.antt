@@ -102,20 +102,11 @@ module _ (n : ℕ) (s : Sides) where
   pub image-in-box : (u : Cell) → InBox s u → InBox (mapSides (mapOf n) s) (mapCell (mapOf n) s u)
   image-in-box u b = map-fits n .there s u b
 
-  pub image-cell : (i : ℕ) → i < volume s → cellAt (mapSides (mapOf n) s) (imagePlace (mapOf n) s i) ≡ mapCell (mapOf n) s (cellAt s i)
-  unfolding imagePlace
-  image-cell i h = cell-at-place (mapSides (mapOf n) s) (mapCell (mapOf n) s (cellAt s i)) (image-in-box (cellAt s i) (cell-in-box s i h))
-
   pub image-lt : (i : ℕ) → i < volume s → imagePlace (mapOf n) s i < volume s
   unfolding imagePlace
   image-lt i h =
       subst (λ (k : ℕ). placeOf (mapSides (mapOf n) s) (mapCell (mapOf n) s (cellAt s i)) < k) (map-volume n s)
       (place-lt (mapSides (mapOf n) s) (mapCell (mapOf n) s (cellAt s i)) (image-in-box (cellAt s i) (cell-in-box s i h)))
-
-  -- the cell at the source of place j
-  pub source-in-box : (j : ℕ) → j < volume s → InBox s (mapCell (inverse (mapOf n)) (mapSides (mapOf n) s) (cellAt (mapSides (mapOf n) s) j))
-  source-in-box j h =
-      map-fits n .back s (cellAt (mapSides (mapOf n) s) j) (cell-in-box (mapSides (mapOf n) s) j (subst (λ (k : ℕ). j < k) (sym (map-volume n s)) h))
 
 -- the mapped grid, place by place: each holds what stood at its source
 pub mapped-place : (n : ℕ) (g : Grid) (j : ℕ) → j < volume (g .sides)

@@ -11,13 +11,14 @@ use borrow.Author.Count.{below-none, below-more}
 use lib.Dec.{T, leb, eqb, leb→le, nleb→lt}
 use lib.ListN.{length, getD, set, length-map}
 use lib.Seq.{paste, paste-suc}
-use Rattle.definitions.specs.Lists.{isEmpty}
+use Rattle.lists.specs.Lists.{isEmpty}
+use Rattle.lists.proofs.TestLaws.{decide}
+use Rattle.lists.proofs.ListLaws.{map-same}
 use Rattle.definitions.specs.Grid.{Sides, Cell, Grid, box, volume, placeOf, byteAt, gridWith, setDown, filledCells, InBox}
 use Rattle.definitions.specs.Maps.{side, coordinate}
 use Rattle.definitions.specs.Stripping.{corner, strip, FitsIn, frameOf}
-use Rattle.definitions.proofs.ListLaws.{decide}
-use Rattle.definitions.proofs.MapLaws.{cell-path, byte-with, filled-at, filled-of}
-use Rattle.definitions.proofs.GroupLaws.{bytes-whole, coordinate-below, map-same}
+use Rattle.definitions.proofs.MapLaws.{byte-with, filled-at, filled-of}
+use Rattle.definitions.proofs.GroupLaws.{bytes-whole, coordinate-below}
 use Rattle.definitions.proofs.GridLaws.{length-box, set-down-none}
 use Rattle.definitions.proofs.StrippingLaws.{strip-is, strip-empty, strip-fits, some-or-none, corner-none}
 use Rattle.definitions.proofs.StrippedLaws.{Bounds, corner-by, strip-by}

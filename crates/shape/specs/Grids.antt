@@ -5,7 +5,7 @@ use mathlib.Core.List.{List, [], _∷_}
 use mathlib.Core.Path.{_≡_}
 use lib.Dec.{ltb, eqb}
 use lib.ListN.{length}
-use Rattle.definitions.specs.Lists.{less, same}
+use Rattle.lists.specs.Lists.{less, same}
 use Rattle.definitions.specs.Grid.{Sides, Grid, volume, sameGrid, gridAhead}
 use Rattle.shape.specs.Coords.{asSides, Fit}
 use Rattle.shape.specs.declared.Coord.{Coord}

@@ -5,8 +5,8 @@ use mathlib.Core.List.{List, [], _∷_, map}
 use mathlib.Core.Path.{_≡_}
 use lib.Dec.{ltb, eqb}
 use lib.ListN.{length, take, drop, getD}
+use Rattle.lists.specs.Lists.{same}
 use Rattle.definitions.specs.Grid.{Sides, Cell, Grid}
-use Rattle.definitions.specs.Lists.{same}
 use Rattle.definitions.specs.Maps.{side, coordinate}
 use Rattle.definitions.specs.Scan.{axes, cellAhead, scan}
 use Rattle.shape.specs.Places.{cellAt}

@@ -3,7 +3,7 @@ ghost use mathlib.Core.Path.{_≡_};
 ghost use Prim.Native.Nat.{_<_, _≤_};
 ghost use lib.ListN.{length, getD};
 ghost use lib.Dec.{eqb, leb};
-ghost use Rattle.definitions.specs.Lists.{all, howMany};
+ghost use Rattle.lists.specs.Lists.{all, howMany};
 ghost use Rattle.definitions.specs.Grid.{volume, byteAt, sameGrid, InBox};
 ghost use Rattle.definitions.specs.Maps.{mapOf, mapSides, mapGrid};
 ghost use Rattle.shape.specs.Coords.{asSides, asCell};

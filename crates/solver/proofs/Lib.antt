@@ -1,3 +1,5 @@
 pub mod Calls
-pub mod LentLaws
+pub mod CallLaws
+pub mod ClearingLaws
+pub mod PreparedLaws
 pub mod RecordLaws

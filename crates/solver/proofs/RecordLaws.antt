@@ -9,20 +9,19 @@ use borrow.Author.Tests.{leb-true, leb-false, lt-ltb}
 use lib.Dec.{leb}
 use lib.ListN.{length, getD, take, length-map}
 use lib.Seq.{length-take-le, getD-take, ext-getD}
-use Rattle.definitions.specs.Lists.{below, isEmpty}
+use Rattle.lists.specs.Lists.{below, isEmpty}
+use Rattle.lists.proofs.RangeLaws.{length-below, getD-of}
 use Rattle.definitions.specs.Refusals.{Call, table, refusal}
-use Rattle.definitions.specs.Outcomes.{refused, outcome}
+use Rattle.definitions.specs.Outcomes.{refused}
 use Rattle.definitions.specs.declared.Record.{Record}
 use Rattle.definitions.specs.declared.Config.{Config}
-use Rattle.definitions.proofs.ListLaws.{length-below}
-use Rattle.kept.specs.Calls.{outcomeBehind}
-use Rattle.kept.proofs.BehindLaws.{outcomeFrom, from-refused}
+use Rattle.definitions.specs.Starts.{outcomeFrom}
+use Rattle.definitions.specs.declared.Start.{Start}
+use Rattle.definitions.proofs.StartLaws.{from-refused}
 use Rattle.placements.specs.declared.Table.{Table}
-use Rattle.placements.specs.Tables.{noRecord, recordsOf}
+use Rattle.placements.specs.Tables.{noRecord, recordsOf, emptyTable, putRow, tableOf}
 use Rattle.placements.proofs.RefusalLaws.{records-few, records-count}
-use Rattle.rows.proofs.MovedLaws.{getD-of}
 use Rattle.solver.specs.Lent.{callWith}
-use Rattle.solver.specs.Records.{emptyTable, putRow, tableOf}
 
 -- the table with the first k records put, one after the other
 unfoldable pub filled : List Record → ℕ → Table
@@ -68,27 +67,22 @@ not-empty : (ps : List Record) → 16 < length ps → isEmpty ps ≡ false
 not-empty [] h = absurd (omega arith)
 not-empty (p ∷ ps) h = refl
 
-module _ (board : Record) (bytes : List ℕ) (config : Config) (skip : ℕ) (answers work links : List ℕ) where
+module _ (board : Record) (bytes : List ℕ) (config : Config) (answers work links : List ℕ) where
   abbrev call : List Record → Call
-  call ps = callWith ps board bytes config skip answers work links
+  call ps = callWith ps board bytes config answers work links
 
-  refusal-many : (ps : List Record) → 16 < length ps → refusal (callWith ps board bytes config skip answers work links) ≡ 2
+  refusal-many : (ps : List Record) → 16 < length ps → refusal (callWith ps board bytes config answers work links) ≡ 2
   unfolding refusal table callWith
   refusal-many ps h = simp (not-empty ps h, lt-ltb 16 (length ps) h)
 
-  many-refused : (last : List ℕ) (waiting : Bool) (ps : List Record) → 16 < length ps → outcomeFrom last waiting (call ps) ≡ refused 2 (call ps)
-  many-refused last waiting ps h = let e = refusal-many ps h in from-refused last waiting (call ps) (λ z. omega (arith, e, z)) ∙ ap (λ (n : ℕ). refused n (call ps)) e
+  many-refused : (start : Start) (last : List ℕ) (ps : List Record) → 16 < length ps → outcomeFrom start last (call ps) ≡ refused 2 (call ps)
+  many-refused start last ps h = let e = refusal-many ps h in from-refused start last (call ps) (λ z. omega (arith, e, z)) ∙ ap (λ (n : ℕ). refused n (call ps)) e
 
   none-read : (l m : List Record) → refused 2 (call l) ≡ refused 2 (call m)
   unfolding refused callWith
   none-read l m = refl
 
-  -- of the call for its list, and of the call for what lies behind an entry
-  from-same : (last : List ℕ) (waiting : Bool) (ps : List Record) → outcomeFrom last waiting (call (recordsOf (tableOf ps))) ≡ outcomeFrom last waiting (call ps)
-  from-same last waiting ps = same-of (λ l. outcomeFrom last waiting (call l)) (λ l m hl hm. many-refused last waiting l hl ∙ none-read l m ∙ sym (many-refused last waiting m hm)) ps
-
-  pub outcome-same : (ps : List Record) → outcome (callWith (recordsOf (tableOf ps)) board bytes config skip answers work links) ≡ outcome (callWith ps board bytes config skip answers work links)
-  outcome-same = from-same [] false
-
-  pub behind-same : (last : List ℕ) (ps : List Record) → outcomeBehind last (callWith (recordsOf (tableOf ps)) board bytes config skip answers work links) ≡ outcomeBehind last (callWith ps board bytes config skip answers work links)
-  behind-same last = from-same last true
+  pub outcome-same : (start : Start) (last : List ℕ) (ps : List Record)
+      → outcomeFrom start last (callWith (recordsOf (tableOf ps)) board bytes config answers work links) ≡ outcomeFrom start last (callWith ps board bytes config answers work links)
+  outcome-same start last ps =
+      same-of (λ l. outcomeFrom start last (call l)) (λ l m hl hm. many-refused start last l hl ∙ none-read l m ∙ sym (many-refused start last m hm)) ps

@@ -6,6 +6,7 @@ use mathlib.Core.Path.{_≡_, refl, sym, ap, ap₂, _∙_, subst}
 use borrow.Author.Tests.{ltb-true, lt-ltb, leb-true, le-leb, eqb-true, eq-eqb}
 use lib.Dec.{ltb, leb}
 use lib.ListN.{length}
+use Rattle.lists.proofs.TestLaws.{and-true-right, and-true-left}
 use Rattle.definitions.specs.Grid.{Sides, Cell, volume, byteAt, InBox}
 use Rattle.definitions.specs.Maps.{mapOf, mapSides, mapGrid}
 use Rattle.definitions.proofs.MapLaws.{mapped-sides}
@@ -18,15 +19,6 @@ use Rattle.views.specs.Views.{isWhole, liesIn, cellSeen, turnedSeen}
 pub told : {P : Type 0} (r : Bool) → r ≡ true → Decided r P → P
 told true e d = d
 told false e d = absurd (subst (λ (b : Bool). Decided b ⊥) e (λ x. x))
-
-left-true : (x y : Bool) → x && y ≡ true → x ≡ true
-left-true true y e = refl
-left-true false y e = e
-
-right-true : (x y : Bool) → x && y ≡ true → y ≡ true
-right-true true y e = e
-right-true false true e = refl
-right-true false false e = e
 
 -- a test that is true where a fact holds, and nowhere else, agrees with what decides the fact
 agrees : {P : Type 0} (t r : Bool) → (t ≡ true → P) → (P → t ≡ true) → Decided r P → t ≡ r
@@ -46,10 +38,10 @@ unfolding liesIn
 lies-decided s u r d =
     agrees (liesIn s u) r
     (λ e.
-    let f = right-true (ltb (u .x) (s .a)) _ e in (
-      ltb-true (u .x) (s .a) (left-true _ _ e),
-      ltb-true (u .y) (s .b) (left-true _ _ f),
-      ltb-true (u .z) (s .c) (right-true (ltb (u .y) (s .b)) _ f),
+    let f = and-true-right (ltb (u .x) (s .a)) _ e in (
+      ltb-true (u .x) (s .a) (and-true-left _ _ e),
+      ltb-true (u .y) (s .b) (and-true-left _ _ f),
+      ltb-true (u .z) (s .c) (and-true-right (ltb (u .y) (s .b)) _ f),
     ))
     (λ w. ap₂ _&&_ (lt-ltb (u .x) (s .a) (w .0)) (ap₂ _&&_ (lt-ltb (u .y) (s .b) (w .1)) (lt-ltb (u .z) (s .c) (w .2)))) d
 
@@ -58,11 +50,11 @@ unfolding isWhole
 whole-decided s cells r d =
     agrees (isWhole (asGrid s cells)) r
     (λ e.
-    let f = right-true (leb (s .0) 8) _ e in
-    let g = right-true (leb (s .1) 8) _ f in
+    let f = and-true-right (leb (s .0) 8) _ e in
+    let g = and-true-right (leb (s .1) 8) _ f in
     record {
-      fit = record { a = leb-true (s .0) 8 (left-true _ _ e); b = leb-true (s .1) 8 (left-true _ _ f); c = leb-true (s .2) 8 (left-true _ _ g) };
-      size = eqb-true (length cells) (volume (asSides s)) (right-true (leb (s .2) 8) _ g);
+      fit = record { a = leb-true (s .0) 8 (and-true-left _ _ e); b = leb-true (s .1) 8 (and-true-left _ _ f); c = leb-true (s .2) 8 (and-true-left _ _ g) };
+      size = eqb-true (length cells) (volume (asSides s)) (and-true-right (leb (s .2) 8) _ g);
     })
     (λ w. ap₂ _&&_ (le-leb (s .0) 8 (w .fit .a)) (ap₂ _&&_ (le-leb (s .1) 8 (w .fit .b)) (ap₂ _&&_ (le-leb (s .2) 8 (w .fit .c)) (eq-eqb (length cells) (volume (asSides s)) (w .size)))))
     d

@@ -1,4 +1,5 @@
 // A view of lent cells with three sides stands for `CubicGrid` (shape.rs): get and turned-get, thin above the functions on slice and sides.
+// Nothing is assumed: a cell outside the box is 0. No other crate uses it (docs/DECISIONS.md says why it stands).
 ghost use mathlib.Core.Path.{_≡_};
 ghost use Rattle.shape.specs.Grids.{Decided};
 ghost use Rattle.definitions.specs.Grid.{InBox};

@@ -71,7 +71,12 @@ fn list(lent: &Lent, total: usize) -> Result<usize, String> {
         for room in [0, 1, size - 1, size, 2 * size + 1] {
             let (answers, answer) = ask(lent, start, room, WORDS + 8, NUMBERS + 8)?;
             let written = ahead.min(room / size);
-            if answer != (Answer { number: 0, written, further: written < ahead }) {
+            // Only the empty packing is an entry, and only where there is one.
+            let expected = match start {
+                Start::Behind(last) if total == 0 || last != empty => Answer::MISSING,
+                _ => Answer::page(written, written < ahead),
+            };
+            if answer != expected {
                 return Err(format!("room for {room} bytes: {answer:?}"));
             }
             if answers[..written * size] != empty[..written * size] {
@@ -105,7 +110,7 @@ fn refusals() -> Result<usize, String> {
                     spoil(&mut asked);
                     for start in [Start::Skip(0), Start::Behind(&[255; 384])] {
                         let (_, answer) = ask(&asked.lent, start, 1_000, asked.words, asked.numbers)?;
-                        if answer != (Answer { number, written: 0, further: false }) {
+                        if answer != Answer::refused(number) {
                             return Err(format!("{number} expected, {engine:?} {turned} {mirrored}, alone {alone}: {answer:?}"));
                         }
                         calls += 1;

@@ -17,7 +17,7 @@ fn main() {
     };
     let (mut answers, mut work) = ([0; 12], vec![0; 8_192]);
     let answer = lent.page(Start::Skip(0), &mut answers, &mut work, &mut []);
-    assert_eq!(answer, Answer { number: 0, written: 2, further: false });
+    assert_eq!(answer, Answer { number: 0, written: 2, further: false, missing: false });
     assert_eq!(answers, [0, 0, 1, 0, 1, 0, 1, 0, 1, 0, 0, 0]);
     for (entry, bytes) in answers.chunks(6).enumerate() {
         println!("{entry}\t{}", box_cells(bytes));
@@ -26,6 +26,10 @@ fn main() {
     // The page behind the first entry holds the second.
     let mut second = [0; 6];
     let answer = lent.page(Start::Behind(&answers[..6]), &mut second, &mut work, &mut []);
-    assert_eq!(answer, Answer { number: 0, written: 1, further: false });
+    assert_eq!(answer, Answer { number: 0, written: 1, further: false, missing: false });
     assert_eq!(second, answers[6..]);
+
+    // Behind what is no entry there is no page, and this is told.
+    let answer = lent.page(Start::Behind(&[9; 6]), &mut second, &mut work, &mut []);
+    assert_eq!(answer, Answer { number: 0, written: 0, further: false, missing: true });
 }

@@ -5,7 +5,7 @@
 
 use std::time::{Duration, Instant};
 
-use harness::{box_cells, Lent, Start};
+use harness::{box_cells, Answer, Lent, Start};
 use oracle::layers;
 use oracle::listing;
 use oracle::tray::{self, Config, Engine, Tray};
@@ -48,7 +48,7 @@ fn race(path: &str, name: &str, tray: &Tray) {
     let mut work = vec![0; 8_192];
     let mut links = vec![0; 32_768];
     let found = lent.page(Start::Skip(0), &mut answers, &mut work, &mut links);
-    assert_eq!((found.number, found.written, found.further), (0, total, false), "{path} {name}");
+    assert_eq!(found, Answer::page(total, false), "{path} {name}");
     let mut lines = String::new();
     for (entry, bytes) in answers.chunks(lent.size()).enumerate() {
         lines += &format!("{entry}\t{}\n", box_cells(bytes));

@@ -4,22 +4,25 @@ use native.Mathlib.Omega.{arith}
 use mathlib.Core.Path.{_≡_}
 use mathlib.Core.Bool.{true}
 use borrow.Author.Needs.{needs}
-use Rattle.links.specs.Cover.{World, Holds}
+use Rattle.links.specs.Cover.{Reduced, Holds}
 use Rattle.links.proofs.Rows.{Rowed, hidable-small, hiding-start, hiding-one, hiding-next, hiding-end, rowed-length, row-end}
 use Rattle.links.proofs.hide_row.Statement.{statement}
 use Rattle.links.proofs.hide_row.Tie as tie
 
 abbrev Inv-loop : tie.InvT-loop
-Inv-loop links₀ x end y₀ links y = (w : World) → Holds w links₀ → w .liv x ≡ true → Rowed w links₀ x links y × (end ≡ w .t .hi x)
+Inv-loop links₀ x end y₀ links y = (w : Reduced) → Holds w links₀ → w .alive x ≡ true → Rowed w links₀ x links y × (end ≡ w .t .hi x)
 
 abbrev μ-loop : tie.MeasureT-loop
 μ-loop links₀ x end y₀ links y = end - y
 
-add-wide : tie.Need-add-wide Inv-loop μ-loop
-add-wide c = omega (arith, hidable-small (c .before .pre))
+mul-wide-2 : tie.Need-mul-wide-2 Inv-loop μ-loop
+mul-wide-2 c = omega (arith, hidable-small (c .before .pre))
 
 mul-wide : tie.Need-mul-wide Inv-loop μ-loop
-mul-wide c = omega (arith, hidable-small (c .before .pre))
+mul-wide c = omega (arith, mul-wide-2 c)
+
+add-wide : tie.Need-add-wide Inv-loop μ-loop
+add-wide c = omega (arith, mul-wide-2 c)
 
 slice-read-wide : tie.Need-slice-read-wide Inv-loop μ-loop
 slice-read-wide c = omega (arith, hidable-small (c .before .before .pre))
@@ -27,11 +30,14 @@ slice-read-wide c = omega (arith, hidable-small (c .before .before .pre))
 wide-requires : tie.Need-wide-requires Inv-loop μ-loop
 wide-requires c κs = search needs
 
-add-wide-2 : tie.Need-add-wide-2 Inv-loop μ-loop
-add-wide-2 c = omega (arith, hidable-small (c .before .before .before .pre))
+mul-wide-4 : tie.Need-mul-wide-4 Inv-loop μ-loop
+mul-wide-4 c = omega (arith, hidable-small (c .before .before .before .pre))
 
-mul-wide-2 : tie.Need-mul-wide-2 Inv-loop μ-loop
-mul-wide-2 c = omega (arith, hidable-small (c .before .before .before .pre))
+mul-wide-3 : tie.Need-mul-wide-3 Inv-loop μ-loop
+mul-wide-3 c = omega (arith, mul-wide-4 c)
+
+add-wide-2 : tie.Need-add-wide-2 Inv-loop μ-loop
+add-wide-2 c = omega (arith, mul-wide-4 c)
 
 slice-read-wide-2 : tie.Need-slice-read-wide-2 Inv-loop μ-loop
 slice-read-wide-2 c = omega (arith, hidable-small (c .before .before .before .before .pre))
@@ -43,14 +49,23 @@ loop-holds : tie.Need-loop-holds Inv-loop μ-loop
 loop-holds c = λ w s l. (hiding-start w s l _ (c .wide2 .ensures), row-end w s l _ (c .before .before .wide .ensures))
 
 hide-one-requires : tie.Need-hide-one-requires Inv-loop μ-loop
-hide-one-requires c κs = let p = c .before .before .before .before .before .before .before .before .pre in
-    let r = c .before .before .loop .inv (p .w) (p .holds) (p .live) in
+hide-one-requires c κs =
+    let at-loop = c .before .before in
+    let to-at-start = at-loop .before .before .before .before .before in
+    let at-start = to-at-start .before in
+    let p = at-start .pre in
+    let r = at-loop .loop .inv (p .w) (p .holds) (p .live) in
     hiding-one (p .w) (p .holds) (p .live) (r .0) (omega (arith, c .before .loop-test .taken, r .1))
 
 add-y : tie.Need-add-y Inv-loop μ-loop
-add-y c = let p = c .before .before .before .before .before .before .before .before .before .before .before .pre in
-    let r = c .before .before .before .before .before .loop .inv (p .w) (p .holds) (p .live) in
-    omega (arith, c .before .before .before .before .loop-test .taken, r .1, p .w .law .fits, p .w .law .high _ (p .holds .node _ (p .live) .0) (p .holds .node _ (p .live) .1))
+add-y c =
+    let in-loop = c .before .before .before .before in
+    let at-loop = in-loop .before in
+    let to-at-start = at-loop .before .before .before .before .before in
+    let at-start = to-at-start .before in
+    let p = at-start .pre in
+    let r = at-loop .loop .inv (p .w) (p .holds) (p .live) in
+    omega (arith, in-loop .loop-test .taken, r .1, p .w .law .small, p .w .law .high _ (p .holds .node _ (p .live) .0) (p .holds .node _ (p .live) .1))
 
 loop-less : tie.Need-loop-less Inv-loop μ-loop
 loop-less c = omega (arith, c .before .before .before .before .loop-test .taken)
@@ -61,7 +76,10 @@ loop-again c = λ w s l.
     (hiding-next w s l (r .0) (omega (arith, c .before .before .before .before .loop-test .taken, r .1)) _ (c .before .before .hide-one .ensures), r .1)
 
 same-length : tie.Need-same-length Inv-loop μ-loop
-same-length c = let p = c .before .before .before .before .before .before .before .pre in
+same-length c =
+    let to-at-start = c .before .before .before .before .before in
+    let at-start = to-at-start .before .before in
+    let p = at-start .pre in
     let r = c .before .loop .inv (p .w) (p .holds) (p .live) in
     rowed-length (p .w) (p .holds) (p .live) (r .0)
 
@@ -76,12 +94,14 @@ hide-row-spec =
     (tie.spec
     Inv-loop
     μ-loop
-    add-wide
     mul-wide
+    add-wide
+    mul-wide-2
     slice-read-wide
     wide-requires
+    mul-wide-3
     add-wide-2
-    mul-wide-2
+    mul-wide-4
     slice-read-wide-2
     wide-requires-2
     loop-holds

@@ -9,18 +9,24 @@ link-heads-requires : tie.Need-link-heads-requires
 link-heads-requires c κs = search needs
 
 link-nodes-requires : tie.Need-link-nodes-requires
-link-nodes-requires c κs = let q = c .before .before .before .before .before .before .pre in
-    let p = q .table in
-    whole-linkable (p .t) (p .law) (p .fields) (q .shape) (q .stocked) (p .c-is) (p .n-is) _ (c .before .before .before .link-heads .ensures .0) (c .before .before .before .link-heads .ensures .1)
+link-nodes-requires c κs =
+    let at-link-heads = c .before .before .before in
+    let at-start = at-link-heads .before .before .before in
+    let q = at-start .pre in
+    let p = q .stored in
+    whole-linkable (p .t) (p .law) (p .fields) (q .shape) (q .stocked) (p .c-is) (p .n-is) _ (at-link-heads .link-heads .ensures .0) (at-link-heads .link-heads .ensures .1)
 
 same-length : tie.Need-same-length
 same-length c = search needs
 
 returns : tie.Need-returns
-returns c = (
-  λ t law f s k e g. whole-seek t law f s k e g _ (c .before .before .before .before .before .before .link-heads .ensures .0) (c .before .before .before .before .before .before .link-heads .ensures .1) _ (c .before .before .link-nodes .ensures .0) (c .before .before .link-nodes .ensures .1),
-  λ i h. c .before .before .link-nodes .ensures .1 i h ∙ c .before .before .before .before .before .before .link-heads .ensures .1 i h,
-)
+returns c =
+    let at-link-nodes = c .before .before in
+    let at-link-heads = at-link-nodes .before .before .before .before in (
+      λ t law f s k e g. whole-seek t law f s k e g _ (at-link-heads .link-heads .ensures .0) (at-link-heads .link-heads .ensures .1) _
+          (at-link-nodes .link-nodes .ensures .0) (at-link-nodes .link-nodes .ensures .1),
+      λ i h. at-link-nodes .link-nodes .ensures .1 i h ∙ at-link-heads .link-heads .ensures .1 i h,
+    )
 
 pub link-all-spec : {M : Type 1} → statement M
 link-all-spec =

@@ -12,26 +12,38 @@ cast-links c = search needs
 mul-links : tie.Need-mul-links
 mul-links c = search needs
 
-slice-write-links : tie.Need-slice-write-links
-slice-write-links c = search needs
-
-cast-links-2 : tie.Need-cast-links-2
-cast-links-2 c = search needs
-
 add-links : tie.Need-add-links
 add-links c = search needs
 
 mul-links-2 : tie.Need-mul-links-2
 mul-links-2 c = search needs
 
-slice-write-links-2 : tie.Need-slice-write-links-2
-slice-write-links-2 c = simp length-set (omega arith)
+slice-write-links : tie.Need-slice-write-links
+slice-write-links c = search needs
+
+cast-links-2 : tie.Need-cast-links-2
+cast-links-2 c = search needs
+
+mul-links-3 : tie.Need-mul-links-3
+mul-links-3 c = search needs
 
 add-links-2 : tie.Need-add-links-2
 add-links-2 c = search needs
 
-mul-links-3 : tie.Need-mul-links-3
-mul-links-3 c = search needs
+mul-links-4 : tie.Need-mul-links-4
+mul-links-4 c = search needs
+
+slice-write-links-2 : tie.Need-slice-write-links-2
+slice-write-links-2 c = simp length-set (omega arith)
+
+mul-links-5 : tie.Need-mul-links-5
+mul-links-5 c = search needs
+
+add-links-3 : tie.Need-add-links-3
+add-links-3 c = search needs
+
+mul-links-6 : tie.Need-mul-links-6
+mul-links-6 c = search needs
 
 slice-write-links-3 : tie.Need-slice-write-links-3
 slice-write-links-3 c = simp length-set (omega arith)
@@ -49,13 +61,17 @@ link-head-spec =
     (tie.spec
     cast-links
     mul-links
-    slice-write-links
-    cast-links-2
     add-links
     mul-links-2
-    slice-write-links-2
-    add-links-2
+    slice-write-links
+    cast-links-2
     mul-links-3
+    add-links-2
+    mul-links-4
+    slice-write-links-2
+    mul-links-5
+    add-links-3
+    mul-links-6
     slice-write-links-3
     same-length
     returns)

@@ -5,11 +5,14 @@ use borrow.Author.Needs.{needs}
 use Rattle.links.proofs.select_row.Statement.{statement}
 use Rattle.links.proofs.select_row.Tie as tie
 
-add-wide : tie.Need-add-wide
-add-wide c = omega (arith, sel-small (c .before .pre .seek) (c .before .pre .live))
+mul-wide-2 : tie.Need-mul-wide-2
+mul-wide-2 c = omega (arith, sel-small (c .before .pre .seek) (c .before .pre .live))
 
 mul-wide : tie.Need-mul-wide
-mul-wide c = omega (arith, sel-small (c .before .pre .seek) (c .before .pre .live))
+mul-wide c = omega (arith, mul-wide-2 c)
+
+add-wide : tie.Need-add-wide
+add-wide c = omega (arith, mul-wide-2 c)
 
 slice-read-wide : tie.Need-slice-read-wide
 slice-read-wide c = omega (arith, sel-small (c .before .before .pre .seek) (c .before .before .pre .live))
@@ -17,11 +20,14 @@ slice-read-wide c = omega (arith, sel-small (c .before .before .pre .seek) (c .b
 wide-requires : tie.Need-wide-requires
 wide-requires c κs = search needs
 
-add-wide-2 : tie.Need-add-wide-2
-add-wide-2 c = omega (arith, sel-small (c .before .before .before .pre .seek) (c .before .before .before .pre .live))
+mul-wide-4 : tie.Need-mul-wide-4
+mul-wide-4 c = omega (arith, sel-small (c .before .before .before .pre .seek) (c .before .before .before .pre .live))
 
-mul-wide-2 : tie.Need-mul-wide-2
-mul-wide-2 c = omega (arith, sel-small (c .before .before .before .pre .seek) (c .before .before .before .pre .live))
+mul-wide-3 : tie.Need-mul-wide-3
+mul-wide-3 c = omega (arith, mul-wide-4 c)
+
+add-wide-2 : tie.Need-add-wide-2
+add-wide-2 c = omega (arith, mul-wide-4 c)
 
 slice-read-wide-2 : tie.Need-slice-read-wide-2
 slice-read-wide-2 c = omega (arith, sel-small (c .before .before .before .before .pre .seek) (c .before .before .before .before .pre .live))
@@ -30,30 +36,45 @@ wide-requires-2 : tie.Need-wide-requires-2
 wide-requires-2 c κs = search needs
 
 take-copy-requires : tie.Need-take-copy-requires
-take-copy-requires c κs = sel-takes (c .before .before .before .before .before .before .pre .seek) (c .before .before .before .before .before .before .pre .live) _ _ (c .before .before .before .wide .ensures) (c .before .wide2 .ensures)
+take-copy-requires c κs =
+    let at-wide = c .before .before .before in
+    let at-start = at-wide .before .before .before in
+    sel-takes (at-start .pre .seek) (at-start .pre .live) _ _ (at-wide .wide .ensures) (c .before .wide2 .ensures)
 
 purge-run-requires : tie.Need-purge-run-requires
-purge-run-requires c κs = sel-runnable (c .before .before .before .before .before .before .before .before .before .before .pre .seek) (c .before .before .before .before .before .before .before .before .before .before .pre .live) _ _ (c .before .before .before .before .before .before .before .wide .ensures) (c .before .before .before .before .before .wide2 .ensures) _ _ (c .before .before .before .take-copy .ensures .0) (c .before .before .before .take-copy .ensures .1)
+purge-run-requires c κs =
+    let at-take-copy = c .before .before .before in
+    let at-wide2 = at-take-copy .before .before in
+    let at-wide = at-wide2 .before .before in
+    let at-start = at-wide .before .before .before in
+    sel-runnable (at-start .pre .seek) (at-start .pre .live) _ _ (at-wide .wide .ensures) (at-wide2 .wide2 .ensures) _ _ (at-take-copy .take-copy .ensures .0) (at-take-copy .take-copy .ensures .1)
 
 same-length : tie.Need-same-length
 same-length c = search needs
 
 returns : tie.Need-returns
-returns c = (
-  λ w unc cp cells left s l. sel-done s l _ _ (c .before .before .before .before .before .before .before .before .before .before .wide .ensures) (c .before .before .before .before .before .before .before .before .wide2 .ensures) _ _ (c .before .before .before .before .before .before .take-copy .ensures .0) (c .before .before .before .before .before .before .take-copy .ensures .1) _ (c .before .before .purge-run .ensures),
-  λ w unc cp cells left s l. sel-first s l _ _ (c .before .before .before .before .before .before .before .before .before .before .wide .ensures) (c .before .before .before .before .before .before .before .before .wide2 .ensures) _ _ (c .before .before .before .before .before .before .take-copy .ensures .0) (c .before .before .before .before .before .before .take-copy .ensures .1),
-)
+returns c =
+    let at-purge-run = c .before .before in
+    let at-take-copy = at-purge-run .before .before .before .before in
+    let at-wide2 = at-take-copy .before .before in
+    let at-wide = at-wide2 .before .before in (
+      λ w uncovered copies cells left s l. sel-done s l _ _ (at-wide .wide .ensures) (at-wide2 .wide2 .ensures) _ _ (at-take-copy .take-copy .ensures .0)
+          (at-take-copy .take-copy .ensures .1) _ (at-purge-run .purge-run .ensures),
+      λ w uncovered copies cells left s l. sel-first s l _ _ (at-wide .wide .ensures) (at-wide2 .wide2 .ensures) _ _ (at-take-copy .take-copy .ensures .0) (at-take-copy .take-copy .ensures .1),
+    )
 
 pub select-row-spec : {M : Type 1} → statement M
 select-row-spec =
     tie.close
     (tie.spec
-    add-wide
     mul-wide
+    add-wide
+    mul-wide-2
     slice-read-wide
     wide-requires
+    mul-wide-3
     add-wide-2
-    mul-wide-2
+    mul-wide-4
     slice-read-wide-2
     wide-requires-2
     take-copy-requires

@@ -4,11 +4,14 @@ use Rattle.links.proofs.Steps.{up-asked, relink-asked, show-same, show-
 use Rattle.links.proofs.show_one.Statement.{statement}
 use Rattle.links.proofs.show_one.Tie as tie
 
+mul-wide : tie.Need-mul-wide
+mul-wide c = search needs
+
 add-wide : tie.Need-add-wide
 add-wide c = search needs
 
-mul-wide : tie.Need-mul-wide
-mul-wide c = search needs
+mul-wide-2 : tie.Need-mul-wide-2
+mul-wide-2 c = search needs
 
 slice-read-wide : tie.Need-slice-read-wide
 slice-read-wide c = search needs
@@ -20,26 +23,41 @@ count-up-requires : tie.Need-count-up-requires
 count-up-requires c κs = up-asked (c .before .before .before .before .pre) _ (c .before .wide .ensures)
 
 relink-requires : tie.Need-relink-requires
-relink-requires c κs = relink-asked (c .before .before .before .before .before .before .before .before .before .pre) _ (c .before .before .before .before .before .before .wide .ensures) _ (c .before .before .before .before .count-up .ensures)
+relink-requires c κs =
+    let at-count-up = c .before .before .before .before in
+    let at-wide = at-count-up .before .before in
+    let at-start = at-wide .before .before .before in
+    relink-asked (at-start .pre) _ (at-wide .wide .ensures) _ (at-count-up .count-up .ensures)
 
 same-length : tie.Need-same-length
 same-length c = search needs
 
 returns : tie.Need-returns
-returns c = show-other (c .before .before .before .before .before .before .before .before .before .before .before .before .pre) _ (c .before .before .before .before .before .before .before .before .before .wide .ensures) _ _ (c .before .before .before .before .if1 .taken) (c .before .before .before .before .before .before .before .count-up .ensures) (c .before .before .relink .ensures)
+returns c =
+    let at-relink = c .before .before in
+    let at-if1 = at-relink .before .before in
+    let at-count-up = at-if1 .before .before .before in
+    let at-wide = at-count-up .before .before in
+    let at-start = at-wide .before .before .before in
+    show-other (at-start .pre) _ (at-wide .wide .ensures) _ _ (at-if1 .if1 .taken) (at-count-up .count-up .ensures) (at-relink .relink .ensures)
 
 same-length-2 : tie.Need-same-length-2
 same-length-2 c = search needs
 
 returns-2 : tie.Need-returns-2
-returns-2 c = show-same (c .before .before .before .before .before .before .before .before .pre) _ (c .before .before .before .before .before .wide .ensures) _ (c .if1 .left) (c .before .before .before .count-up .ensures)
+returns-2 c =
+    let at-count-up = c .before .before .before in
+    let at-wide = at-count-up .before .before in
+    let at-start = at-wide .before .before .before in
+    show-same (at-start .pre) _ (at-wide .wide .ensures) _ (c .if1 .left) (at-count-up .count-up .ensures)
 
 pub show-one-spec : {M : Type 1} → statement M
 show-one-spec =
     tie.close
     (tie.spec
-    add-wide
     mul-wide
+    add-wide
+    mul-wide-2
     slice-read-wide
     wide-requires
     count-up-requires

@@ -5,11 +5,14 @@ use borrow.Author.Needs.{needs}
 use Rattle.links.proofs.unselect_row.Statement.{statement}
 use Rattle.links.proofs.unselect_row.Tie as tie
 
-add-wide : tie.Need-add-wide
-add-wide c = omega (arith, unsel-small (c .before .pre .seek) (c .before .pre .live) (c .before .pre .so) _ (c .before .pre .first))
+mul-wide-2 : tie.Need-mul-wide-2
+mul-wide-2 c = omega (arith, unsel-small (c .before .pre .seek) (c .before .pre .live) (c .before .pre .so) _ (c .before .pre .first))
 
 mul-wide : tie.Need-mul-wide
-mul-wide c = omega (arith, unsel-small (c .before .pre .seek) (c .before .pre .live) (c .before .pre .so) _ (c .before .pre .first))
+mul-wide c = omega (arith, mul-wide-2 c)
+
+add-wide : tie.Need-add-wide
+add-wide c = omega (arith, mul-wide-2 c)
 
 slice-read-wide : tie.Need-slice-read-wide
 slice-read-wide c = omega (arith, unsel-small (c .before .before .pre .seek) (c .before .before .pre .live) (c .before .before .pre .so) _ (c .before .before .pre .first))
@@ -17,40 +20,64 @@ slice-read-wide c = omega (arith, unsel-small (c .before .before .pre .seek) (c 
 wide-requires : tie.Need-wide-requires
 wide-requires c κs = search needs
 
-add-wide-2 : tie.Need-add-wide-2
-add-wide-2 c = omega (arith, unsel-small (c .before .before .before .pre .seek) (c .before .before .before .pre .live) (c .before .before .before .pre .so) _ (c .before .before .before .pre .first))
+mul-wide-4 : tie.Need-mul-wide-4
+mul-wide-4 c = omega (arith, unsel-small (c .before .before .before .pre .seek) (c .before .before .before .pre .live) (c .before .before .before .pre .so) _ (c .before .before .before .pre .first))
 
-mul-wide-2 : tie.Need-mul-wide-2
-mul-wide-2 c = omega (arith, unsel-small (c .before .before .before .pre .seek) (c .before .before .before .pre .live) (c .before .before .before .pre .so) _ (c .before .before .before .pre .first))
+mul-wide-3 : tie.Need-mul-wide-3
+mul-wide-3 c = omega (arith, mul-wide-4 c)
+
+add-wide-2 : tie.Need-add-wide-2
+add-wide-2 c = omega (arith, mul-wide-4 c)
 
 slice-read-wide-2 : tie.Need-slice-read-wide-2
-slice-read-wide-2 c = omega (arith, unsel-small (c .before .before .before .before .pre .seek) (c .before .before .before .before .pre .live) (c .before .before .before .before .pre .so) _ (c .before .before .before .before .pre .first))
+slice-read-wide-2 c = omega (
+  arith,
+  unsel-small (c .before .before .before .before .pre .seek) (c .before .before .before .before .pre .live)
+      (c .before .before .before .before .pre .so) _ (c .before .before .before .before .pre .first),
+)
 
 wide-requires-2 : tie.Need-wide-requires-2
 wide-requires-2 c κs = search needs
 
 unpurge-run-requires : tie.Need-unpurge-run-requires
-unpurge-run-requires c κs = unsel-ran (c .before .before .before .before .before .before .pre .seek) (c .before .before .before .before .before .before .pre .live) (c .before .before .before .before .before .before .pre .so) _ (c .before .before .before .before .before .before .pre .first) _ _ (c .before .before .before .wide .ensures) (c .before .wide2 .ensures)
+unpurge-run-requires c κs =
+    let at-wide = c .before .before .before in
+    let at-start = at-wide .before .before .before in
+    unsel-ran (at-start .pre .seek) (at-start .pre .live) (at-start .pre .so) _ (at-start .pre .first) _ _ (at-wide .wide .ensures) (c .before .wide2 .ensures)
 
 give-copy-requires : tie.Need-give-copy-requires
-give-copy-requires c κs = unsel-gives (c .before .before .before .before .before .before .before .before .before .before .pre .seek) (c .before .before .before .before .before .before .before .before .before .before .pre .live) (c .before .before .before .before .before .before .before .before .before .before .pre .so) _ (c .before .before .before .before .before .before .before .before .before .before .pre .first) _ _ (c .before .before .before .before .before .before .before .wide .ensures) (c .before .before .before .before .before .wide2 .ensures) _ (c .before .before .before .unpurge-run .ensures)
+give-copy-requires c κs =
+    let at-unpurge-run = c .before .before .before in
+    let at-wide2 = at-unpurge-run .before .before in
+    let at-wide = at-wide2 .before .before in
+    let at-start = at-wide .before .before .before in
+    unsel-gives (at-start .pre .seek) (at-start .pre .live) (at-start .pre .so) _ (at-start .pre .first) _ _ (at-wide .wide .ensures) (at-wide2 .wide2 .ensures) _
+    (at-unpurge-run .unpurge-run .ensures)
 
 same-length : tie.Need-same-length
 same-length c = search needs
 
 returns : tie.Need-returns
-returns c = λ w unc cp cells left m s l f e. unsel-back s l e _ f _ _ (c .before .before .before .before .before .before .before .before .before .before .wide .ensures) (c .before .before .before .before .before .before .before .before .wide2 .ensures) _ (c .before .before .before .before .before .before .unpurge-run .ensures) _ (c .before .before .give-copy .ensures)
+returns c =
+    let at-give-copy = c .before .before in
+    let at-unpurge-run = at-give-copy .before .before .before .before in
+    let at-wide2 = at-unpurge-run .before .before in
+    let at-wide = at-wide2 .before .before in
+    λ w uncovered copies cells left m s l f e. unsel-back s l e _ f _ _ (at-wide .wide .ensures) (at-wide2 .wide2 .ensures) _
+    (at-unpurge-run .unpurge-run .ensures) _ (at-give-copy .give-copy .ensures)
 
 pub unselect-row-spec : {M : Type 1} → statement M
 unselect-row-spec =
     tie.close
     (tie.spec
-    add-wide
     mul-wide
+    add-wide
+    mul-wide-2
     slice-read-wide
     wide-requires
+    mul-wide-3
     add-wide-2
-    mul-wide-2
+    mul-wide-4
     slice-read-wide-2
     wide-requires-2
     unpurge-run-requires

@@ -1,28 +1,40 @@
--- `replay::show` meets its contract: a call that `refusal_of` accepts has a tray that rows 2 to 9 let pass, and at most 1024 placements. Assumes nothing.
-use mathlib.Core.Path.{_≡_, sym, ap, _∙_}
+-- `replay::show` meets its contract: the part of the work slice that is lent is no longer than the whole, which is as long when the part has come back.
+-- Assumes nothing.
 use mathlib.Core.List.{_++_}
-use denote.Ref.{now}
+use mathlib.Core.Path.{_≡_, sym}
+use mathlib.Core.Logic.{⊎-elim}
+use lib.ListN.{drop, length, replicate}
+use lib.Seq.{length-front, length-take-le}
+use native.Mathlib.Omega.{arith}
 use borrow.Author.Needs.{needs}
-use Rattle.definitions.specs.Placements.{compile}
-use Rattle.definitions.specs.Refusals.{firstThatApplies}
-use Rattle.placements.specs.Tables.{recordsOf, trayIn}
-use Rattle.placements.specs.Stages.{verdictNumber, lentRows, callRows, countRows}
-use Rattle.placements.proofs.AcceptedLaws.{accepted-lent, accepted-few}
 use Rattle.replay.proofs.show.Statement.{statement}
 use Rattle.replay.proofs.show.Tie as tie
 
--- no row of the table applies
-none : (c : tie.After-enum-told)
-    → (let k = c .before .before .before .before .args in
-    firstThatApplies (lentRows (recordsOf (k .t)) (k .board) (now (k .bytes)) ++ callRows (k .config) (k .work) (k .links) ++ countRows (compile (trayIn (recordsOf (k .t)) (k .board) (now (k .bytes)))) (k .config))
-    ≡ 0)
-none c = sym (c .before .before .refusal-of .ensures) ∙ ap verdictNumber (c .enum-told .given .1)
+-- from a place of the code back to an earlier one
+abbrev at-chart : tie.After-show-sizes → tie.After-chart2
+at-chart c = c .before .before .before .before
 
-refusal-of-requires : tie.Need-refusal-of-requires
-refusal-of-requires c κs = search needs
+abbrev at-prepare : tie.After-show-sizes → tie.After-prepare
+at-prepare c = at-chart c .before .before
 
-enum-known-verdict : tie.Need-enum-known-verdict
-enum-known-verdict c = search needs
+-- the work slice, when its part has come back
+whole : (p : tie.After-prepare) → length (p .prepare .last .1 .1 .1 .1 .1 .0 ++ drop (p .before .before .before .if1 .w) (replicate 8200 0)) ≡ 8200
+whole p = length-front (replicate 8200 0) (p .prepare .last .1 .1 .1 .1 .1 .0) (p .before .before .before .if1 .w) (p .prepare .kept .1 .1 .1 .1 .1 .0)
+
+array-borrow-prefix-work : tie.Need-array-borrow-prefix-work
+array-borrow-prefix-work c = ⊎-elim (λ v. omega arith) (λ v. omega arith) (c .if1 .came)
+
+slice-aggregate-prepare : tie.Need-slice-aggregate-prepare
+slice-aggregate-prepare c = sym (length-take-le _ _ (array-borrow-prefix-work (c .before)))
+
+slice-aggregate-prepare-2 : tie.Need-slice-aggregate-prepare-2
+slice-aggregate-prepare-2 c = search needs
+
+prepare-requires : tie.Need-prepare-requires
+prepare-requires c κs = search needs
+
+enum-known-prepared : tie.Need-enum-known-prepared
+enum-known-prepared c = search needs
 
 slice-aggregate-word : tie.Need-slice-aggregate-word
 slice-aggregate-word c = search needs
@@ -45,11 +57,22 @@ slice-aggregate-word-2 c = search needs
 word-requires-2 : tie.Need-word-requires-2
 word-requires-2 c κs = search needs
 
-enum-told : tie.Need-enum-told
-enum-told c = search needs
+enum-known-prepared-2 : tie.Need-enum-known-prepared-2
+enum-known-prepared-2 c = search needs
 
-show-system-requires : tie.Need-show-system-requires
-show-system-requires c κs = (accepted-lent _ _ _ _ _ _ (none c), accepted-few _ _ _ _ _ _ (none c))
+show-sizes-requires : tie.Need-show-sizes-requires
+show-sizes-requires c κs = search needs
+
+slice-aggregate-show-parts : tie.Need-slice-aggregate-show-parts
+slice-aggregate-show-parts c = sym (whole (at-prepare (c .before)))
+
+slice-aggregate-show-parts-2 : tie.Need-slice-aggregate-show-parts-2
+slice-aggregate-show-parts-2 c = search needs
+
+show-parts-requires : tie.Need-show-parts-requires
+show-parts-requires c κs =
+    let p = at-prepare (c .before .before) in
+    (omega (arith, whole p), p .prepare .kept .1 .1 .1 .1 .1 .1 .0)
 
 returns : tie.Need-returns
 returns c = search needs
@@ -61,8 +84,11 @@ pub show-spec : {M : Type 1} → statement M
 show-spec =
     tie.close
     (tie.spec
-    refusal-of-requires
-    enum-known-verdict
+    array-borrow-prefix-work
+    slice-aggregate-prepare
+    slice-aggregate-prepare-2
+    prepare-requires
+    enum-known-prepared
     slice-aggregate-word
     word-requires
     refusal-number-requires
@@ -70,7 +96,10 @@ show-spec =
     print-requires
     slice-aggregate-word-2
     word-requires-2
-    enum-told
-    show-system-requires
+    enum-known-prepared-2
+    show-sizes-requires
+    slice-aggregate-show-parts
+    slice-aggregate-show-parts-2
+    show-parts-requires
     returns
     returns-2)

@@ -1,14 +1,14 @@
--- `replay::show_images` meets its contract. The loop's invariant: `m` is at most 48, so 128 times it fits. Assumes nothing.
+-- `replay::show_images` meets its contract: a map is shown only below 48. The measure is what is left of these. Assumes nothing.
 use Prim.Native.Nat.{_≤_, _-_}
 use borrow.Author.Needs.{needs}
 use Rattle.replay.proofs.show_images.Statement.{statement}
 use Rattle.replay.proofs.show_images.Tie as tie
 
 abbrev Inv-loop : tie.InvT-loop
-Inv-loop images size n k m₀ t6 t7 m = m ≤ 48
+Inv-loop chart size n k m₀ t6 t7 m = m ≤ 48
 
 abbrev μ-loop : tie.MeasureT-loop
-μ-loop images size n k m₀ t6 t7 m = 48 - m
+μ-loop chart size n k m₀ t6 t7 m = 48 - m
 
 loop-holds : tie.Need-loop-holds Inv-loop μ-loop
 loop-holds c = search needs
@@ -22,11 +22,8 @@ slice-aggregate-word c = search needs
 word-requires : tie.Need-word-requires Inv-loop μ-loop
 word-requires c κs = search needs
 
-mul-numbers : tie.Need-mul-numbers Inv-loop μ-loop
-mul-numbers c = search needs
-
-numbers-requires : tie.Need-numbers-requires Inv-loop μ-loop
-numbers-requires c κs = search needs
+show-map-requires : tie.Need-show-map-requires Inv-loop μ-loop
+show-map-requires c κs = search needs
 
 slice-aggregate-word-2 : tie.Need-slice-aggregate-word-2 Inv-loop μ-loop
 slice-aggregate-word-2 c = search needs
@@ -56,8 +53,7 @@ show-images-spec =
     returns
     slice-aggregate-word
     word-requires
-    mul-numbers
-    numbers-requires
+    show-map-requires
     slice-aggregate-word-2
     word-requires-2
     add-m

@@ -1,68 +1,76 @@
 -- `always_mirrorable` meets its contract: whether the kinds from k on have partners with as many copies is what all kinds say. Assumes nothing.
-use mathlib.Core.Bool.{true, false}
-use Prim.Native.Nat.{_+_, _*_, _-_, _≤_}
+use mathlib.Core.Bool.{Bool, true, false}
+use Prim.Native.Nat.{_-_, _≤_}
 use mathlib.Core.Path.{_≡_, refl, sym, _∙_}
 use native.Mathlib.Omega.{arith}
 use borrow.Author.Tests.{eq-eqb, ne-eqb}
 use denote.Ref.{now}
-use Rattle.definitions.specs.Lists.{all, from}
+use lib.Dec.{eqb}
+use Rattle.lists.specs.Lists.{all, from}
+use Rattle.lists.proofs.RangeLaws.{all-failed, all-next, all-done}
 use Rattle.kept.proofs.ReadyLaws.{few-kinds}
-use Rattle.fast.proofs.PrunedLaws.{mirrors, mirrors-not, mirrors-told, mirrorable-start, all-failed, all-next, all-done}
+use Rattle.fast.proofs.PrunedLaws.{mirrors, mirrors-not, mirrors-told, mirrorable-start}
 use Rattle.fast.proofs.pruning.always_mirrorable.Statement.{statement}
 use Rattle.fast.proofs.pruning.always_mirrorable.Tie as tie
 
 abbrev Inv-loop : tie.InvT-loop
-Inv-loop d work heads images scans kinds pieces k₀ k =
-    (k ≤ d .kinds) × (all (mirrors kinds (d .kinds)) (from k (d .kinds - k)) ≡ all (mirrors kinds (d .kinds)) (from 0 (d .kinds - 0)))
+Inv-loop d work chart k₀ k =
+    (k ≤ d .kinds) × (all (mirrors chart (d .kinds)) (from k (d .kinds - k)) ≡ all (mirrors chart (d .kinds)) (from 0 (d .kinds - 0)))
 
 abbrev μ-loop : tie.MeasureT-loop
-μ-loop d work heads images scans kinds pieces k₀ k = d .kinds - k
+μ-loop d work chart k₀ k = d .kinds - k
 
 few : (z : tie.Start Inv-loop μ-loop) → z .args .d .kinds ≤ 16
-few z = let a = z .args in few-kinds (a .d) (now (a .work)) (now (a .images)) (now (a .scans)) (now (a .kinds)) (now (a .pieces)) (z .pre .lawful)
+few z = let a = z .args in few-kinds (a .d) (now (a .work)) (now (a .chart)) (z .pre .lawful)
+
+-- from the loop's test back to the function's entry
+abbrev entry : tie.At-loop Inv-loop μ-loop → tie.Start Inv-loop μ-loop
+entry l = l .before .before .before
+
+abbrev loop-of : tie.After-copies-of2 Inv-loop μ-loop → tie.At-loop Inv-loop μ-loop
+loop-of c = c .before .before .before .before .before .before .before
+
+-- the copies of a kind and of its partner, as they were read
+told : (c : tie.After-copies-of2 Inv-loop μ-loop) (b : Bool) → eqb (c .before .copies-of .result) (c .copies-of2 .result) ≡ b
+    → let at = loop-of c in mirrors (now (entry at .args .chart)) (entry at .args .d .kinds) (at .loop .k) ≡ b
+told c b e =
+    let at = loop-of c in
+    let a = entry at .args in
+    let p = c .before .before .before .before .partner-of in
+    let x = c .before .copies-of in
+    let y = c .copies-of2 in
+    mirrors-told (now (a .chart)) (a .d .kinds) (at .loop .k) (p .result) (p .ensures) (omega arith) (x .result) (y .result) (x .ensures) (y .ensures) b e
 
 loop-holds : tie.Need-loop-holds Inv-loop μ-loop
 loop-holds c = (omega arith, refl)
 
-mul-p : tie.Need-mul-p Inv-loop μ-loop
-mul-p c = omega (arith, few (c .before .before .before))
-
-add-p : tie.Need-add-p Inv-loop μ-loop
-add-p c = omega (arith, few (c .before .before .before))
-
-shared-slice-read-p : tie.Need-shared-slice-read-p Inv-loop μ-loop
-shared-slice-read-p c = omega (arith, c .before .before .before .before .pre .kindsFit)
-
-cast-p : tie.Need-cast-p Inv-loop μ-loop
-cast-p c = omega (arith, c .shared-slice-known .given (2 * c .before .before .before .loop .k + 1))
+partner-of-requires : tie.Need-partner-of-requires Inv-loop μ-loop
+partner-of-requires c κs = let z = entry (c .before .before) in (omega (arith, few z), z .pre .charted .long)
 
 returns : tie.Need-returns Inv-loop μ-loop
 returns c =
-    let z = c .before .before .before .before .before .before in
-    let a = z .args in
-    let l = c .before .before .before .before .before .loop in
+    let at = c .before .before .before .before .before in
+    let a = entry at .args in
     let n = a .d .kinds in
-    sym (all-failed (mirrors (now (a .kinds)) n) (l .k) n (omega arith) (mirrors-not (now (a .kinds)) n (l .k) (c .if2 .taken))) ∙ l .inv .1 ∙ mirrorable-start (a .d) (now (a .work)) (now (a .images)) (now (a .scans)) (now (a .kinds)) (now (a .pieces))
+    let k = at .loop .k in
+    let p = c .before .before .partner-of in
+    sym (all-failed (mirrors (now (a .chart)) n) k n (omega arith) (mirrors-not (now (a .chart)) n k (p .result) (p .ensures) (c .if2 .taken)))
+    ∙ at .loop .inv .1 ∙ mirrorable-start (a .d) (now (a .work)) (now (a .chart))
 
-mul-if3 : tie.Need-mul-if3 Inv-loop μ-loop
-mul-if3 c = omega (arith, few (c .before .before .before .before .before .before))
+copies-of-requires : tie.Need-copies-of-requires Inv-loop μ-loop
+copies-of-requires c κs = let z = entry (c .before .before .before .before .before) in (omega (arith, few z), z .pre .charted .long)
 
-shared-slice-read-if3 : tie.Need-shared-slice-read-if3 Inv-loop μ-loop
-shared-slice-read-if3 c = omega (arith, c .before .before .before .before .before .before .before .pre .kindsFit)
-
-mul-if3-2 : tie.Need-mul-if3-2 Inv-loop μ-loop
-mul-if3-2 c = omega (arith, few (c .before .before .before .before .before .before .before))
-
-shared-slice-read-if3-2 : tie.Need-shared-slice-read-if3-2 Inv-loop μ-loop
-shared-slice-read-if3-2 c = omega (arith, c .before .before .before .before .before .before .before .before .pre .kindsFit)
+copies-of-requires-2 : tie.Need-copies-of-requires-2 Inv-loop μ-loop
+copies-of-requires-2 c κs = let z = entry (c .before .before .before .before .before .before) in (omega (arith, few z), z .pre .charted .long)
 
 returns-2 : tie.Need-returns-2 Inv-loop μ-loop
 returns-2 c =
-    let z = c .before .before .before .before .before .before .before .before .before in
-    let a = z .args in
-    let l = c .before .before .before .before .before .before .before .before .loop in
+    let k = c .before in
+    let at = loop-of k in
+    let a = entry at .args in
     let n = a .d .kinds in
-    sym (all-failed (mirrors (now (a .kinds)) n) (l .k) n (omega arith) (mirrors-told (now (a .kinds)) n (l .k) (omega arith) false (ne-eqb _ _ (c .if3 .taken)))) ∙ l .inv .1 ∙ mirrorable-start (a .d) (now (a .work)) (now (a .images)) (now (a .scans)) (now (a .kinds)) (now (a .pieces))
+    sym (all-failed (mirrors (now (a .chart)) n) (at .loop .k) n (omega arith) (told k false (ne-eqb _ _ (c .if3 .taken))))
+    ∙ at .loop .inv .1 ∙ mirrorable-start (a .d) (now (a .work)) (now (a .chart))
 
 add-k : tie.Need-add-k Inv-loop μ-loop
 add-k c = omega arith
@@ -72,19 +80,18 @@ loop-less c = omega arith
 
 loop-again : tie.Need-loop-again Inv-loop μ-loop
 loop-again c =
-    let z = c .before .before .before .before .before .before .before .before .before in
-    let a = z .args in
-    let l = c .before .before .before .before .before .before .before .before .loop in
+    let k = c .before in
+    let at = loop-of k in
+    let a = entry at .args in
     let n = a .d .kinds in
-    (omega arith, sym (all-next (mirrors (now (a .kinds)) n) (l .k) n (omega arith) (mirrors-told (now (a .kinds)) n (l .k) (omega arith) true (eq-eqb _ _ (c .if3 .left)))) ∙ l .inv .1)
+    (omega arith, sym (all-next (mirrors (now (a .chart)) n) (at .loop .k) n (omega arith) (told k true (eq-eqb _ _ (c .if3 .left)))) ∙ at .loop .inv .1)
 
 returns-3 : tie.Need-returns-3 Inv-loop μ-loop
 returns-3 c =
-    let z = c .before .before .before in
-    let a = z .args in
-    let l = c .before .before .loop in
+    let at = c .before .before in
+    let a = entry at .args in
     let n = a .d .kinds in
-    sym (all-done (mirrors (now (a .kinds)) n) (l .k) n (c .if1 .left)) ∙ l .inv .1 ∙ mirrorable-start (a .d) (now (a .work)) (now (a .images)) (now (a .scans)) (now (a .kinds)) (now (a .pieces))
+    sym (all-done (mirrors (now (a .chart)) n) (at .loop .k) n (c .if1 .left)) ∙ at .loop .inv .1 ∙ mirrorable-start (a .d) (now (a .work)) (now (a .chart))
 
 pub always-mirrorable-spec : {M : Type 1} → statement M
 always-mirrorable-spec =
@@ -93,15 +100,10 @@ always-mirrorable-spec =
     Inv-loop
     μ-loop
     loop-holds
-    mul-p
-    add-p
-    shared-slice-read-p
-    cast-p
+    partner-of-requires
     returns
-    mul-if3
-    shared-slice-read-if3
-    mul-if3-2
-    shared-slice-read-if3-2
+    copies-of-requires
+    copies-of-requires-2
     returns-2
     add-k
     loop-less

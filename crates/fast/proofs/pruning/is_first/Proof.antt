@@ -17,16 +17,16 @@ returns c = let p = c .before .is-pruned in test-fails _ _ (not (p .result)) (ap
 
 leads-requires : tie.Need-leads-requires
 leads-requires c κs =
-    let z = c .before .before .before .before .before .before .before .before .before in
+    let z = c .before .before .before .before .before in
     let a = z .args in
     let ready = z .pre .0 in
     let fit = ready .rowsFit in
     let h = z .pre .1 in (
       omega arith,
-      first-small (a .d) (now (a .work)) (now (a .heads)) (now (a .images)) (now (a .scans)) (now (a .kinds)) (now (a .pieces)) ready (a .r) h,
+      first-small (a .d) (now (a .work)) (now (a .chart)) ready (a .r) h,
       z .pre .2,
       ready .fewPieces,
-      ready .piecesFit,
+      ready .charted .long,
     )
 
 returns-2 : tie.Need-returns-2

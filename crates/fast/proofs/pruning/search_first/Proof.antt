@@ -1,7 +1,6 @@
 -- `search_first` meets its contract: what the rows of kind 0 from r on list, behind what is on the page, is the whole; each row is searched as the
 -- definition chooses it, and its copy is put back. Assumes nothing.
 use Prim.Native.Nat.{ℕ, _+_, _-_, _≤_, _<_}
-use mathlib.Core.Bool.{false}
 use mathlib.Core.List.{List, []}
 use mathlib.Core.Logic.{⊎-elim}
 use mathlib.Core.Path.{_≡_, refl, sym, ap, ap₂, _∙_}
@@ -11,104 +10,170 @@ use borrow.Author.Tests.{not-true}
 use denote.Ref.{now}
 use lib.ListN.{length, getD, set, length-set}
 use lib.Seq.{getD-set-same}
-use Rattle.definitions.specs.Emission.{emits}
+use Rattle.lists.proofs.TestLaws.{and-true-left}
+use Rattle.lists.proofs.ListLaws.{getD-pos}
+use Rattle.definitions.specs.Emission.{Emitted, emits}
+use Rattle.definitions.specs.Kept.{Identify}
 use Rattle.definitions.specs.Orders.{State}
-use Rattle.definitions.proofs.SearchLaws.{getD-pos}
-use Rattle.definitions.specs.Refusals.{identifies}
-use Rattle.rows.specs.Systems.{systemIn}
-use Rattle.kept.specs.Emission.{emittedOf}
+use Rattle.rows.specs.Systems.{System, systemIn}
+use Rattle.kept.specs.Emission.{emittedOf, identified}
+use Rattle.kept.specs.Ready.{Ready}
 use Rattle.kept.specs.declared.emission.Emission.{Emission}
 use Rattle.rows.specs.Rows.{rowAt}
 use Rattle.fast.specs.Searching.{fastBelow, stateBy}
-use Rattle.fast.specs.Pruned.{prunedBy}
+use Rattle.fast.specs.Pruned.{prunedBy, fastFirst}
 use Rattle.kept.proofs.ReadyLaws.{rows-many, few-rows}
-use Rattle.fast.proofs.UnmetLaws.{tried}
-use Rattle.fast.proofs.PrunedLaws.{nothingCovered, firstFrom, first-start, first-emitted, first-untried, first-full, first-over, first-left, copy-back, later-kinds, first-kind, first-path, first-state, first-searching}
+use Rattle.fast.proofs.PrunedLaws.{nothingCovered, firstFrom, first-start, first-emitted, first-untried, first-full, first-over, first-left}
+use Rattle.fast.proofs.PrunedLaws.{copy-back, later-kinds, first-kind, first-path, first-state, first-searching}
 use Rattle.fast.proofs.pruning.search_first.Statement.{statement}
 use Rattle.fast.proofs.pruning.search_first.Tie as tie
 
 abbrev Inv-loop : tie.InvT-loop
-Inv-loop d work heads images scans kinds pieces turned mirrored left₀ path₀ last shown capacity answers₀ s₀ r₀ left path answers s r =
-    let sys = systemIn d work images scans kinds pieces in
-    let i = identifies turned mirrored in
-    let t = stateBy sys left₀ nothingCovered [] in
+Inv-loop d work chart wanted left₀ path₀ last shown answers₀ s₀ r₀ left path answers s r =
+    let S = systemIn d work chart in
+    let i = identified wanted in
+    let t = stateBy S left₀ nothingCovered [] in
     (left ≡ left₀) × (length path ≡ length path₀) × (length answers ≡ length answers₀) × (r ≤ d .rows)
-    × (emits capacity (firstFrom sys i t (d .rows) r) (emittedOf s last answers) ≡ emits capacity (firstFrom sys i t (d .rows) 0) (emittedOf s₀ last answers₀))
+    × (emits (wanted .capacity) (firstFrom S i t (d .rows) r) (emittedOf s last answers)
+    ≡ emits (wanted .capacity) (firstFrom S i t (d .rows) 0) (emittedOf s₀ last answers₀))
 
 abbrev μ-loop : tie.MeasureT-loop
-μ-loop d work heads images scans kinds pieces turned mirrored left₀ path₀ last shown capacity answers₀ s₀ r₀ left path answers s r =
-    d .rows - r
+μ-loop d work chart wanted left₀ path₀ last shown answers₀ s₀ r₀ left path answers s r = d .rows - r
 
--- the place where the loop is tested, and the function's entry
-abbrev turn : tie.After-search Inv-loop μ-loop → tie.At-loop Inv-loop μ-loop
-turn c = c .before .before .before .before .before .before .before .before .before .before .before .before
+-- ---- places of the code: the function's entry, the loop's test, a row of kind 0, it is and-true-left, and its search has ended; and from each back to an earlier one
+abbrev Start : Type 0
+Start = tie.Start Inv-loop μ-loop
 
-abbrev entry : tie.At-loop Inv-loop μ-loop → tie.Start Inv-loop μ-loop
-entry c = c .before .before .before .before .before .before .before .before .before .before .before .before
+abbrev Loop : Type 0
+Loop = tie.At-loop Inv-loop μ-loop
 
-kind-zero : (c : tie.Else2 Inv-loop μ-loop) → rowAt (now (entry (c .before .before .before .before) .args .work)) (c .before .before .before .before .loop .r) .kind ≡ 0
-kind-zero c = let l = c .if2 .left in omega (arith, c .before .kind-at .ensures)
+abbrev Row : Type 0
+Row = tie.Else2 Inv-loop μ-loop
+
+abbrev Tried : Type 0
+Tried = tie.Then3 Inv-loop μ-loop
+
+abbrev Searched : Type 0
+Searched = tie.After-search Inv-loop μ-loop
+
+abbrev entry : Loop → Start
+entry l = l .before .before .before .before .before .before .before .before
+
+abbrev loop-of : Row → Loop
+loop-of c = c .before .before .before .before
+
+abbrev row-of : Tried → Row
+row-of c = c .before .before
+
+abbrev tried-of : Searched → Tried
+tried-of c = c .before .before .before .before .before .before
+
+abbrev turn : Searched → Loop
+turn c = loop-of (row-of (tried-of c))
+
+-- ---- what the contract speaks of
+module _ (z : Start) where
+  abbrev S : System
+  S = systemIn (z .args .d) (now (z .args .work)) (now (z .args .chart))
+
+  abbrev i : Identify
+  i = identified (z .args .wanted)
+
+  abbrev t : State
+  t = stateBy S (now (z .args .left)) nothingCovered []
+
+  abbrev capacity : ℕ
+  capacity = z .args .wanted .capacity
+
+  abbrev old : Emitted
+  old = emittedOf (z .args .e) (now (z .args .last)) (now (z .args .answers))
+
+  -- all that the rows of kind 0 list, behind what is on the page
+  abbrev whole : Emitted
+  whole = emits capacity (firstFrom S i t (z .args .d .rows) 0) old
+
+  whole-is : whole ≡ emits capacity (fastFirst S i t) old
+  whole-is =
+      let a = z .args in
+      ap (λ (l : List (List ℕ)). emits capacity l old) (first-start S i t (a .d .rows) (rows-many (a .d) (now (a .work)) (now (a .chart))))
+
+  ready : Ready (z .args .d) (now (z .args .work)) (now (z .args .chart))
+  ready = z .pre .0 .0
+
+  some-left : 0 < getD (now (z .args .left)) 0 0
+  some-left = z .pre .0 .5
+
+-- what is on the page at the loop's test
+abbrev page : Loop → Emitted
+page l = emittedOf (l .loop .s) (now (entry l .args .last)) (l .loop .answers)
+
+-- ---- a row of kind 0
+module _ (c : Row) where
+  is-row : loop-of c .loop .r < entry (loop-of c) .args .d .rows
+  is-row = c .before .before .if1 .taken
+
+  kind-zero : rowAt (now (entry (loop-of c) .args .work)) (loop-of c .loop .r) .kind ≡ 0
+  kind-zero = let l = c .if2 .left in omega (arith, c .before .kind-at .ensures)
+
+-- ---- it is tried: there is a copy, and a place in the path
+module _ (l : Loop) where
+  left-some : 0 < length (l .loop .left)
+  left-some =
+      let a = entry l .args in
+      let e : length (l .loop .left) ≡ length (now (a .left)) = ap (λ (x : List ℕ). length x) (l .loop .inv .0) in
+      let k = getD-pos (now (a .left)) 0 (some-left (entry l)) in
+      omega arith
+
+  path-is : length (l .loop .path) ≡ 128
+  path-is = l .loop .inv .1 ∙ entry l .pre .0 .1
 
 -- ---- after a search: the copy is put back, the slices are as long as before, and what is left to list is that of the rows behind
-put-back : (c : tie.After-search Inv-loop μ-loop) → set (c .search .last .1 .1 .1 .1 .1 .1 .1 .1 .1 .0) 0 (getD (c .search .last .1 .1 .1 .1 .1 .1 .1 .1 .1 .0) 0 0 + 1) ≡ now (entry (turn c) .args .left)
-put-back c =
-    let z = entry (turn c) in
-    let a = z .args in
-    let l = turn c .loop in
-    copy-back (l .left) (now (a .left)) (c .search .last .1 .1 .1 .1 .1 .1 .1 .1 .1 .0) (l .inv .0) (z .pre .0 .5) (c .search .ensures .1 .0)
+module _ (c : Searched) where
+  abbrev z : Start
+  z = entry (turn c)
 
-left-long : (c : tie.After-search Inv-loop μ-loop) → 0 < length (c .search .last .1 .1 .1 .1 .1 .1 .1 .1 .1 .0)
-left-long c =
-    let z = entry (turn c) in
-    let a = z .args in
-    let l = turn c .loop in
-    let e : length (l .left) ≡ length (now (a .left)) = ap (λ (x : List ℕ). length x) (l .inv .0) in
-    let k = getD-pos (now (a .left)) 0 (z .pre .0 .5) in
-    omega (arith, c .search .kept .1 .1 .1 .1 .1 .1 .1 .1 .1 .0, length-set (l .left) 0 (getD (l .left) 0 0 - 1))
+  abbrev left-after : List ℕ
+  left-after = c .search .last .1 .1 .1 .1 .0
 
-left-was : (c : tie.After-search Inv-loop μ-loop) → getD (c .search .last .1 .1 .1 .1 .1 .1 .1 .1 .1 .0) 0 0 + 1 ≡ getD (now (entry (turn c) .args .left)) 0 0
-left-was c =
-    sym (getD-set-same (c .search .last .1 .1 .1 .1 .1 .1 .1 .1 .1 .0) 0 (getD (c .search .last .1 .1 .1 .1 .1 .1 .1 .1 .1 .0) 0 0 + 1) 0 (left-long c)) ∙ ap (λ (x : List ℕ). getD x 0 0) (put-back c)
+  abbrev path-after : List ℕ
+  path-after = c .search .last .1 .1 .1 .1 .1 .0
 
-path-long : (c : tie.After-search Inv-loop μ-loop) → length (c .search .last .1 .1 .1 .1 .1 .1 .1 .1 .1 .1 .0) ≡ length (now (entry (turn c) .args .path))
-path-long c =
-    let z = entry (turn c) in
-    let a = z .args in
-    let l = turn c .loop in
-    c .search .kept .1 .1 .1 .1 .1 .1 .1 .1 .1 .1 .0 ∙ length-set (l .path) 0 (l .r) ∙ l .inv .1
+  abbrev answers-after : List ℕ
+  answers-after = c .search .last .1 .1 .1 .1 .1 .1 .1 .1 .1 .1 .0
 
-answers-long : (c : tie.After-search Inv-loop μ-loop) → length (c .search .last .1 .1 .1 .1 .1 .1 .1 .1 .1 .1 .1 .1 .1 .1 .1 .1 .0) ≡ length (now (entry (turn c) .args .answers))
-answers-long c =
-    let z = entry (turn c) in
-    let a = z .args in
-    let l = turn c .loop in
-    c .search .kept .1 .1 .1 .1 .1 .1 .1 .1 .1 .1 .1 .1 .1 .1 .1 .1 .0 ∙ l .inv .2
+  put-back : set left-after 0 (getD left-after 0 0 + 1) ≡ now (z .args .left)
+  put-back = let l = turn c .loop in copy-back (l .left) (now (z .args .left)) left-after (l .inv .0) (some-left z) (c .search .ensures .1 .0)
 
-emitted : (c : tie.After-search Inv-loop μ-loop)
-    → let a = entry (turn c) .args in
-    let sys = systemIn (a .d) (now (a .work)) (now (a .images)) (now (a .scans)) (now (a .kinds)) (now (a .pieces)) in
-    let i = identifies (a .turned) (a .mirrored) in
-    let t = stateBy sys (now (a .left)) nothingCovered [] in
-    emits (a .capacity) (firstFrom sys i t (a .d .rows) (turn c .loop .r + 1)) (emittedOf (c .search .result) (now (a .last)) (c .search .last .1 .1 .1 .1 .1 .1 .1 .1 .1 .1 .1 .1 .1 .1 .1 .1 .0))
-    ≡ emits (a .capacity) (firstFrom sys i t (a .d .rows) 0) (emittedOf (a .e) (now (a .last)) (now (a .answers)))
-emitted c =
-    let z = entry (turn c) in
-    let a = z .args in
-    let l = turn c .loop in
-    let sys = systemIn (a .d) (now (a .work)) (now (a .images)) (now (a .scans)) (now (a .kinds)) (now (a .pieces)) in
-    let i = identifies (a .turned) (a .mirrored) in
-    let t = stateBy sys (now (a .left)) nothingCovered [] in
-    let h : l .r < a .d .rows = c .before .before .before .before .before .before .before .before .before .before .if1 .taken in
-    let k = kind-zero (c .before .before .before .before .before .before .before .before) in
-    let long : length (l .path) ≡ 128 = l .inv .1 ∙ z .pre .0 .1 in
-    let pruned : prunedBy sys i (l .r) ≡ false = not-true (prunedBy sys i (l .r)) (tried _ _ (sym (c .before .before .before .before .before .before .before .is-first .ensures) ∙ c .before .before .before .before .before .before .if3 .taken)) in
-    let x = emittedOf (l .s) (now (a .last)) (l .answers) in
-    first-emitted sys i t (a .d .rows) (l .r) (a .capacity) x (emits (a .capacity) (firstFrom sys i t (a .d .rows) 0) (emittedOf (a .e) (now (a .last)) (now (a .answers))))
-    (emittedOf (c .search .result) (now (a .last)) (c .search .last .1 .1 .1 .1 .1 .1 .1 .1 .1 .1 .1 .1 .1 .1 .1 .1 .0)) h (first-kind (a .d) (now (a .work)) (now (a .heads)) (now (a .images)) (now (a .scans)) (now (a .kinds)) (now (a .pieces)) (z .pre .0 .0) (l .r) h k) pruned
-    (c .search .ensures .0
-    ∙ ap (λ (u : State). emits (a .capacity) (fastBelow sys i u) x)
-    (first-state (a .d) (now (a .work)) (now (a .heads)) (now (a .images)) (now (a .scans)) (now (a .kinds)) (now (a .pieces)) (z .pre .0 .0) (l .r) h k (l .path) long (now (a .left)) (l .left) (c .before .before .before .before .mask-at .result) (l .inv .0) (c .before .before .before .before .mask-at .ensures)))
-    (l .inv .4)
+  left-long : 0 < length left-after
+  left-long = let l = turn c .loop in omega (arith, left-some (turn c), c .search .kept .1 .1 .1 .1 .0, length-set (l .left) 0 (getD (l .left) 0 0 - 1))
+
+  left-was : getD left-after 0 0 + 1 ≡ getD (now (z .args .left)) 0 0
+  left-was = sym (getD-set-same left-after 0 (getD left-after 0 0 + 1) 0 left-long) ∙ ap (λ (x : List ℕ). getD x 0 0) put-back
+
+  path-long : length path-after ≡ length (now (z .args .path))
+  path-long = let l = turn c .loop in c .search .ensures .1 .1 .long ∙ length-set (l .path) 0 (l .r) ∙ l .inv .1
+
+  answers-long : length answers-after ≡ length (now (z .args .answers))
+  answers-long = c .search .kept .1 .1 .1 .1 .1 .1 .1 .1 .1 .1 .0 ∙ turn c .loop .inv .2
+
+  abbrev page-after : Emitted
+  page-after = emittedOf (c .search .result) (now (z .args .last)) answers-after
+
+  emitted : emits (capacity z) (firstFrom (S z) (i z) (t z) (z .args .d .rows) (turn c .loop .r + 1)) page-after ≡ whole z
+  emitted =
+      let a = z .args in
+      let l = turn c .loop in
+      let row = row-of (tried-of c) in
+      let h = is-row row in
+      let k = kind-zero row in
+      let mask = c .before .before .before .before .mask-at in
+      let pruned = not-true (prunedBy (S z) (i z) (l .r)) (and-true-left _ _ (sym (tried-of c .before .is-first .ensures) ∙ tried-of c .if3 .taken)) in
+      let first = first-kind (a .d) (now (a .work)) (now (a .chart)) (ready z) (l .r) h k in
+      let below =
+      first-state (a .d) (now (a .work)) (now (a .chart)) (ready z) (l .r) h k (l .path) (path-is (turn c)) (now (a .left)) (l .left) (mask .result) (l .inv .0)
+      (mask .ensures) in
+      first-emitted (S z) (i z) (t z) (a .d .rows) (l .r) (capacity z) (page (turn c)) (whole z) page-after h first pruned
+      (c .search .ensures .0 ∙ ap (λ (u : State). emits (capacity z) (fastBelow (S z) (i z) u) (page (turn c))) below) (l .inv .4)
 
 loop-holds : tie.Need-loop-holds Inv-loop μ-loop
 loop-holds c = (refl, refl, refl, omega arith, refl)
@@ -127,80 +192,62 @@ same-length-3 c = search needs
 
 returns : tie.Need-returns Inv-loop μ-loop
 returns c =
-    let z = c .before .before .before .before .before .before .before .before .before .before .before .before .before .before .before .before in
+    let at = c .before .before .before .before in
+    let z = entry at in
     let a = z .args in
-    let l = c .before .before .before .before .loop in
-    let sys = systemIn (a .d) (now (a .work)) (now (a .images)) (now (a .scans)) (now (a .kinds)) (now (a .pieces)) in
-    let i = identifies (a .turned) (a .mirrored) in
-    let t = stateBy sys (now (a .left)) nothingCovered [] in
-    let h : l .r < a .d .rows = c .before .before .if1 .taken in
+    let l = at .loop in
     let k : 0 < rowAt (now (a .work)) (l .r) .kind = omega (arith, c .before .kind-at .ensures, c .if2 .taken) in
-    (first-left sys i t (a .d .rows) (l .r) (a .capacity) (emittedOf (l .s) (now (a .last)) (l .answers)) (emits (a .capacity) (firstFrom sys i t (a .d .rows) 0) (emittedOf (a .e) (now (a .last)) (now (a .answers)))) (later-kinds (a .d) (now (a .work)) (now (a .heads)) (now (a .images)) (now (a .scans)) (now (a .kinds)) (now (a .pieces)) (z .pre .0 .0) (l .r) h k) (l .inv .4) ∙ ap (λ (L : List (List ℕ)). emits (a .capacity) L (emittedOf (a .e) (now (a .last)) (now (a .answers)))) (first-start sys i t (a .d .rows) (rows-many (a .d) (now (a .work)) (now (a .images)) (now (a .scans)) (now (a .kinds)) (now (a .pieces)))), l .inv .0)
+    let others = later-kinds (a .d) (now (a .work)) (now (a .chart)) (ready z) (l .r) (c .before .before .if1 .taken) k in
+    let over = first-left (S z) (i z) (t z) (a .d .rows) (l .r) (capacity z) (page at) (whole z) others (l .inv .4) in
+    (over ∙ whole-is z, (l .inv .0, record { rows = refl; long = l .inv .1 }))
 
 is-first-requires : tie.Need-is-first-requires Inv-loop μ-loop
-is-first-requires c κs =
-    let z = c .before .before .before .before .before .before .before .before .before .before .before .before .before .before .before .before in
-    (z .pre .0 .0, c .before .before .if1 .taken, z .pre .0 .2)
+is-first-requires c κs = let z = entry (loop-of c) in (ready z, is-row c, z .pre .0 .2)
 
 slice-read-left : tie.Need-slice-read-left Inv-loop μ-loop
-slice-read-left c =
-    let z = c .before .before .before .before .before .before .before .before .before .before .before .before .before .before .before .before .before .before .before in
-    let l = c .before .before .before .before .before .before .before .loop in
-    let e : length (l .left) ≡ length (now (z .args .left)) = ap (λ (x : List ℕ). length x) (l .inv .0) in
-    let k = getD-pos (now (z .args .left)) 0 (z .pre .0 .5) in
-    omega arith
+slice-read-left c = left-some (loop-of (row-of (c .before)))
 
 sub-left : tie.Need-sub-left Inv-loop μ-loop
-sub-left c =
-    let z = c .before .before .before .before .before .before .before .before .before .before .before .before .before .before .before .before .before .before .before in
-    omega (arith, ap (λ (x : List ℕ). getD x 0 0) (c .before .before .before .before .before .before .before .loop .inv .0), z .pre .0 .5)
+sub-left c = let at = loop-of (row-of (c .before)) in omega (arith, ap (λ (x : List ℕ). getD x 0 0) (at .loop .inv .0), some-left (entry at))
 
 slice-write-left : tie.Need-slice-write-left Inv-loop μ-loop
-slice-write-left c =
-    let z = c .before .before .before .before .before .before .before .before .before .before .before .before .before .before .before .before .before .before .before in
-    let l = c .before .before .before .before .before .before .before .loop in
-    let e : length (l .left) ≡ length (now (z .args .left)) = ap (λ (x : List ℕ). length x) (l .inv .0) in
-    let k = getD-pos (now (z .args .left)) 0 (z .pre .0 .5) in
-    omega arith
+slice-write-left c = left-some (loop-of (row-of (c .before)))
 
 cast-path : tie.Need-cast-path Inv-loop μ-loop
 cast-path c =
-    let z = c .before .before .before .before .before .before .before .before .before .before .before .before .before .before .before .before .before .before .before in
-    let a = z .args in
-    let l = c .before .before .before .before .before .before .before .loop in
-    omega (arith, few-rows (a .d) (now (a .work)) (now (a .images)) (now (a .scans)) (now (a .kinds)) (now (a .pieces)) (z .pre .0 .0 .lawful), c .before .before .before .before .before .if1 .taken)
+    let row = row-of (c .before) in
+    let z = entry (loop-of row) in
+    omega (arith, few-rows (z .args .d) (now (z .args .work)) (now (z .args .chart)) (ready z .lawful), is-row row)
 
 slice-write-path : tie.Need-slice-write-path Inv-loop μ-loop
-slice-write-path c =
-    let z = c .before .before .before .before .before .before .before .before .before .before .before .before .before .before .before .before .before .before .before in
-    let a = z .args in
-    let l = c .before .before .before .before .before .before .before .loop in
-    omega (arith, l .inv .1, z .pre .0 .1)
+slice-write-path c = omega (arith, path-is (loop-of (row-of (c .before))))
 
 mask-at-requires : tie.Need-mask-at-requires Inv-loop μ-loop
-mask-at-requires c κs =
-    let z = c .before .before .before .before .before .before .before .before .before .before .before .before .before .before .before .before .before .before .before in
-    let a = z .args in
-    let l = c .before .before .before .before .before .before .before .loop in
-    omega (arith, z .pre .0 .0 .rowsFit, c .before .before .before .before .before .if1 .taken)
+mask-at-requires c κs = let row = row-of (c .before) in omega (arith, ready (entry (loop-of row)) .rowsFit, is-row row)
 
 search-requires : tie.Need-search-requires Inv-loop μ-loop
 search-requires c κs =
-    let z = c .before .before .before .before .before .before .before .before .before .before .before .before .before .before .before .before .before .before .before .before .before .before .before in
+    let mask = c .before .before .before .mask-at in
+    let row = row-of (c .before .before .before .before .before) in
+    let at = loop-of row in
+    let z = entry at in
     let a = z .args in
-    let l = c .before .before .before .before .before .before .before .before .before .before .before .loop in
-    let h : l .r < a .d .rows = c .before .before .before .before .before .before .before .before .before .if1 .taken in
-    let k = kind-zero (c .before .before .before .before .before .before .before) in
-    let long : length (l .path) ≡ 128 = l .inv .1 ∙ z .pre .0 .1 in (
-      (z .pre .0 .0, first-path (a .d) (now (a .work)) (now (a .heads)) (now (a .images)) (now (a .scans)) (now (a .kinds)) (now (a .pieces)) (z .pre .0 .0) (l .r) h k (l .path) long, length-set (l .path) 0 (l .r) ∙ long, z .pre .0 .2, z .pre .0 .3, omega (arith, l .inv .2, z .pre .0 .4)),
-      first-searching (a .d) (now (a .work)) (now (a .heads)) (now (a .images)) (now (a .scans)) (now (a .kinds)) (now (a .pieces)) (z .pre .0 .0) (l .r) h k (l .path) long (now (a .left)) (l .left) (c .before .before .before .mask-at .result) (l .inv .0) (c .before .before .before .mask-at .ensures) (z .pre .1) (z .pre .0 .5),
+    let l = at .loop in
+    let h = is-row row in
+    let k = kind-zero row in
+    let path = first-path (a .d) (now (a .work)) (now (a .chart)) (ready z) (l .r) h k (l .path) (path-is at) in (
+      (ready z, path, length-set (l .path) 0 (l .r) ∙ path-is at, z .pre .0 .2, z .pre .0 .3, omega (arith, l .inv .2, z .pre .0 .4)),
+      first-searching (a .d) (now (a .work)) (now (a .chart)) (ready z) (l .r) h k (l .path) (path-is at) (now (a .left)) (l .left) (mask .result) (l .inv .0)
+          (mask .ensures) (z .pre .1) (some-left z),
     )
 
 slice-read-left-2 : tie.Need-slice-read-left-2 Inv-loop μ-loop
 slice-read-left-2 c = left-long (c .before .before .before .before .before .before .before)
 
 add-left : tie.Need-add-left Inv-loop μ-loop
-add-left c = omega (arith, left-was (c .before .before .before .before .before .before .before), c .before .before .before .before .before .before .before .before .before .before .before .before .before .before .before .before .before .before .before .before .before .before .before .before .slice-known .given 0)
+add-left c =
+    let w = c .before .before .before .before .before .before .before in
+    omega (arith, left-was w, turn w .before .before .before .before .before .slice-known .given 0)
 
 slice-write-left-2 : tie.Need-slice-write-left-2 Inv-loop μ-loop
 slice-write-left-2 c = left-long (c .before .before .before .before .before .before .before)
@@ -216,15 +263,12 @@ same-length-6 c = answers-long (c .before .before .before .before .before .befor
 
 returns-2 : tie.Need-returns-2 Inv-loop μ-loop
 returns-2 c =
-    let z = c .before .before .before .before .before .before .before .before .before .before .before .before .before .before .before .before .before .before .before .before .before .before .before .before .before .before .before .before .before .before .before .before in
-    let a = z .args in
-    let l = c .before .before .before .before .before .before .before .before .before .before .before .before .before .before .before .before .before .before .before .before .loop in
     let w = c .before .before .before .before .before .before .before .before in
-    let sys = systemIn (a .d) (now (a .work)) (now (a .images)) (now (a .scans)) (now (a .kinds)) (now (a .pieces)) in
-    let i = identifies (a .turned) (a .mirrored) in
-    let t = stateBy sys (now (a .left)) nothingCovered [] in
-    let y = emittedOf (w .search .result) (now (a .last)) (w .search .last .1 .1 .1 .1 .1 .1 .1 .1 .1 .1 .1 .1 .1 .1 .1 .1 .0) in
-    (first-full sys i t (a .d .rows) (l .r + 1) (a .capacity) y (emits (a .capacity) (firstFrom sys i t (a .d .rows) 0) (emittedOf (a .e) (now (a .last)) (now (a .answers)))) (c .if4 .taken) (emitted w) ∙ ap (λ (L : List (List ℕ)). emits (a .capacity) L (emittedOf (a .e) (now (a .last)) (now (a .answers)))) (first-start sys i t (a .d .rows) (rows-many (a .d) (now (a .work)) (now (a .images)) (now (a .scans)) (now (a .kinds)) (now (a .pieces)))), put-back w)
+    let z = entry (turn w) in
+    let r = turn w .loop .r in (
+      first-full (S z) (i z) (t z) (z .args .d .rows) (r + 1) (capacity z) (page-after w) (whole z) (c .if4 .taken) (emitted w) ∙ whole-is z,
+      (put-back w, record { rows = refl; long = path-long w }),
+    )
 
 add-r : tie.Need-add-r Inv-loop μ-loop
 add-r c = omega arith
@@ -234,16 +278,15 @@ loop-less c = omega arith
 
 loop-again : tie.Need-loop-again Inv-loop μ-loop
 loop-again c =
-    let z = c .before .before .before .before .before .before .before .before .before .before .before .before .before .before .before .before .before .before in
+    let row = c .before .before in
+    let at = loop-of row in
+    let z = entry at in
     let a = z .args in
-    let l = c .before .before .before .before .before .before .loop in
-    let sys = systemIn (a .d) (now (a .work)) (now (a .images)) (now (a .scans)) (now (a .kinds)) (now (a .pieces)) in
-    let i = identifies (a .turned) (a .mirrored) in
-    let t = stateBy sys (now (a .left)) nothingCovered [] in
-    let h : l .r < a .d .rows = c .before .before .before .before .if1 .taken in
+    let l = at .loop in
+    let next : Emission → List ℕ → Emitted = λ u v. emits (capacity z) (firstFrom (S z) (i z) (t z) (a .d .rows) (l .r + 1)) (emittedOf u (now (a .last)) v) in
     ⊎-elim
     (λ w.
-    let x : tie.After-search Inv-loop μ-loop =
+    let x : Searched =
     record {
       before = record {
         before = record {
@@ -266,18 +309,17 @@ loop-again c =
       w .15 ∙ put-back x,
       ap (λ (p : List ℕ). length p) (w .16) ∙ path-long x,
       ap (λ (p : List ℕ). length p) (w .17) ∙ answers-long x,
-      omega arith,
-      ap₂ (λ (u : Emission) (v : List ℕ). emits (a .capacity) (firstFrom sys i t (a .d .rows) (l .r + 1)) (emittedOf u (now (a .last)) v)) (w .18) (w .17) ∙ emitted x,
+      omega (arith, is-row row),
+      ap₂ next (w .18) (w .17) ∙ emitted x,
     ))
     (λ w. (
       w .1 ∙ l .inv .0,
       ap (λ (p : List ℕ). length p) (w .2) ∙ l .inv .1,
       ap (λ (p : List ℕ). length p) (w .3) ∙ l .inv .2,
-      omega arith,
-      ap₂ (λ (u : Emission) (v : List ℕ). emits (a .capacity) (firstFrom sys i t (a .d .rows) (l .r + 1)) (emittedOf u (now (a .last)) v)) (w .4) (w .3)
-          ∙ first-untried (a .d) (now (a .work)) (now (a .heads)) (now (a .images)) (now (a .scans)) (now (a .kinds)) (now (a .pieces)) (z .pre .0 .0) (l .r) h (kind-zero (c .before .before))
-          (now (a .left)) (z .pre .1) (z .pre .0 .5) (now (a .last)) (now (a .shown)) (z .pre .0 .3) i (a .capacity) (emittedOf (l .s) (now (a .last)) (l .answers)) (emits (a .capacity) (firstFrom sys i t (a .d .rows) 0) (emittedOf (a .e) (now (a .last)) (now (a .answers)))) refl
-          (sym (c .before .is-first .ensures) ∙ w .0 .left) (l .inv .4),
+      omega (arith, is-row row),
+      ap₂ next (w .4) (w .3)
+          ∙ first-untried (a .d) (now (a .work)) (now (a .chart)) (ready z) (l .r) (is-row row) (kind-zero row) (now (a .left)) (z .pre .1) (some-left z)
+          (now (a .last)) (now (a .shown)) (z .pre .0 .3) (i z) (capacity z) (page at) (whole z) refl (sym (c .before .is-first .ensures) ∙ w .0 .left) (l .inv .4),
     ))
     (c .if3 .came)
 
@@ -292,13 +334,12 @@ same-length-9 c = search needs
 
 returns-3 : tie.Need-returns-3 Inv-loop μ-loop
 returns-3 c =
-    let z = c .before .before .before .before .before .before .before .before .before .before .before .before .before .before in
-    let a = z .args in
-    let l = c .before .before .loop in
-    let sys = systemIn (a .d) (now (a .work)) (now (a .images)) (now (a .scans)) (now (a .kinds)) (now (a .pieces)) in
-    let i = identifies (a .turned) (a .mirrored) in
-    let t = stateBy sys (now (a .left)) nothingCovered [] in
-    (first-over sys i t (a .d .rows) (l .r) (a .capacity) (emittedOf (l .s) (now (a .last)) (l .answers)) (emits (a .capacity) (firstFrom sys i t (a .d .rows) 0) (emittedOf (a .e) (now (a .last)) (now (a .answers)))) (c .if1 .left) (l .inv .4) ∙ ap (λ (L : List (List ℕ)). emits (a .capacity) L (emittedOf (a .e) (now (a .last)) (now (a .answers)))) (first-start sys i t (a .d .rows) (rows-many (a .d) (now (a .work)) (now (a .images)) (now (a .scans)) (now (a .kinds)) (now (a .pieces)))), l .inv .0)
+    let at = c .before .before in
+    let z = entry at in
+    let l = at .loop in (
+      first-over (S z) (i z) (t z) (z .args .d .rows) (l .r) (capacity z) (page at) (whole z) (c .if1 .left) (l .inv .4) ∙ whole-is z,
+      (l .inv .0, record { rows = refl; long = l .inv .1 }),
+    )
 
 pub search-first-spec : {M : Type 1} → statement M
 search-first-spec =

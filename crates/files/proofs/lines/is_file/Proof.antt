@@ -25,13 +25,22 @@ find-requires : tie.Need-find-requires Inv-loop μ-loop
 find-requires c κs = record { order = omega arith; inside = omega arith }
 
 returns-2 : tie.Need-returns-2 Inv-loop μ-loop
-returns-2 c = sym (c .before .before .before .loop .inv .3 ∙ not-ended (c .before .before .before .loop .number) (c .before .before .before .before .before .before .args .text .now) (c .before .before .before .loop .from) (c .before .find .result) (c .before .find .ensures .0) (omega arith) (c .if2 .taken))
+returns-2 c =
+    let at-find = c .before in
+    let at-loop = at-find .before .before in
+    let start = at-loop .before .before .before in
+    sym (at-loop .loop .inv .3 ∙ not-ended (at-loop .loop .number) (start .args .text .now) (at-loop .loop .from) (at-find .find .result) (at-find .find .ensures .0) (omega arith) (c .if2 .taken))
 
 is-line-requires : tie.Need-is-line-requires Inv-loop μ-loop
 is-line-requires c κs = record { order = omega arith; inside = omega arith }
 
 returns-3 : tie.Need-returns-3 Inv-loop μ-loop
-returns-3 c = sym (c .before .before .before .before .before .loop .inv .3 ∙ next-fails (c .before .before .before .before .before .loop .number) (c .before .before .before .before .before .before .before .before .args .text .now) (c .before .before .before .before .before .loop .from) (c .before .before .before .find .result) (c .before .before .before .find .ensures .0) (omega arith) (c .before .is-line .ensures) (not-true _ (c .if3 .taken)))
+returns-3 c =
+    let at-is-line = c .before in
+    let at-find = at-is-line .before .before in
+    let at-loop = at-find .before .before in
+    let start = at-loop .before .before .before in
+    sym (at-loop .loop .inv .3 ∙ next-fails (at-loop .loop .number) (start .args .text .now) (at-loop .loop .from) (at-find .find .result) (at-find .find .ensures .0) (omega arith) (at-is-line .is-line .ensures) (not-true _ (c .if3 .taken)))
 
 add-from : tie.Need-add-from Inv-loop μ-loop
 add-from c = omega arith
@@ -43,7 +52,12 @@ loop-less : tie.Need-loop-less Inv-loop μ-loop
 loop-less c = omega arith
 
 loop-again : tie.Need-loop-again Inv-loop μ-loop
-loop-again c = (refl, omega arith, omega arith, c .before .before .before .before .before .loop .inv .3 ∙ next-passes (c .before .before .before .before .before .loop .number) (c .before .before .before .before .before .before .before .before .args .text .now) (c .before .before .before .before .before .loop .from) (c .before .before .before .find .result) (c .before .before .before .find .ensures .0) (omega arith) (c .before .is-line .ensures) (not-false _ (c .if3 .left)))
+loop-again c =
+    let at-is-line = c .before in
+    let at-find = at-is-line .before .before in
+    let at-loop = at-find .before .before in
+    let start = at-loop .before .before .before in
+    (refl, omega arith, omega arith, at-loop .loop .inv .3 ∙ next-passes (at-loop .loop .number) (start .args .text .now) (at-loop .loop .from) (at-find .find .result) (at-find .find .ensures .0) (omega arith) (at-is-line .is-line .ensures) (not-false _ (c .if3 .left)))
 
 returns-4 : tie.Need-returns-4 Inv-loop μ-loop
 returns-4 c = sym (c .before .loop .inv .3 ∙ file-over (c .before .loop .number) (c .before .before .before .before .args .text .now) (c .before .loop .from) (omega arith))

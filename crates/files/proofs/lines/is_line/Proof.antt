@@ -16,13 +16,22 @@ is-piece-requires : tie.Need-is-piece-requires
 is-piece-requires c κs = search needs
 
 returns : tie.Need-returns
-returns c = c .is-config .ensures ∙ sym (line-zero (c .before .before .before .args .number) (stretch (c .before .before .before .args .line) (c .before .before .before .args .text .now)) (c .before .if1 .taken))
+returns c =
+    let zero = c .before in
+    let a = zero .before .before .args in
+    c .is-config .ensures ∙ sym (line-zero (a .number) (stretch (a .line) (a .text .now)) (zero .if1 .taken))
 
 returns-2 : tie.Need-returns-2
-returns-2 c = c .is-board .ensures ∙ sym (line-one (c .before .before .before .before .args .number) (stretch (c .before .before .before .before .args .line) (c .before .before .before .before .args .text .now)) (c .before .if2 .taken))
+returns-2 c =
+    let one = c .before in
+    let a = one .before .before .before .args in
+    c .is-board .ensures ∙ sym (line-one (a .number) (stretch (a .line) (a .text .now)) (one .if2 .taken))
 
 returns-3 : tie.Need-returns-3
-returns-3 c = c .is-piece .ensures ∙ sym (line-more (c .before .before .before .before .args .number) (stretch (c .before .before .before .before .args .line) (c .before .before .before .before .args .text .now)) (c .before .before .if1 .left) (c .before .if2 .left))
+returns-3 c =
+    let more = c .before in
+    let a = more .before .before .before .args in
+    c .is-piece .ensures ∙ sym (line-more (a .number) (stretch (a .line) (a .text .now)) (more .before .if1 .left) (more .if2 .left))
 
 pub is-line-spec : {M : Type 1} → statement M
 is-line-spec =

@@ -7,10 +7,10 @@ use native.Mathlib.Omega.{arith}
 use lib.ListN.{length}
 use borrow.Author.Needs.{needs}
 use borrow.Author.Tests.{not-true, not-false}
-use Rattle.definitions.specs.Lists.{same}
+use Rattle.lists.specs.Lists.{same}
+use Rattle.lists.proofs.TestLaws.{holds}
 use Rattle.definitions.specs.Texts.{text}
 use Rattle.definitions.specs.Files.{field, fieldsOf, hasPieceFields, isNumber}
-use Rattle.definitions.proofs.ListLaws.{holds}
 use Rattle.files.specs.Stretches.{stretch}
 use Rattle.files.proofs.LineLaws.{of-field, piece-no-fields, piece-no-word, piece-no-number, piece-is}
 use Rattle.files.proofs.ReadingLaws.{fields-many}

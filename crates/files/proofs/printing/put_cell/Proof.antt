@@ -4,7 +4,7 @@ use mathlib.Core.Logic.{⊎-elim}
 use native.Mathlib.Omega.{arith}
 use denote.Ref.{now}
 use lib.ListN.{length-set}
-use Rattle.files.proofs.DecimalLaws.{digits-of-byte}
+use Rattle.texts.proofs.DecimalLaws.{digits-of-byte}
 use Rattle.files.proofs.ListingLaws.{put-unfilled, put-filled}
 use borrow.Author.Needs.{needs}
 use Rattle.files.proofs.printing.put_cell.Statement.{statement}
@@ -36,15 +36,18 @@ put-decimal-requires-2 c κs = simp length-set (omega arith)
 
 same-length-2 : tie.Need-same-length-2
 same-length-2 c =
-    let first = c .before .before .before .before .before .before .put-decimal in
-    c .before .before .put-decimal2 .kept .0 ∙ length-set (first .last .0) (first .result) 46 ∙ first .kept .0
+    let at-put-decimal2 = c .before .before in
+    let at-put-decimal = at-put-decimal2 .before .before .before .before in
+    let first = at-put-decimal .put-decimal in
+    at-put-decimal2 .put-decimal2 .kept .0 ∙ length-set (first .last .0) (first .result) 46 ∙ first .kept .0
 
 returns-2 : tie.Need-returns-2
 returns-2 c =
-    let before-first = c .before .before .before .before .before .before in
+    let at-put-decimal2 = c .before .before in
+    let before-first = at-put-decimal2 .before .before .before .before in
     let a = before-first .before .before .before .before .args in
     let p = before-first .put-decimal .ensures .0 in
-    let q = c .before .before .put-decimal2 .ensures .0 in
+    let q = at-put-decimal2 .put-decimal2 .ensures .0 in
     let d = digits-of-byte (a .piece) (omega arith) in
     let e = digits-of-byte (a .copy) (omega arith) in
     let f = p .end in

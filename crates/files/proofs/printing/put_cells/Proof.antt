@@ -7,8 +7,8 @@ use borrow.Author.Needs.{needs}
 use denote.Ref.{now}
 use lib.ListN.{length, drop, take, length-set}
 use Rattle.definitions.specs.Files.{cellsShown}
-use Rattle.files.specs.Put.{Put}
-use Rattle.files.proofs.PutLaws.{put-none, put-from}
+use Rattle.texts.specs.Put.{Put}
+use Rattle.texts.proofs.PutLaws.{put-none, put-from}
 use Rattle.files.proofs.ListingLaws.{put-first-cell, put-next-cell}
 use Rattle.files.proofs.printing.put_cells.Statement.{statement}
 use Rattle.files.proofs.printing.put_cells.Tie as tie
@@ -72,11 +72,12 @@ loop-less c = omega arith
 
 loop-again : tie.Need-loop-again Inv-loop μ-loop
 loop-again c =
-    let at-if = c .before .before .before .before .before .before in
+    let at-put-cell = c .before .before in
+    let at-if = at-put-cell .before .before .before .before in
     let j = joined at-if in
     let l = at-if .before .before .loop in
     let a = at-if .before .before .before .before .before .args in
-    let z = c .before .before .put-cell in
+    let z = at-put-cell .put-cell in
     let most : z .result ≤ a .at + 8 * (l .i + 1) = omega arith in (
       z .kept .0 ∙ j .0,
       omega arith,

@@ -3,7 +3,7 @@ use mathlib.Core.Path.{_∙_}
 use native.Mathlib.Omega.{arith}
 use lib.ListN.{length-set}
 use Rattle.definitions.specs.Files.{entryLine}
-use Rattle.files.proofs.ListingLaws.{put-line}
+use Rattle.texts.proofs.PutLaws.{put-line}
 use borrow.Author.Needs.{needs}
 use Rattle.files.proofs.printing.put_entry.Statement.{statement}
 use Rattle.files.proofs.printing.put_entry.Tie as tie
@@ -22,8 +22,10 @@ put-cells-requires c κs = (simp length-set (omega arith), omega arith)
 
 slice-write-out-2 : tie.Need-slice-write-out-2
 slice-write-out-2 c =
-    let d = c .before .before .before .before .before .before .put-decimal in
-    let z = c .before .before .put-cells in
+    let at-put-cells = c .before .before in
+    let at-put-decimal = at-put-cells .before .before .before .before in
+    let d = at-put-decimal .put-decimal in
+    let z = at-put-cells .put-cells in
     let e = z .kept .0 ∙ length-set (d .last .0) (d .result) 9 ∙ d .kept .0 in
     omega arith
 
@@ -32,15 +34,19 @@ add-result c = search needs
 
 same-length : tie.Need-same-length
 same-length c =
-    let d = c .before .before .before .before .before .before .put-decimal in
-    let z = c .before .before .put-cells in
+    let at-put-cells = c .before .before in
+    let at-put-decimal = at-put-cells .before .before .before .before in
+    let d = at-put-decimal .put-decimal in
+    let z = at-put-cells .put-cells in
     length-set (z .last .0) (z .result) 10 ∙ z .kept .0 ∙ length-set (d .last .0) (d .result) 9 ∙ d .kept .0
 
 returns : tie.Need-returns
 unfolding entryLine
 returns c =
-    let d = c .before .before .before .before .before .before .put-decimal in
-    let z = c .before .before .put-cells in
+    let at-put-cells = c .before .before in
+    let at-put-decimal = at-put-cells .before .before .before .before in
+    let d = at-put-decimal .put-decimal in
+    let z = at-put-cells .put-cells in
     (put-line (d .ensures .0) (z .ensures .0) (omega arith), omega arith)
 
 pub put-entry-spec : {M : Type 1} → statement M

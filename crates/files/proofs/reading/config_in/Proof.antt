@@ -2,7 +2,7 @@
 use mathlib.Core.Logic.{⊎-elim, inl, inr}
 use mathlib.Core.Path.{ap, _∙_}
 use native.Mathlib.Omega.{arith}
-use Rattle.definitions.specs.Lists.{same}
+use Rattle.lists.specs.Lists.{same}
 use Rattle.definitions.specs.Texts.{text}
 use Rattle.files.specs.Stretches.{stretch}
 use Rattle.files.proofs.ReadingLaws.{config-fields, config-knuth, config-fast}
@@ -27,7 +27,8 @@ is-word-requires-2 c κs = search needs
 
 field-of-requires-2 : tie.Need-field-of-requires-2
 field-of-requires-2 c κs =
-    let s = c .before .before .before .before .before .before .before in
+    let at-field-of = c .before .before .before .before .before in
+    let s = at-field-of .before .before in
     (s .pre .0, omega (arith, config-fields (stretch (s .args .line) (s .args .text .now)) (s .pre .1)))
 
 slice-aggregate-is-word-3 : tie.Need-slice-aggregate-is-word-3
@@ -38,19 +39,31 @@ is-word-requires-3 c κs = search needs
 
 returns : tie.Need-returns
 returns c =
-    let s = c .before .before .before .before .before .before .before .before .before .before .before in
-    let two = c .before .before .before .before .before .before .before .before .before .field-of .ensures .1 in
-    config-knuth (stretch (s .args .line) (s .args .text .now)) (c .before .before .before .before .before .is-word2 .ensures ∙ ap (λ l. same l (text "turned")) two) (c .before .before .before .before .before .before .before .is-word .ensures ∙ ap (λ l. same l (text "mirrored")) two)
-    (c .before .is-word3 .ensures ∙ ap (λ l. same l (text "knuth")) (c .before .before .before .field-of2 .ensures .1))
-    (⊎-elim (λ v. inl (v .0 .taken, v .1)) (λ v. inr (v .0 .left, v .1)) (c .before .before .before .before .if1 .came)) (c .if2 .taken)
+    let at-is-word3 = c .before in
+    let at-field-of2 = at-is-word3 .before .before in
+    let joined1 = at-field-of2 .before in
+    let at-is-word2 = joined1 .before in
+    let at-is-word = at-is-word2 .before .before in
+    let at-field-of = at-is-word .before .before in
+    let s = at-field-of .before .before in
+    let two = at-field-of .field-of .ensures .1 in
+    config-knuth (stretch (s .args .line) (s .args .text .now)) (at-is-word2 .is-word2 .ensures ∙ ap (λ l. same l (text "turned")) two) (at-is-word .is-word .ensures ∙ ap (λ l. same l (text "mirrored")) two)
+    (at-is-word3 .is-word3 .ensures ∙ ap (λ l. same l (text "knuth")) (at-field-of2 .field-of2 .ensures .1))
+    (⊎-elim (λ v. inl (v .0 .taken, v .1)) (λ v. inr (v .0 .left, v .1)) (joined1 .if1 .came)) (c .if2 .taken)
 
 returns-2 : tie.Need-returns-2
 returns-2 c =
-    let s = c .before .before .before .before .before .before .before .before .before .before .before in
-    let two = c .before .before .before .before .before .before .before .before .before .field-of .ensures .1 in
-    config-fast (stretch (s .args .line) (s .args .text .now)) (c .before .before .before .before .before .is-word2 .ensures ∙ ap (λ l. same l (text "turned")) two) (c .before .before .before .before .before .before .before .is-word .ensures ∙ ap (λ l. same l (text "mirrored")) two)
-    (c .before .is-word3 .ensures ∙ ap (λ l. same l (text "knuth")) (c .before .before .before .field-of2 .ensures .1))
-    (⊎-elim (λ v. inl (v .0 .taken, v .1)) (λ v. inr (v .0 .left, v .1)) (c .before .before .before .before .if1 .came)) (c .if2 .left)
+    let at-is-word3 = c .before in
+    let at-field-of2 = at-is-word3 .before .before in
+    let joined1 = at-field-of2 .before in
+    let at-is-word2 = joined1 .before in
+    let at-is-word = at-is-word2 .before .before in
+    let at-field-of = at-is-word .before .before in
+    let s = at-field-of .before .before in
+    let two = at-field-of .field-of .ensures .1 in
+    config-fast (stretch (s .args .line) (s .args .text .now)) (at-is-word2 .is-word2 .ensures ∙ ap (λ l. same l (text "turned")) two) (at-is-word .is-word .ensures ∙ ap (λ l. same l (text "mirrored")) two)
+    (at-is-word3 .is-word3 .ensures ∙ ap (λ l. same l (text "knuth")) (at-field-of2 .field-of2 .ensures .1))
+    (⊎-elim (λ v. inl (v .0 .taken, v .1)) (λ v. inr (v .0 .left, v .1)) (joined1 .if1 .came)) (c .if2 .left)
 
 pub config-in-spec : {M : Type 1} → statement M
 config-in-spec =

@@ -1,107 +1,72 @@
--- The file is its first line, its second line and the pieces' lines, each read by its own function. Assumes nothing.
-use Prim.Native.Nat.{_+_}
-use mathlib.Core.Path.{_∙_}
-use native.Mathlib.Omega.{arith}
-use Rattle.definitions.specs.Lists.{all}
-use Rattle.files.specs.Stretches.{stretch}
-use Rattle.files.proofs.SpanLaws.{isCell}
-use Rattle.files.proofs.ReadingLaws.{board-fields, board-grid, held, grid-cells}
-use Rattle.files.proofs.ReadingLineLaws.{first-ended, file-lines, pieces-kept, board-fits, call-config, asked-pieces, asked-board, asked-bytes}
+-- `files::reading::read_file` meets its contract: a text is read where both tests are passed. Assumes nothing.
+use Prim.Native.Nat.{ℕ, _<_}
+use mathlib.Core.Bool.{Bool, true, false, _&&_, true≢false, false≢true}
+use mathlib.Core.Logic.{_⊎_, ⊎-elim, inl, inr}
+use mathlib.Core.Path.{_≡_, refl, sym, _∙_}
 use borrow.Author.Needs.{needs}
+use borrow.Author.Tests.{le-leb, lt-leb}
+use denote.Ref.{now}
+use lib.Dec.{leb}
+use lib.ListN.{length}
+use Rattle.lists.proofs.TestLaws.{holds}
+use Rattle.definitions.specs.Files.{isFile}
 use Rattle.files.proofs.reading.read_file.Statement.{statement}
 use Rattle.files.proofs.reading.read_file.Tie as tie
 
-find-requires : tie.Need-find-requires
-find-requires c κs = search needs
+is-file-requires : tie.Need-is-file-requires
+is-file-requires c κs = search needs
 
-add-from : tie.Need-add-from
-add-from c = search needs
-
-find-requires-2 : tie.Need-find-requires-2
-find-requires-2 c κs =
-    let s = c .before .before .before .before in
-    let h = first-ended (s .args .text .now) (s .pre .0) (c .before .find .result) (c .before .find .ensures) in
-    record { order = omega arith; inside = omega arith }
-
-config-in-requires : tie.Need-config-in-requires
-config-in-requires c κs =
-    let s = c .before .before .before .before .before in
-    let bytes = s .args .text .now in
-    let first = c .before .before .find in
-    let second = c .find2 in
-    let here = file-lines bytes (s .pre .0) (first .result) (first .ensures) (second .result) (second .ensures) in
-    (here .first-within, here .config)
-
-add-read-pieces : tie.Need-add-read-pieces
-add-read-pieces c = search needs
-
-read-pieces-requires : tie.Need-read-pieces-requires
-read-pieces-requires c κs =
-    let s = c .before .before .before .before .before .before .before .before in
-    let bytes = s .args .text .now in
-    let first = c .before .before .before .before .before .find in
-    let second = c .before .before .before .find2 in
-    let here = file-lines bytes (s .pre .0) (first .result) (first .ensures) (second .result) (second .ensures) in
-    (omega (arith, here .ended), here .few, s .pre .1, here .pieces)
-
-record-in-requires : tie.Need-record-in-requires
-record-in-requires c κs =
-    let s = c .before .before .before .before .before .before .before .before .before .before .before .before in
-    let bytes = s .args .text .now in
-    let first = c .before .before .before .before .before .before .before .before .before .find in
-    let second = c .before .before .before .before .before .before .before .find2 in
-    let here = file-lines bytes (s .pre .0) (first .result) (first .ensures) (second .result) (second .ensures) in
-    (here .second-within, omega (arith, board-fields (stretch (record { from = first .result + 1; to = second .result }) bytes) (here .board)), board-grid (stretch (record { from = first .result + 1; to = second .result }) bytes) (here .board))
-
-field-of-requires : tie.Need-field-of-requires
-field-of-requires c κs =
-    let s = c .before .before .before .before .before .before .before .before .before .before .before .before .before in
-    let bytes = s .args .text .now in
-    let first = c .before .before .before .before .before .before .before .before .before .before .find in
-    let second = c .before .before .before .before .before .before .before .before .find2 in
-    let here = file-lines bytes (s .pre .0) (first .result) (first .ensures) (second .result) (second .ensures) in
-    (here .second-within, omega (arith, board-fields (stretch (record { from = first .result + 1; to = second .result }) bytes) (here .board)))
-
-put-cells-requires : tie.Need-put-cells-requires
-put-cells-requires c κs =
-    let s = c .before .before .before .before .before .before .before .before .before .before .before .before .before .before .before in
-    let bytes = s .args .text .now in
-    let first = c .before .before .before .before .before .before .before .before .before .before .before .before .find in
-    let second = c .before .before .before .before .before .before .before .before .before .before .find2 in
-    let here = file-lines bytes (s .pre .0) (first .result) (first .ensures) (second .result) (second .ensures) in
-    let f = c .before .field-of .ensures in
-    let p = c .before .before .before .before .before .before .read-pieces .ensures in
-    let k = pieces-kept here (s .args .cells .now) (s .pre .1) p in
-    let m = board-fits here (s .args .cells .now) (s .pre .1) p f in
-    (f .0, held (all isCell) (f .1) (grid-cells 1 (stretch (record { from = first .result + 1; to = second .result }) bytes) (board-grid (stretch (record { from = first .result + 1; to = second .result }) bytes) (here .board))), omega arith)
+read-lines-requires : tie.Need-read-lines-requires
+read-lines-requires c κs =
+    let at-file = c .before .before in
+    let text = now (at-file .before .before .before .before .args .text) in
+    (holds (isFile text) (sym (at-file .is-file .ensures) ∙ c .before .if2 .taken), at-file .before .if1 .taken)
 
 same-length : tie.Need-same-length
 same-length c = search needs
 
 returns : tie.Need-returns
 returns c =
-    let s = c .before .before .before .before .before .before .before .before .before .before .before .before .before .before .before .before .before .before in
-    let bytes = s .args .text .now in
-    let first = c .before .before .before .before .before .before .before .before .before .before .before .before .before .before .before .find in
-    let second = c .before .before .before .before .before .before .before .before .before .before .before .before .before .find2 in
-    let here = file-lines bytes (s .pre .0) (first .result) (first .ensures) (second .result) (second .ensures) in
-    let f = c .before .before .before .before .field-of .ensures in
-    let p = c .before .before .before .before .before .before .before .before .before .read-pieces .ensures in
-    let old = s .args .cells .now in
-    ((asked-pieces here old (s .pre .1) p, asked-board here old (s .pre .1) p (c .before .before .before .before .before .record-in .ensures), c .before .before .before .before .before .before .before .before .before .before .before .before .config-in .ensures ∙ call-config here), asked-bytes here old (s .pre .1) p f (c .before .before .put-cells .ensures))
+    let at-read = c .before .before in
+    let at-file = at-read .before .before .before in
+    let start = at-file .before .before .before .before in
+    let long = le-leb 16384 (length (now (start .args .cells))) (at-file .before .if1 .taken) in
+    record {
+      isRead = rw (long, ← at-file .is-file .ensures) (sym (at-read .before .before .if2 .taken));
+      asks = λ _. at-read .read-lines .ensures;
+      nothing = λ e. absurd (true≢false e);
+    }
+
+nothing-asked-requires : tie.Need-nothing-asked-requires
+nothing-asked-requires c κs = search needs
+
+-- a test that failed says that the text is not read
+and-none : (a : Bool) → false ≡ (a && false)
+and-none true = refl
+and-none false = refl
+
+none : (n : ℕ) (b : Bool) → (b ≡ false) ⊎ (n < 16384) → false ≡ (leb 16384 n && b)
+none n b (inl e) = rw e (and-none (leb 16384 n))
+none n b (inr h) = rw (lt-leb 16384 n h)
+
+returns-2 : tie.Need-returns-2
+returns-2 c =
+    let at-if = c .before in
+    let start = at-if .before .before .before in
+    record {
+      isRead = none (length (now (start .args .cells))) (isFile (now (start .args .text)))
+          (⊎-elim (λ v. inl (sym (v .1 .ensures) ∙ v .2 .left)) (λ v. inr (v .left)) (at-if .if1 .came));
+      asks = λ e. absurd (false≢true e);
+      nothing = λ _. (c .nothing-asked .ensures, refl);
+    }
 
 pub read-file-spec : {M : Type 1} → statement M
 read-file-spec =
     tie.close
     (tie.spec
-    find-requires
-    add-from
-    find-requires-2
-    config-in-requires
-    add-read-pieces
-    read-pieces-requires
-    record-in-requires
-    field-of-requires
-    put-cells-requires
+    is-file-requires
+    read-lines-requires
     same-length
-    returns)
+    returns
+    nothing-asked-requires
+    returns-2)

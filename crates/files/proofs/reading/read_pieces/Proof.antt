@@ -3,8 +3,8 @@ use Prim.Native.Nat.{ℕ, _-_}
 use mathlib.Core.List.{List}
 use mathlib.Core.Path.{ap, _∙_}
 use native.Mathlib.Omega.{arith}
+use Rattle.lists.specs.Lists.{all}
 use Rattle.definitions.specs.Files.{isNumber, numberIn}
-use Rattle.definitions.specs.Lists.{all}
 use Rattle.files.specs.Stretches.{stretch}
 use Rattle.files.proofs.SpanLaws.{isCell}
 use Rattle.files.proofs.ReadingLaws.{piece-fields, fields-many, piece-count, piece-grid, held, grid-cells}

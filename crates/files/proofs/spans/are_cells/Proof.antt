@@ -1,13 +1,10 @@
 -- `files::spans::are_cells` meets its contract. Assumes nothing.
-use Prim.Native.Nat.{_+_, _-_, _^_, _≤_, _<_}
-use mathlib.Core.Path.{_≡_, refl, sym, ap, _∙_}
-use mathlib.Core.Logic.{⊎-elim, inl, inr}
+use Prim.Native.Nat.{_-_, _≤_}
+use mathlib.Core.Path.{_≡_, refl, sym, _∙_}
+use mathlib.Core.Logic.{inl, inr}
 use native.Mathlib.Omega.{arith}
-use lib.Dec.{T, eqb}
-use lib.ListN.{length, getD, drop}
-use borrow.Author.Needs.{needs}
-use Rattle.definitions.specs.Lists.{all, before, same}
-use Rattle.definitions.specs.Files.{parts, fieldsOf, isDigit, numberFrom, numberIn}
+use lib.ListN.{getD}
+use Rattle.lists.specs.Lists.{all, before}
 use Rattle.files.specs.Stretches.{stretch}
 use Rattle.files.proofs.SpanLaws as laws
 use Rattle.files.proofs.SpanLaws.{between, isCell}
@@ -42,8 +39,10 @@ shared-slice-read-if2 c = omega arith
 returns-2 : tie.Need-returns-2 Inv-loop μ-loop
 unfolding stretch
 returns-2 c =
-    let l = c .before .before .before .before .before .loop in
-    let a = c .before .before .before .before .before .before .args in
+    let at-loop = c .before .before .before .before .before in
+    let start = at-loop .before in
+    let l = at-loop .loop in
+    let a = start .args in
     let t = a .text .now in
     sym (sym (l .inv .2) ∙ laws.all-stops isCell t (l .i) (a .s .to) (omega arith) (omega arith) (laws.cell-no (getD t (l .i) 0) (inr (omega arith))))
 
@@ -55,8 +54,10 @@ loop-less c = omega arith
 
 loop-again : tie.Need-loop-again Inv-loop μ-loop
 loop-again c =
-    let l = c .before .before .before .before .before .loop in
-    let a = c .before .before .before .before .before .before .args in
+    let at-loop = c .before .before .before .before .before in
+    let start = at-loop .before in
+    let l = at-loop .loop in
+    let a = start .args in
     let t = a .text .now in
     (omega arith, omega arith, laws.all-more isCell t (l .i) (a .s .to) (omega arith) (omega arith) (laws.cell-yes (getD t (l .i) 0) (omega arith) (omega arith)) ∙ l .inv .2)
 

@@ -1,16 +1,14 @@
 -- `files::spans::count_fields` meets its contract. Assumes nothing.
-use Prim.Native.Nat.{_+_, _-_, _^_, _≤_, _<_}
-use mathlib.Core.Path.{_≡_, refl, sym, ap, _∙_}
-use mathlib.Core.Logic.{⊎-elim, inl, inr}
+use Prim.Native.Nat.{_+_, _-_, _≤_}
+use mathlib.Core.Path.{_≡_, refl}
+use mathlib.Core.Logic.{⊎-elim}
 use native.Mathlib.Omega.{arith}
-use lib.Dec.{T, eqb}
-use lib.ListN.{length, getD, drop}
-use borrow.Author.Needs.{needs}
-use Rattle.definitions.specs.Lists.{all, before, same}
-use Rattle.definitions.specs.Files.{parts, fieldsOf, isDigit, numberFrom, numberIn}
+use lib.ListN.{length}
+use Rattle.lists.specs.Lists.{before}
+use Rattle.definitions.specs.Files.{parts, fieldsOf}
 use Rattle.files.specs.Stretches.{stretch}
 use Rattle.files.proofs.SpanLaws as laws
-use Rattle.files.proofs.SpanLaws.{between, isCell}
+use Rattle.files.proofs.SpanLaws.{between}
 use Rattle.files.proofs.spans.count_fields.Statement.{statement}
 use Rattle.files.proofs.spans.count_fields.Tie as tie
 use Rattle.files.proofs.spans.count_fields.Reads as reads

@@ -1,17 +1,14 @@
 -- `files::spans::field_of` meets its contract. Assumes nothing.
-use Prim.Native.Nat.{ℕ, _+_, _-_, _^_, _≤_, _<_}
-use mathlib.Core.Path.{_≡_, refl, sym, ap, _∙_}
+use Prim.Native.Nat.{ℕ, _≤_, _<_}
+use mathlib.Core.Path.{_≡_, refl, ap, _∙_}
 use mathlib.Core.List.{[]}
-use mathlib.Core.Logic.{⊎-elim, inl, inr}
 use native.Mathlib.Omega.{arith}
-use lib.Dec.{T, eqb}
-use lib.ListN.{length, getD, drop}
-use borrow.Author.Needs.{needs}
-use Rattle.definitions.specs.Lists.{all, before, same}
-use Rattle.definitions.specs.Files.{parts, field, fieldsOf, isDigit, numberFrom, numberIn}
+use lib.ListN.{length, getD}
+use Rattle.lists.specs.Lists.{before}
+use Rattle.definitions.specs.Files.{parts, field, fieldsOf}
 use Rattle.files.specs.Stretches.{stretch}
 use Rattle.files.proofs.SpanLaws as laws
-use Rattle.files.proofs.SpanLaws.{between, isCell}
+use Rattle.files.proofs.SpanLaws.{between}
 use Rattle.files.proofs.spans.field_of.Statement.{statement}
 use Rattle.files.proofs.spans.field_of.Tie as tie
 use Rattle.files.proofs.spans.field_of.Reads as reads

@@ -1,16 +1,12 @@
 -- `files::spans::find` meets its contract. Assumes nothing.
-use Prim.Native.Nat.{_+_, _-_, _^_, _≤_, _<_}
-use mathlib.Core.Path.{_≡_, refl, sym, ap, _∙_}
-use mathlib.Core.Logic.{⊎-elim, inl, inr}
+use Prim.Native.Nat.{_+_, _-_, _≤_}
+use mathlib.Core.Path.{_≡_, refl, sym, _∙_}
 use native.Mathlib.Omega.{arith}
-use lib.Dec.{T, eqb}
-use lib.ListN.{length, getD, drop}
-use borrow.Author.Needs.{needs}
-use Rattle.definitions.specs.Lists.{all, before, same}
-use Rattle.definitions.specs.Files.{parts, fieldsOf, isDigit, numberFrom, numberIn}
+use lib.Dec.{eqb}
+use Rattle.lists.specs.Lists.{before}
 use Rattle.files.specs.Stretches.{stretch}
 use Rattle.files.proofs.SpanLaws as laws
-use Rattle.files.proofs.SpanLaws.{between, isCell}
+use Rattle.files.proofs.SpanLaws.{between}
 use Rattle.files.proofs.spans.find.Statement.{statement}
 use Rattle.files.proofs.spans.find.Tie as tie
 use Rattle.files.proofs.spans.find.Reads as reads

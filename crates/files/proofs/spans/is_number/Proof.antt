@@ -1,17 +1,14 @@
 -- `files::spans::is_number` meets its contract. Assumes nothing.
-use Prim.Native.Nat.{_+_, _-_, _^_, _≤_, _<_}
-use mathlib.Core.Path.{_≡_, refl, sym, ap, _∙_}
-use mathlib.Core.Logic.{⊎-elim, inl, inr}
+use Prim.Native.Nat.{_-_, _≤_}
+use mathlib.Core.Path.{_≡_, refl, sym, _∙_}
 use native.Mathlib.Omega.{arith}
-use lib.Dec.{T, eqb}
-use lib.ListN.{length, getD, drop}
 use borrow.Author.Tests.{not-true, not-false}
 use borrow.Author.Needs.{needs}
-use Rattle.definitions.specs.Lists.{all, before, same}
-use Rattle.definitions.specs.Files.{parts, fieldsOf, isDigit, numberFrom, numberIn}
+use Rattle.lists.specs.Lists.{all, before}
+use Rattle.definitions.specs.Files.{isDigit}
 use Rattle.files.specs.Stretches.{stretch}
 use Rattle.files.proofs.SpanLaws as laws
-use Rattle.files.proofs.SpanLaws.{between, isCell}
+use Rattle.files.proofs.SpanLaws.{between}
 use Rattle.files.proofs.spans.is_number.Statement.{statement}
 use Rattle.files.proofs.spans.is_number.Tie as tie
 use Rattle.files.proofs.spans.is_number.Reads as reads
@@ -53,10 +50,13 @@ is-digit-requires c κs = search needs
 returns-3 : tie.Need-returns-3 Inv-loop μ-loop
 unfolding stretch
 returns-3 c =
-    let l = c .before .before .before .before .loop in
-    let a = c .before .before .before .before .before .before .before .before .before .args in
+    let at-is-digit = c .before in
+    let at-loop = at-is-digit .before .before .before in
+    let start = at-loop .before .before .before .before .before in
+    let l = at-loop .loop in
+    let a = start .args in
     let t = a .text .now in
-    sym (sym (laws.number-digits (a .most) t (a .s .from) (a .s .to) (omega arith) (omega arith) (omega arith)) ∙ sym (l .inv .2) ∙ laws.all-stops isDigit t (l .i) (a .s .to) (omega arith) (omega arith) (sym (c .before .is-digit .ensures) ∙ not-true _ (c .if3 .taken)))
+    sym (sym (laws.number-digits (a .most) t (a .s .from) (a .s .to) (omega arith) (omega arith) (omega arith)) ∙ sym (l .inv .2) ∙ laws.all-stops isDigit t (l .i) (a .s .to) (omega arith) (omega arith) (sym (at-is-digit .is-digit .ensures) ∙ not-true _ (c .if3 .taken)))
 
 add-i : tie.Need-add-i Inv-loop μ-loop
 add-i c = omega arith
@@ -66,16 +66,21 @@ loop-less c = omega arith
 
 loop-again : tie.Need-loop-again Inv-loop μ-loop
 loop-again c =
-    let l = c .before .before .before .before .loop in
-    let a = c .before .before .before .before .before .before .before .before .before .args in
+    let at-is-digit = c .before in
+    let at-loop = at-is-digit .before .before .before in
+    let start = at-loop .before .before .before .before .before in
+    let l = at-loop .loop in
+    let a = start .args in
     let t = a .text .now in
-    (omega arith, omega arith, laws.all-more isDigit t (l .i) (a .s .to) (omega arith) (omega arith) (sym (c .before .is-digit .ensures) ∙ not-false _ (c .if3 .left)) ∙ l .inv .2)
+    (omega arith, omega arith, laws.all-more isDigit t (l .i) (a .s .to) (omega arith) (omega arith) (sym (at-is-digit .is-digit .ensures) ∙ not-false _ (c .if3 .left)) ∙ l .inv .2)
 
 returns-4 : tie.Need-returns-4 Inv-loop μ-loop
 unfolding stretch
 returns-4 c =
-    let l = c .before .loop in
-    let a = c .before .before .before .before .before .before .args in
+    let at-loop = c .before in
+    let start = at-loop .before .before .before .before .before in
+    let l = at-loop .loop in
+    let a = start .args in
     let t = a .text .now in
     sym (sym (laws.number-digits (a .most) t (a .s .from) (a .s .to) (omega arith) (omega arith) (omega arith)) ∙ sym (l .inv .2) ∙ laws.all-ends isDigit t (l .i) (a .s .to) (omega arith))
 

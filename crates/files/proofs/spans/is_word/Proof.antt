@@ -1,16 +1,12 @@
 -- `files::spans::is_word` meets its contract. Assumes nothing.
-use Prim.Native.Nat.{ℕ, _+_, _-_, _^_, _≤_, _<_}
-use mathlib.Core.Path.{_≡_, refl, sym, ap, _∙_}
-use mathlib.Core.Logic.{⊎-elim, inl, inr}
+use Prim.Native.Nat.{ℕ, _+_, _-_, _≤_}
+use mathlib.Core.Path.{_≡_, sym, ap, _∙_}
 use native.Mathlib.Omega.{arith}
-use lib.Dec.{T, eqb}
-use lib.ListN.{length, getD, drop}
-use borrow.Author.Needs.{needs}
-use Rattle.definitions.specs.Lists.{all, before, same}
-use Rattle.definitions.specs.Files.{parts, fieldsOf, isDigit, numberFrom, numberIn}
+use lib.ListN.{drop}
+use Rattle.lists.specs.Lists.{before, same}
 use Rattle.files.specs.Stretches.{stretch}
 use Rattle.files.proofs.SpanLaws as laws
-use Rattle.files.proofs.SpanLaws.{between, isCell}
+use Rattle.files.proofs.SpanLaws.{between}
 use Rattle.files.proofs.spans.is_word.Statement.{statement}
 use Rattle.files.proofs.spans.is_word.Tie as tie
 use Rattle.files.proofs.spans.is_word.Reads as reads
@@ -52,8 +48,10 @@ shared-slice-read-if2-2 c = omega arith
 returns-2 : tie.Need-returns-2 Inv-loop μ-loop
 unfolding stretch
 returns-2 c =
-    let l = c .before .before .before .before .before .loop in
-    let a = c .before .before .before .before .before .before .before .before .args in
+    let at-loop = c .before .before .before .before .before in
+    let start = at-loop .before .before .before in
+    let l = at-loop .loop in
+    let a = start .args in
     let t = a .text .now in
     sym (sym (l .inv .1) ∙ laws.word-stops t (a .word .now) (a .s .from) (l .i) (a .s .to) (omega arith) (omega arith) (omega arith) (c .if2 .taken))
 
@@ -65,8 +63,10 @@ loop-less c = omega arith
 
 loop-again : tie.Need-loop-again Inv-loop μ-loop
 loop-again c =
-    let l = c .before .before .before .before .before .loop in
-    let a = c .before .before .before .before .before .before .before .before .args in
+    let at-loop = c .before .before .before .before .before in
+    let start = at-loop .before .before .before in
+    let l = at-loop .loop in
+    let a = start .args in
     let t = a .text .now in
     (omega arith, laws.word-more t (a .word .now) (a .s .from) (l .i) (a .s .to) (omega arith) (omega arith) (omega arith) (c .if2 .left) ∙ l .inv .1)
 

@@ -1,16 +1,14 @@
 -- `files::spans::number_in` meets its contract. Assumes nothing.
-use Prim.Native.Nat.{_+_, _-_, _^_, _≤_, _<_}
-use mathlib.Core.Path.{_≡_, refl, sym, ap, _∙_}
-use mathlib.Core.Logic.{⊎-elim, inl, inr}
+use Prim.Native.Nat.{_-_, _^_, _≤_, _<_}
+use mathlib.Core.Path.{_≡_, refl, sym, _∙_}
 use native.Mathlib.Omega.{arith}
-use lib.Dec.{T, eqb}
-use lib.ListN.{length, getD, drop}
-use borrow.Author.Needs.{needs}
-use Rattle.definitions.specs.Lists.{all, before, same}
-use Rattle.definitions.specs.Files.{parts, fieldsOf, isDigit, numberFrom, numberIn}
+use lib.Dec.{T}
+use lib.ListN.{getD}
+use Rattle.lists.specs.Lists.{all, before}
+use Rattle.definitions.specs.Files.{isDigit, numberFrom, numberIn}
 use Rattle.files.specs.Stretches.{stretch}
 use Rattle.files.proofs.SpanLaws as laws
-use Rattle.files.proofs.SpanLaws.{between, isCell}
+use Rattle.files.proofs.SpanLaws.{between}
 use Rattle.files.proofs.spans.number_in.Statement.{statement}
 use Rattle.files.proofs.spans.number_in.Tie as tie
 use Rattle.files.proofs.spans.number_in.Reads as reads

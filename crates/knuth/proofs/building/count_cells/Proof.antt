@@ -4,7 +4,7 @@ use mathlib.Core.Path.{_≡_, sym, ap, _∙_}
 use mathlib.Core.Logic.{⊎-elim}
 use native.Mathlib.Omega.{arith}
 use borrow.Author.Needs.{needs}
-use Rattle.definitions.specs.Lists.{below, howMany}
+use Rattle.lists.specs.Lists.{below, howMany}
 use Rattle.masks.specs.Masks.{has}
 use Rattle.knuth.proofs.LaidLaws.{count-hit, count-miss}
 use Rattle.knuth.proofs.building.count_cells.Statement.{statement}

@@ -8,10 +8,11 @@ use native.Mathlib.Omega.{arith}
 use denote.Ref.{now}
 use borrow.Author.Needs.{needs}
 use lib.ListN.{length}
-use Rattle.definitions.specs.Lists.{below, howMany}
+use Rattle.lists.specs.Lists.{below, howMany}
+use Rattle.lists.proofs.CountLaws.{count-more}
 use Rattle.masks.specs.Masks.{has}
 use Rattle.knuth.specs.Tables.{Laid}
-use Rattle.knuth.proofs.LaidLaws.{cellNodes, cells-hit, cells-miss, count-hit, count-miss, count-more, laid-none}
+use Rattle.knuth.proofs.LaidLaws.{cellNodes, cells-hit, cells-miss, count-hit, count-miss, laid-none}
 use Rattle.knuth.proofs.building.put_cells.Statement.{statement}
 use Rattle.knuth.proofs.building.put_cells.Tie as tie
 
@@ -72,7 +73,7 @@ loop-again c =
       ap length (w .5) ∙ w .2 .kept .0 ∙ l .loop .inv .0,
       omega arith,
       omega (arith, count-hit p i b),
-      cells-hit p (a .first) (a .end) (a .row) (now (a .links)) (l .loop .links) (c .if1 .links) (a .x) (l .loop .at) i e (l .loop .inv .3) b (omega arith)
+      cells-hit p (a .first) (a .end) (a .row) (now (a .links)) (l .loop .links) (c .if1 .links) (a .x) (l .loop .at) i e (l .loop .inv .3) b
           (subst (λ (m : List ℕ). Laid (l .loop .links) (l .loop .at) m (record { col = i; lo = a .first; hi = a .end; row = a .row } ∷ [])) (sym (w .5)) (w .2 .ensures)),
     ))
     (λ w.

@@ -1,21 +1,25 @@
 -- `knuth::building::put_copies` meets its contract. The loop's invariant: the copies of the columns below j are written. Assumes nothing.
-use Prim.Native.Nat.{ℕ, _+_, _-_, _*_, _≤_, _<_}
+use Prim.Native.Nat.{ℕ, _+_, _-_, _≤_, _<_}
 use mathlib.Core.List.{List}
 use mathlib.Core.Path.{_≡_, refl, sym, ap, _∙_, subst}
 use mathlib.Core.Logic.{⊎-elim}
 use native.Mathlib.Omega.{arith}
 use denote.Ref.{now}
 use borrow.Author.Needs.{needs}
-use lib.ListN.{length, getD, length-set}
+use lib.ListN.{length, length-set}
+use Rattle.links.specs.Links.{atCopies}
 use Rattle.knuth.proofs.LaidLaws.{StockTo, stock-none, stock-cell, stock-kind, stock-all}
 use Rattle.knuth.proofs.building.put_copies.Statement.{statement}
 use Rattle.knuth.proofs.building.put_copies.Tie as tie
 
 abbrev Inv-loop : tie.InvT-loop
-Inv-loop d kinds links₀ j₀ links j = (length links ≡ length links₀) × (j ≤ d .cells + d .kinds) × StockTo links₀ links (d .cells) j kinds
+Inv-loop d chart links₀ j₀ links j = (length links ≡ length links₀) × (j ≤ d .cells + d .kinds) × StockTo links₀ links (d .cells) j chart
 
 abbrev μ-loop : tie.MeasureT-loop
-μ-loop d kinds links₀ j₀ links j = d .cells + d .kinds - j
+μ-loop d chart links₀ j₀ links j = d .cells + d .kinds - j
+
+abbrev start : tie.At-loop Inv-loop μ-loop → tie.Start Inv-loop μ-loop
+start l = l .before .before .before
 
 loop-holds : tie.Need-loop-holds Inv-loop μ-loop
 loop-holds c = (search needs, omega arith, stock-none _ _ 0 _ refl)
@@ -23,29 +27,35 @@ loop-holds c = (search needs, omega arith, stock-none _ _ 0 _ refl)
 add-if1 : tie.Need-add-if1 Inv-loop μ-loop
 add-if1 c = omega arith
 
-add-links : tie.Need-add-links Inv-loop μ-loop
-add-links c = omega arith
-
 mul-links : tie.Need-mul-links Inv-loop μ-loop
 mul-links c = omega arith
 
-slice-write-links : tie.Need-slice-write-links Inv-loop μ-loop
-slice-write-links c = omega arith
+add-links : tie.Need-add-links Inv-loop μ-loop
+add-links c = omega arith
 
 mul-links-2 : tie.Need-mul-links-2 Inv-loop μ-loop
 mul-links-2 c = omega arith
 
-shared-slice-read-links : tie.Need-shared-slice-read-links Inv-loop μ-loop
-shared-slice-read-links c = omega arith
+slice-write-links : tie.Need-slice-write-links Inv-loop μ-loop
+slice-write-links c = omega arith
+
+copies-of-requires : tie.Need-copies-of-requires Inv-loop μ-loop
+copies-of-requires c κs = (omega arith, start (c .before .before .before .before .before) .pre .3 .long)
 
 cast-links : tie.Need-cast-links Inv-loop μ-loop
-cast-links c = omega (arith, c .shared-slice-known .given (2 * (c .before .before .before .before .before .before .loop .j - c .before .before .before .before .before .before .before .args .d .cells)))
+cast-links c =
+    let l = c .before .before .before .before .before .before in
+    let z = start l in
+    omega (arith, c .copies-of .ensures, z .pre .3 .copies (l .loop .j - z .args .d .cells))
+
+mul-links-3 : tie.Need-mul-links-3 Inv-loop μ-loop
+mul-links-3 c = omega arith
 
 add-links-2 : tie.Need-add-links-2 Inv-loop μ-loop
 add-links-2 c = omega arith
 
-mul-links-3 : tie.Need-mul-links-3 Inv-loop μ-loop
-mul-links-3 c = omega arith
+mul-links-4 : tie.Need-mul-links-4 Inv-loop μ-loop
+mul-links-4 c = omega arith
 
 slice-write-links-2 : tie.Need-slice-write-links-2 Inv-loop μ-loop
 slice-write-links-2 c = omega arith
@@ -59,21 +69,21 @@ loop-less c = omega arith
 loop-again : tie.Need-loop-again Inv-loop μ-loop
 loop-again c =
     let l = c .before .before .before .before in
-    let a = l .before .args in
+    let a = start l .args in
     let s = l .loop .inv .2 in
-    let h : 24576 + l .loop .j < length (l .loop .links) = omega arith in
+    let h : atCopies (l .loop .j) < length (l .loop .links) = omega arith in
     ⊎-elim
     (λ w. (
-      ap length (w .1) ∙ length-set (l .loop .links) (24576 + l .loop .j) 0 ∙ l .loop .inv .0,
+      ap length (w .1) ∙ length-set (l .loop .links) (atCopies (l .loop .j)) 0 ∙ l .loop .inv .0,
       omega arith,
-      subst (λ (m : List ℕ). StockTo (now (a .links)) m (a .d .cells) (l .loop .j + 1) (now (a .kinds))) (sym (w .1))
-          (stock-cell (now (a .links)) (l .loop .links) (a .d .cells) (l .loop .j) 0 (now (a .kinds)) s h (w .0 .taken) refl),
+      subst (λ (m : List ℕ). StockTo (now (a .links)) m (a .d .cells) (l .loop .j + 1) (now (a .chart))) (sym (w .1))
+          (stock-cell (now (a .links)) (l .loop .links) (a .d .cells) (l .loop .j) 0 (now (a .chart)) s h (w .0 .taken) refl),
     ))
     (λ w. (
-      ap length (w .3) ∙ length-set (l .loop .links) (24576 + l .loop .j) _ ∙ l .loop .inv .0,
+      ap length (w .3) ∙ length-set (l .loop .links) (atCopies (l .loop .j)) _ ∙ l .loop .inv .0,
       omega arith,
-      subst (λ (m : List ℕ). StockTo (now (a .links)) m (a .d .cells) (l .loop .j + 1) (now (a .kinds))) (sym (w .3))
-          (stock-kind (now (a .links)) (l .loop .links) (a .d .cells) (l .loop .j) (getD (now (a .kinds)) (2 * (l .loop .j - a .d .cells)) 0) (now (a .kinds)) s h (w .0 .left) refl),
+      subst (λ (m : List ℕ). StockTo (now (a .links)) m (a .d .cells) (l .loop .j + 1) (now (a .chart))) (sym (w .3))
+          (stock-kind (now (a .links)) (l .loop .links) (a .d .cells) (l .loop .j) (w .2 .result) (now (a .chart)) s h (w .0 .left) (w .2 .ensures)),
     ))
     (c .if2 .came)
 
@@ -83,8 +93,8 @@ same-length c = search needs
 returns : tie.Need-returns Inv-loop μ-loop
 returns c =
     let l = c .before .before in
-    let a = l .before .args in
-    stock-all (now (a .links)) (l .loop .links) (a .d .cells) (a .d .kinds) (l .loop .j) (now (a .kinds)) (omega arith) (l .loop .inv .2)
+    let a = start l .args in
+    stock-all (now (a .links)) (l .loop .links) (a .d .cells) (a .d .kinds) (l .loop .j) (now (a .chart)) (omega arith) (l .loop .inv .2)
 
 pub put-copies-spec : {M : Type 1} → statement M
 put-copies-spec =
@@ -94,14 +104,15 @@ put-copies-spec =
     μ-loop
     loop-holds
     add-if1
-    add-links
     mul-links
-    slice-write-links
+    add-links
     mul-links-2
-    shared-slice-read-links
+    slice-write-links
+    copies-of-requires
     cast-links
-    add-links-2
     mul-links-3
+    add-links-2
+    mul-links-4
     slice-write-links-2
     add-j
     loop-less

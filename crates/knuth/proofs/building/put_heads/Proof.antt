@@ -36,7 +36,7 @@ loop-again c =
     let l = c .before .before .before .before .before in
     let a = l .before .before .args in
     let f = c .before .before .put-node in
-    (search needs, omega arith, heads-more (now (a .links)) (l .loop .links) (f .last .0) (l .loop .j) (omega arith) (l .loop .inv .2) (f .ensures))
+    (search needs, omega arith, heads-more (now (a .links)) (l .loop .links) (f .last .0) (l .loop .j) (l .loop .inv .2) (f .ensures))
 
 same-length : tie.Need-same-length Inv-loop μ-loop
 same-length c = search needs

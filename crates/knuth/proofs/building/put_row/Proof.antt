@@ -3,7 +3,7 @@ use Prim.Native.Nat.{_+_, _≤_}
 use mathlib.Core.Path.{_≡_, refl, ap}
 use native.Mathlib.Omega.{arith}
 use denote.Ref.{now}
-use Rattle.definitions.specs.Lists.{below, howMany}
+use Rattle.lists.specs.Lists.{below, howMany}
 use Rattle.masks.specs.Masks.{has}
 use Rattle.masks.specs.declared.Mask.{Mask}
 use Rattle.rows.specs.Rows.{maskAt, rowAt}
@@ -71,7 +71,7 @@ returns c =
     let e = ends n in (
       row-size (a .d .cells) (a .x) (a .r) (maskAt w (a .r)) (m .result) (m .ensures) (rowAt w (a .r) .kind) (k .kind-at .result) (n .count-cells .result) end (k .kind-at .ensures) (n .count-cells .ensures .0) refl,
       row-laid (a .d .cells) (a .x) (a .r) (maskAt w (a .r)) (m .result) (m .ensures) (rowAt w (a .r) .kind) (k .kind-at .result) (n .count-cells .result) end (k .kind-at .ensures) (n .count-cells .ensures .0) refl
-          (now (a .links)) _ _ (omega arith) (c .before .before .before .before .before .before .put-node .ensures) (c .before .before .put-cells .ensures),
+          (now (a .links)) _ _ (c .before .before .before .before .before .before .put-node .ensures) (c .before .before .put-cells .ensures),
     )
 
 pub put-row-spec : {M : Type 1} → statement M

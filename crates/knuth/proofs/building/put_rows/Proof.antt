@@ -9,29 +9,29 @@ use borrow.Author.Needs.{needs}
 use denote.Ref.{now}
 use lib.ListN.{length}
 use Rattle.rows.specs.Systems.{systemIn}
-use Rattle.kept.proofs.NormalFormLaws.{row-kind, few-cells, few-kinds, few-rows}
 use Rattle.knuth.specs.Tables.{Laid, columns}
 use Rattle.knuth.proofs.BuildingLaws.{hasStock, nodesTo, endTo, stocked-yes, stocked-no, row-room, row-end, row-more, skip-end, skip-more, rows-none, rows-end, rows-laid}
 use Rattle.knuth.proofs.building.put_rows.Statement.{statement}
+use Rattle.kept.proofs.ReadyLaws.{few-cells, few-kinds, few-rows, row-kind}
 use Rattle.knuth.proofs.building.put_rows.Tie as tie
 
 abbrev Inv-loop : tie.InvT-loop
-Inv-loop d work heads images scans kinds pieces links₀ x₀ r₀ links x r =
-    let s = systemIn d work images scans kinds pieces in
+Inv-loop d work chart links₀ x₀ r₀ links x r =
+    let s = systemIn d work chart in
     (length links ≡ length links₀) × (r ≤ d .rows) × (x ≡ endTo s r) × Laid links₀ (columns s) links (nodesTo s r)
 
 abbrev μ-loop : tie.MeasureT-loop
-μ-loop d work heads images scans kinds pieces links₀ x₀ r₀ links x r = d .rows - r
+μ-loop d work chart links₀ x₀ r₀ links x r = d .rows - r
 
 abbrev start : tie.At-loop Inv-loop μ-loop → tie.Start Inv-loop μ-loop
-start l = l .before .before .before .before .before .before .before .before .before
+start l = l .before .before .before .before .before
 
 few : (z : tie.Start Inv-loop μ-loop) → (z .args .d .cells ≤ 128) × (z .args .d .kinds ≤ 16) × (z .args .d .rows ≤ 1024)
 few z =
     let a = z .args in (
-      few-cells (a .d) (now (a .work)) (now (a .images)) (now (a .scans)) (now (a .kinds)) (now (a .pieces)) (now (a .heads)) (z .pre .0),
-      few-kinds (a .d) (now (a .work)) (now (a .images)) (now (a .scans)) (now (a .kinds)) (now (a .pieces)) (now (a .heads)) (z .pre .0),
-      few-rows (a .d) (now (a .work)) (now (a .images)) (now (a .scans)) (now (a .kinds)) (now (a .pieces)) (now (a .heads)) (z .pre .0),
+      few-cells (a .d) (now (a .work)) (now (a .chart)) (z .pre .0 .lawful),
+      few-kinds (a .d) (now (a .work)) (now (a .chart)) (z .pre .0 .lawful),
+      few-rows (a .d) (now (a .work)) (now (a .chart)) (z .pre .0 .lawful),
     )
 
 kind-small : (c : tie.After-kind-at Inv-loop μ-loop) → c .kind-at .result < start (c .before .before .before) .args .d .kinds
@@ -40,42 +40,43 @@ kind-small c =
     let z = start l in
     let a = z .args in
     let e = c .kind-at .ensures in
-    omega (arith, row-kind (a .d) (now (a .work)) (now (a .images)) (now (a .scans)) (now (a .kinds)) (now (a .pieces)) (now (a .heads)) (z .pre .0) (l .loop .r) (c .before .if1 .taken))
+    omega (arith, row-kind (a .d) (now (a .work)) (now (a .chart)) (z .pre .0 .lawful) (l .loop .r) (c .before .if1 .taken))
 
 -- a row whose kind has copies
 stocked : (c : tie.Then2 Inv-loop μ-loop)
     → let l = c .before .before .before .before .before in
     let a = start l .args in
-    hasStock (systemIn (a .d) (now (a .work)) (now (a .images)) (now (a .scans)) (now (a .kinds)) (now (a .pieces))) (l .loop .r) ≡ true
+    hasStock (systemIn (a .d) (now (a .work)) (now (a .chart))) (l .loop .r) ≡ true
 stocked c =
     let l = c .before .before .before .before .before in
     let z = start l in
     let a = z .args in
     let k = c .before .before .kind-at in
-    stocked-yes (a .d) (now (a .work)) (now (a .heads)) (now (a .images)) (now (a .scans)) (now (a .kinds)) (now (a .pieces)) (z .pre .0) (l .loop .r)
-    (c .before .before .before .if1 .taken) (k .result) (k .ensures) (c .if2 .taken)
+    stocked-yes (a .d) (now (a .work)) (now (a .chart)) (z .pre .0) (l .loop .r)
+    (c .before .before .before .if1 .taken) (k .result) (k .ensures) (omega (arith, c .if2 .taken, c .before .copies-of .ensures))
 
 add-x : tie.Need-add-x Inv-loop μ-loop
 add-x c =
-    let z = c .before .before .before .before .before .before .before .before in
+    let z = c .before .before .before .before in
     let f = few z in
     omega arith
 
 loop-holds : tie.Need-loop-holds Inv-loop μ-loop
 loop-holds c =
-    let z = c .before .before .before .before .before .before .before .before in
+    let z = c .before .before .before .before in
     let a = z .args in
-    let n = rows-none (a .d) (now (a .work)) (now (a .heads)) (now (a .images)) (now (a .scans)) (now (a .kinds)) (now (a .pieces)) (now (a .links)) (a .d .cells + a .d .kinds) refl in
+    let n = rows-none (a .d) (now (a .work)) (now (a .chart)) (now (a .links)) (a .d .cells + a .d .kinds) refl in
     (refl, omega arith, n .0, n .1)
 
 kind-at-requires : tie.Need-kind-at-requires Inv-loop μ-loop
 kind-at-requires c κs = let z = start (c .before .before) in let h = c .if1 .taken in omega (arith, z .pre .0 .rowsFit)
 
-mul-if2 : tie.Need-mul-if2 Inv-loop μ-loop
-mul-if2 c = let k = kind-small c in let f = few (start (c .before .before .before)) in omega arith
-
-shared-slice-read-if2 : tie.Need-shared-slice-read-if2 Inv-loop μ-loop
-shared-slice-read-if2 c = let k = kind-small (c .before) in let f = few (start (c .before .before .before .before)) in omega (arith, start (c .before .before .before .before) .pre .0 .kindsFit)
+copies-of-requires : tie.Need-copies-of-requires Inv-loop μ-loop
+copies-of-requires c κs =
+    let z = start (c .before .before .before) in
+    let k = kind-small c in
+    let f = few z in
+    (omega arith, z .pre .0 .charted .long)
 
 put-row-requires : tie.Need-put-row-requires Inv-loop μ-loop
 put-row-requires c κs =
@@ -92,7 +93,7 @@ put-row-requires c κs =
       omega arith,
       omega arith,
       omega arith,
-      row-room (a .d) (now (a .work)) (now (a .heads)) (now (a .images)) (now (a .scans)) (now (a .kinds)) (now (a .pieces)) (z .pre .0) (l .loop .r) h (stocked t) (l .loop .x) (l .loop .inv .2) (z .pre .2),
+      row-room (a .d) (now (a .work)) (now (a .chart)) (z .pre .0) (l .loop .r) h (stocked t) (l .loop .x) (l .loop .inv .2) (z .pre .2),
     )
 
 add-r : tie.Need-add-r Inv-loop μ-loop
@@ -108,25 +109,25 @@ loop-again c =
     let a = z .args in
     let r = l .loop .r in
     let h = c .before .before .before .if1 .taken in
-    let S = systemIn (a .d) (now (a .work)) (now (a .images)) (now (a .scans)) (now (a .kinds)) (now (a .pieces)) in
+    let S = systemIn (a .d) (now (a .work)) (now (a .chart)) in
     ⊎-elim
     (λ w.
     let t : tie.Then2 Inv-loop μ-loop = record { before = c .before; if2 = w .0 } in
     let y = stocked t in (
       ap length (w .5) ∙ w .2 .kept .1 .1 .0 ∙ l .loop .inv .0,
       omega arith,
-      row-end (a .d) (now (a .work)) (now (a .heads)) (now (a .images)) (now (a .scans)) (now (a .kinds)) (now (a .pieces)) (z .pre .0) r h y (l .loop .x) (l .loop .inv .2) (z .pre .2) (c .if2 .x)
+      row-end (a .d) (now (a .work)) (now (a .chart)) (z .pre .0) r h y (l .loop .x) (l .loop .inv .2) (z .pre .2) (c .if2 .x)
           (w .6 ∙ w .2 .ensures .0),
-      row-more (a .d) (now (a .work)) (now (a .heads)) (now (a .images)) (now (a .scans)) (now (a .kinds)) (now (a .pieces)) (z .pre .0) r h y (l .loop .x) (l .loop .inv .2) (z .pre .2) (now (a .links))
+      row-more (a .d) (now (a .work)) (now (a .chart)) (z .pre .0) r h y (l .loop .x) (l .loop .inv .2) (z .pre .2) (now (a .links))
           (l .loop .links) (c .if2 .links) (l .loop .inv .3) (subst (λ (m : List ℕ). Laid (l .loop .links) (l .loop .x) m _) (sym (w .5)) (w .2 .ensures .1)),
     ))
     (λ w.
     let k = c .before .before .kind-at in
-    let n = stocked-no (a .d) (now (a .work)) (now (a .heads)) (now (a .images)) (now (a .scans)) (now (a .kinds)) (now (a .pieces)) (z .pre .0) r h (k .result) (k .ensures) (w .0 .left) in (
+    let n = stocked-no (a .d) (now (a .work)) (now (a .chart)) (z .pre .0) r h (k .result) (k .ensures) (omega (arith, w .0 .left, c .before .copies-of .ensures)) in (
       ap length (w .1) ∙ l .loop .inv .0,
       omega arith,
-      skip-end (a .d) (now (a .work)) (now (a .heads)) (now (a .images)) (now (a .scans)) (now (a .kinds)) (now (a .pieces)) (z .pre .0) r h n (c .if2 .x) (w .2 ∙ l .loop .inv .2),
-      skip-more (a .d) (now (a .work)) (now (a .heads)) (now (a .images)) (now (a .scans)) (now (a .kinds)) (now (a .pieces)) (z .pre .0) r h n (now (a .links)) (c .if2 .links)
+      skip-end (a .d) (now (a .work)) (now (a .chart)) (z .pre .0) r h n (c .if2 .x) (w .2 ∙ l .loop .inv .2),
+      skip-more (a .d) (now (a .work)) (now (a .chart)) (z .pre .0) r h n (now (a .links)) (c .if2 .links)
           (subst (λ (m : List ℕ). Laid (now (a .links)) (columns S) m (nodesTo S r)) (sym (w .1)) (l .loop .inv .3)),
     ))
     (c .if2 .came)
@@ -139,8 +140,8 @@ returns c =
     let l = c .before .before in
     let a = start l .args in
     let e : l .loop .r ≡ a .d .rows = omega arith in (
-      rows-end (a .d) (now (a .work)) (now (a .heads)) (now (a .images)) (now (a .scans)) (now (a .kinds)) (now (a .pieces)) (l .loop .r) (l .loop .x) e (l .loop .inv .2),
-      rows-laid (a .d) (now (a .work)) (now (a .heads)) (now (a .images)) (now (a .scans)) (now (a .kinds)) (now (a .pieces)) (l .loop .r) (now (a .links)) (l .loop .links) e (l .loop .inv .3),
+      rows-end (a .d) (now (a .work)) (now (a .chart)) (l .loop .r) (l .loop .x) e (l .loop .inv .2),
+      rows-laid (a .d) (now (a .work)) (now (a .chart)) (l .loop .r) (now (a .links)) (l .loop .links) e (l .loop .inv .3),
     )
 
 pub put-rows-spec : {M : Type 1} → statement M
@@ -152,8 +153,7 @@ put-rows-spec =
     add-x
     loop-holds
     kind-at-requires
-    mul-if2
-    shared-slice-read-if2
+    copies-of-requires
     put-row-requires
     add-r
     loop-less

@@ -1,4 +1,4 @@
--- `output::pages::page_after` meets its contract: the answer copied is the one in its place, and the page is that of `solver::tables::page_behind`. Assumes nothing.
+-- `output::pages::page_after` meets its contract: the answer copied is the one in its place, and the page is that of `solver::pages::page`. Assumes nothing.
 use Prim.Native.Nat.{ℕ, _*_}
 use mathlib.Core.List.{List}
 use mathlib.Core.Path.{refl, sym, ap, _∙_}
@@ -7,7 +7,8 @@ use lib.ListN.{take}
 use lib.Seq.{length-take-le}
 use Rattle.placements.specs.Tables.{recordsOf}
 use Rattle.solver.specs.Lent.{callWith}
-use Rattle.kept.specs.Calls.{outcomeBehind}
+use Rattle.definitions.specs.Starts.{outcomeFrom}
+use Rattle.definitions.specs.declared.Start.the-variants.{Behind}
 use Rattle.output.proofs.RestLaws.{copied}
 use borrow.Author.Needs.{needs}
 use Rattle.output.proofs.pages.page_after.Statement.{statement}
@@ -15,7 +16,7 @@ use Rattle.output.proofs.pages.page_after.Tie as tie
 use Rattle.output.proofs.pages.page_after.Reads as reads
 use Rattle.output.proofs.pages.page_after.Lts as lts
 use Rattle.output.proofs.lines.copy.Reads as copy-reads
-use Rattle.solver.proofs.tables.page_behind.Reads as page-behind-reads
+use Rattle.solver.proofs.pages.page.Reads as page-reads
 
 -- src/pages.rt:56:26
 mul-copy : tie.Need-mul-copy
@@ -38,20 +39,20 @@ array-share-prefix-last : tie.Need-array-share-prefix-last
 array-share-prefix-last c = search needs
 
 -- src/pages.rt:63:9
-slice-aggregate-page-behind : tie.Need-slice-aggregate-page-behind
-slice-aggregate-page-behind c = sym (length-take-le _ _ (array-share-prefix-last (c .before)))
+slice-aggregate-page : tie.Need-slice-aggregate-page
+slice-aggregate-page c = sym (length-take-le _ _ (array-share-prefix-last (c .before)))
 
 -- src/pages.rt:64:9
-slice-relend-prefix-page-behind : tie.Need-slice-relend-prefix-page-behind
-slice-relend-prefix-page-behind c = search needs
+slice-relend-prefix-page : tie.Need-slice-relend-prefix-page
+slice-relend-prefix-page c = search needs
 
 -- src/pages.rt:64:9
-slice-aggregate-page-behind-2 : tie.Need-slice-aggregate-page-behind-2
-slice-aggregate-page-behind-2 c = sym (length-take-le _ _ (slice-relend-prefix-page-behind (c .before)))
+slice-aggregate-page-2 : tie.Need-slice-aggregate-page-2
+slice-aggregate-page-2 c = sym (length-take-le _ _ (slice-relend-prefix-page (c .before)))
 
 -- src/pages.rt:58:5
-page-behind-requires : tie.Need-page-behind-requires
-page-behind-requires c κs = search needs
+page-requires : tie.Need-page-requires
+page-requires c κs = search needs
 
 -- src/pages.rt:40:1
 same-length : tie.Need-same-length
@@ -68,15 +69,16 @@ same-length-3 c = search needs
 -- src/pages.rt:40:1
 returns : tie.Need-returns
 returns c =
-    let b = c .before .before .before .before .before .before in
+    let at-answers = c .before .before .before .before .before in
+    let b = at-answers .before in
     let k = b .before .before .before .before .before .before in
     let s = k .before .before .before .before .before .before .before in
     let a = s .args in
     record {
-      page = b .page-behind .last .1 .1 .1 .1 .1 .0;
+      page = b .page .last .1 .1 .1 .1 .1 .1 .0;
       outcomeIs =
-          b .page-behind .ensures
-          ∙ ap (λ (x : List ℕ). outcomeBehind x (callWith (recordsOf (a .t)) (a .board) (now (a .bytes)) (a .config) 0 (take (a .room * a .size) (now (a .answers))) (now (a .work)) (now (a .links))))
+          b .page .ensures .0
+          ∙ ap (λ (x : List ℕ). outcomeFrom Behind x (callWith (recordsOf (a .t)) (a .board) (now (a .bytes)) (a .config) (take (a .room * a .size) (now (a .answers))) (now (a .work)) (now (a .links))))
           (copied _ (now (a .answers)) (k .copy .last .1 .1 .0) (a .place * a .size) (a .size) (k .copy .ensures) (s .pre .1));
       answersAre = refl;
     }
@@ -90,10 +92,10 @@ page-after-spec =
     copy-requires
     mul-end
     array-share-prefix-last
-    slice-aggregate-page-behind
-    slice-relend-prefix-page-behind
-    slice-aggregate-page-behind-2
-    page-behind-requires
+    slice-aggregate-page
+    slice-relend-prefix-page
+    slice-aggregate-page-2
+    page-requires
     same-length
     same-length-2
     same-length-3

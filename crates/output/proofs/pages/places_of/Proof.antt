@@ -1,11 +1,11 @@
 -- `output::pages::places_of` meets its contract. Assumes nothing.
 use mathlib.Core.Bool.{Bool, true, false, cond}
 use mathlib.Core.Path.{_≡_, sym, ap, _∙_}
+use Rattle.lists.proofs.TestLaws.{holds}
 use Rattle.definitions.specs.Grid.{volume}
 use Rattle.definitions.specs.Refusals.{sidesFit, sidesOf}
 use Rattle.definitions.specs.declared.Record.{Record}
 use Rattle.output.specs.Standing.{placesOf}
-use Rattle.definitions.proofs.ListLaws.{holds}
 use borrow.Author.Needs.{needs}
 use Rattle.output.proofs.pages.places_of.Statement.{statement}
 use Rattle.output.proofs.pages.places_of.Tie as tie

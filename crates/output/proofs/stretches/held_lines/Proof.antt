@@ -20,8 +20,9 @@ end-of-requires c κs = search needs
 -- src/step.rt:47:9
 put-lines-requires : tie.Need-put-lines-requires
 put-lines-requires c κs =
-    let e = c .before .end-of in
-    let s = c .before .before .before .before .before in
+    let at-end-of = c .before in
+    let s = at-end-of .before .before .before .before in
+    let e = at-end-of .end-of in
     let q = s .pre in
     let small = q .0 .small in
     let number = q .0 .number in

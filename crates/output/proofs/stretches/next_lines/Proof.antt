@@ -29,10 +29,15 @@ turn-page-requires c κs = search needs
 
 held-lines-requires-2 : tie.Need-held-lines-requires-2
 held-lines-requires-2 c κs =
-    let turned = c .before .before .before .before .before .before .before .before .turn-page .ensures in
+    let at-work = c .before .before .before .before .before in
+    let at-turn-page = at-work .before .before .before in
+    let else1 = at-turn-page .before .before .before .before .before in
+    let at-slice-known = else1 .before .before .before .before .before in
+    let start = at-slice-known .before .before .before in
+    let turned = at-turn-page .turn-page .ensures in
     let fresh = turned .fresh in
     let some = turned .some in
-    (turned .standing, omega arith, c .before .before .before .before .before .before .before .before .before .before .before .before .before .before .before .before .before .before .before .before .before .pre .2)
+    (turned .standing, omega arith, start .pre .2)
 
 same-length-3 : tie.Need-same-length-3
 same-length-3 c = search needs

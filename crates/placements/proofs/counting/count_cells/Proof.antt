@@ -8,7 +8,7 @@ use native.Mathlib.Omega.{arith}
 use borrow.Author.Needs.{needs}
 use denote.Ref.{now}
 use lib.ListN.{take, getD}
-use Rattle.definitions.specs.Lists.{howMany}
+use Rattle.lists.specs.Lists.{howMany}
 use Rattle.definitions.specs.Grid.{Cell}
 use Rattle.definitions.specs.Scan.{scan}
 use Rattle.definitions.specs.Placements.{fits}

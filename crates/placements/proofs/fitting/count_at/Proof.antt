@@ -8,11 +8,11 @@ use borrow.Author.Needs.{needs}
 use denote.Ref.{now}
 use lib.ListN.{length, getD, take, drop}
 use lib.Seq.{length-take-le, getD-take}
-use Rattle.definitions.specs.Lists.{howMany}
+use Rattle.lists.specs.Lists.{howMany}
+use Rattle.lists.proofs.CountLaws.{count-hit, count-miss, count-end}
 use Rattle.shape.specs.Coords.{asCell}
 use Rattle.shape.specs.Grids.{asGrid}
 use Rattle.shape.specs.Scans.{asOrder}
-use Rattle.shape.proofs.GridLaws.{count-hit, count-miss, count-end}
 use Rattle.placements.proofs.FittingLaws.{fitsBy, fits-by, count-turned}
 use Rattle.placements.proofs.fitting.count_at.Statement.{statement}
 use Rattle.placements.proofs.fitting.count_at.Tie as tie

@@ -7,10 +7,10 @@ use native.Mathlib.Omega.{arith}
 use borrow.Author.Needs.{needs}
 use borrow.Author.Tests.{not-true, not-false}
 use denote.Ref.{now}
+use Rattle.lists.proofs.TestLaws.{holds}
 use Rattle.definitions.specs.Grid.{volume, gridWith}
 use Rattle.definitions.specs.Maps.{mapOf, mapGrid, mapSides}
 use Rattle.definitions.specs.Placements.{reaches}
-use Rattle.definitions.proofs.ListLaws.{holds}
 use Rattle.shape.specs.Coords.{asSides, asCell, Fit}
 use Rattle.shape.specs.Grids.{asGrid}
 use Rattle.shape.proofs.PlaceLaws.{map-volume, mapped-fit}

@@ -6,9 +6,9 @@ use borrow.Author.Tests.{not-true, not-false, lt-ltb, le-ltb}
 use denote.Ref.{now}
 use lib.Dec.{T}
 use lib.ListN.{drop}
-use Rattle.definitions.specs.Lists.{all, sum}
+use Rattle.lists.specs.Lists.{all, sum}
+use Rattle.lists.proofs.TestLaws.{and-left, and-right}
 use Rattle.definitions.specs.Refusals.{gridOf, sidesFit, cellsLie, areBits, firstThatApplies}
-use Rattle.definitions.proofs.ListLaws.{and-left, and-right}
 use Rattle.placements.specs.Tables.{recordsOf}
 use Rattle.placements.specs.Stages.{gridRows}
 use Rattle.placements.proofs.RefusalLaws.{grid-rows, bits-told, cells-count}

@@ -7,9 +7,9 @@ use borrow.Author.Needs.{needs}
 use borrow.Author.Tests.{not-true, not-false, lt-ltb, le-ltb}
 use denote.Ref.{now}
 use lib.ListN.{drop}
-use Rattle.definitions.specs.Lists.{all}
+use Rattle.lists.specs.Lists.{all}
+use Rattle.lists.proofs.TestLaws.{holds}
 use Rattle.definitions.specs.Refusals.{sidesFit, cellsLie, firstThatApplies}
-use Rattle.definitions.proofs.ListLaws.{holds}
 use Rattle.placements.specs.Tables.{recordsOf}
 use Rattle.placements.specs.Stages.{lentRows}
 use Rattle.placements.proofs.RefusalLaws.{rows-long, records-count}

@@ -1,41 +1,46 @@
 -- `is_answer` meets its contract. The loop's invariant: the first 2 i bytes are the answer's. Assumes nothing.
-use Prim.Native.Nat.{_-_}
+use Prim.Native.Nat.{_-_, _≤_}
+use mathlib.Core.List.{List}
 use native.Mathlib.Omega.{arith}
 use denote.Ref.{now}
-use lib.ListN.{take}
-use Rattle.rows.specs.Systems.{ownedIn}
-use Rattle.rows.specs.Answering.{answersOver, pathIn, takenBy}
+use lib.ListN.{length, take}
+use Rattle.definitions.specs.Answers.{Taken}
+use Rattle.rows.specs.Charts.{scansPart}
+use Rattle.rows.specs.Answering.{answersOver, takenIn}
+use Rattle.rows.proofs.ChartLaws.{scans-long}
 use Rattle.rows.proofs.AnsweringLaws.{Agreed, agreed-none, agreed-more, agreed-all, sizes-apart, pieces-apart, copies-apart}
 use Rattle.rows.proofs.answers.is_answer.Statement.{statement}
 use Rattle.rows.proofs.answers.is_answer.Tie as tie
 
 abbrev Inv-loop : tie.InvT-loop
-Inv-loop d work scans pieces path n last v i₀ i =
-    let ts = takenBy (ownedIn pieces (d .pieces)) (d .kinds) (pathIn work path n) in
-    Agreed (answersOver ts (take v scans)) last v i
+Inv-loop d work chart path n last v i₀ i = Agreed (answersOver (takenIn d work chart path n) (take v (scansPart chart))) last v i
 
 abbrev μ-loop : tie.MeasureT-loop
-μ-loop d work scans pieces path n last v i₀ i = v - i
+μ-loop d work chart path n last v i₀ i = v - i
+
+abbrev taken : tie.Start Inv-loop μ-loop → List Taken
+taken start = let a = start .args in takenIn (a .d) (now (a .work)) (now (a .chart)) (now (a .path)) (a .n)
+
+long : (start : tie.Start Inv-loop μ-loop) → start .args .d .places ≤ length (scansPart (now (start .args .chart)))
+long start = scans-long (now (start .args .chart)) (start .pre .0 .charted .long) (start .args .d .places) (start .pre .1)
 
 mul-if1 : tie.Need-mul-if1 Inv-loop μ-loop
 mul-if1 c = omega arith
 
 returns : tie.Need-returns Inv-loop μ-loop
 returns c =
-    let z = c .before .before .before .before .before .before in
-    let a = z .args in
-    let ts = takenBy (ownedIn (now (a .pieces)) (a .d .pieces)) (a .d .kinds) (pathIn (now (a .work)) (now (a .path)) (a .n)) in
-    sizes-apart ts (now (a .scans)) (now (a .last)) (a .d .places) (z .pre .1) (c .if1 .taken)
+    let start = c .before .before .before .before .before in
+    let a = start .args in
+    sizes-apart (taken start) (scansPart (now (a .chart))) (now (a .last)) (a .d .places) (long start) (c .if1 .taken)
 
 loop-holds : tie.Need-loop-holds Inv-loop μ-loop
 loop-holds c =
-    let z = c .before .before .before .before .before .before in
-    let a = z .args in
-    let ts = takenBy (ownedIn (now (a .pieces)) (a .d .pieces)) (a .d .kinds) (pathIn (now (a .work)) (now (a .path)) (a .n)) in
-    agreed-none ts (now (a .scans)) (now (a .last)) (a .d .places) (z .pre .1) (c .if1 .left)
+    let start = c .before .before .before .before .before in
+    let a = start .args in
+    agreed-none (taken start) (scansPart (now (a .chart))) (now (a .last)) (a .d .places) (long start) (c .if1 .left)
 
 copy-at-requires : tie.Need-copy-at-requires Inv-loop μ-loop
-copy-at-requires c κs = (c .before .before .before .before .before .before .before .before .pre .0, omega arith)
+copy-at-requires c κs = let start = c .before .before .before .before .before .before .before in (start .pre .0, omega arith)
 
 mul-if2 : tie.Need-mul-if2 Inv-loop μ-loop
 mul-if2 c = omega arith
@@ -45,12 +50,13 @@ shared-slice-read-if2 c = omega arith
 
 returns-2 : tie.Need-returns-2 Inv-loop μ-loop
 returns-2 c =
-    let l = c .before .before .before .before .before in
-    let z = l .before .before .before .before .before .before .before in
-    let a = z .args in
-    let ts = takenBy (ownedIn (now (a .pieces)) (a .d .pieces)) (a .d .kinds) (pathIn (now (a .work)) (now (a .path)) (a .n)) in
-    let k = c .before .before .before .copy-at in
-    pieces-apart ts (now (a .scans)) (now (a .last)) (a .d .places) (z .pre .1) (l .loop .i) (c .before .before .before .before .loop-test .taken) (k .result) (k .ensures) (c .if2 .taken)
+    let copy = c .before .before .before in
+    let in-loop = copy .before in
+    let at-loop = in-loop .before in
+    let start = at-loop .before .before .before .before .before .before in
+    let a = start .args in
+    pieces-apart (taken start) (scansPart (now (a .chart))) (now (a .last)) (a .d .places) (long start) (at-loop .loop .i) (in-loop .loop-test .taken)
+    (copy .copy-at .result) (copy .copy-at .ensures) (c .if2 .taken)
 
 mul-if3 : tie.Need-mul-if3 Inv-loop μ-loop
 mul-if3 c = omega arith
@@ -63,12 +69,13 @@ shared-slice-read-if3 c = omega arith
 
 returns-3 : tie.Need-returns-3 Inv-loop μ-loop
 returns-3 c =
-    let l = c .before .before .before .before .before .before .before .before in
-    let z = l .before .before .before .before .before .before .before in
-    let a = z .args in
-    let ts = takenBy (ownedIn (now (a .pieces)) (a .d .pieces)) (a .d .kinds) (pathIn (now (a .work)) (now (a .path)) (a .n)) in
-    let k = c .before .before .before .before .before .before .copy-at in
-    copies-apart ts (now (a .scans)) (now (a .last)) (a .d .places) (z .pre .1) (l .loop .i) (c .before .before .before .before .before .before .before .loop-test .taken) (k .result) (k .ensures) (c .if3 .taken)
+    let copy = c .before .before .before .before .before .before in
+    let in-loop = copy .before in
+    let at-loop = in-loop .before in
+    let start = at-loop .before .before .before .before .before .before in
+    let a = start .args in
+    copies-apart (taken start) (scansPart (now (a .chart))) (now (a .last)) (a .d .places) (long start) (at-loop .loop .i) (in-loop .loop-test .taken)
+    (copy .copy-at .result) (copy .copy-at .ensures) (c .if3 .taken)
 
 add-i : tie.Need-add-i Inv-loop μ-loop
 add-i c = omega arith
@@ -78,20 +85,22 @@ loop-less c = omega arith
 
 loop-again : tie.Need-loop-again Inv-loop μ-loop
 loop-again c =
-    let l = c .before .before .before .before .before .before .before .before in
-    let z = l .before .before .before .before .before .before .before in
-    let a = z .args in
-    let ts = takenBy (ownedIn (now (a .pieces)) (a .d .pieces)) (a .d .kinds) (pathIn (now (a .work)) (now (a .path)) (a .n)) in
-    let k = c .before .before .before .before .before .before .copy-at in
-    agreed-more ts (now (a .scans)) (now (a .last)) (a .d .places) (z .pre .1) (l .loop .i) (l .loop .inv) (c .before .before .before .before .before .before .before .loop-test .taken) (k .result) (k .ensures) (c .before .before .before .if2 .left) (c .if3 .left)
+    let same-piece = c .before .before .before in
+    let copy = same-piece .before .before .before in
+    let in-loop = copy .before in
+    let at-loop = in-loop .before in
+    let start = at-loop .before .before .before .before .before .before in
+    let a = start .args in
+    agreed-more (taken start) (scansPart (now (a .chart))) (now (a .last)) (a .d .places) (long start) (at-loop .loop .i) (at-loop .loop .inv)
+    (in-loop .loop-test .taken) (copy .copy-at .result) (copy .copy-at .ensures) (same-piece .if2 .left) (c .if3 .left)
 
 returns-4 : tie.Need-returns-4 Inv-loop μ-loop
 returns-4 c =
-    let l = c .before in
-    let z = l .before .before .before .before .before .before .before in
-    let a = z .args in
-    let ts = takenBy (ownedIn (now (a .pieces)) (a .d .pieces)) (a .d .kinds) (pathIn (now (a .work)) (now (a .path)) (a .n)) in
-    agreed-all ts (now (a .scans)) (now (a .last)) (a .d .places) (z .pre .1) (l .loop .i) (l .loop .inv) (c .loop-test .left)
+    let at-loop = c .before in
+    let start = at-loop .before .before .before .before .before .before in
+    let a = start .args in
+    agreed-all (taken start) (scansPart (now (a .chart))) (now (a .last)) (a .d .places) (long start) (at-loop .loop .i) (at-loop .loop .inv)
+    (c .loop-test .left)
 
 pub is-answer-spec : {M : Type 1} → statement M
 is-answer-spec =

@@ -6,25 +6,26 @@ use borrow.Author.Needs.{needs}
 use denote.Ref.{now}
 use lib.ListN.{length, take, length-set}
 use lib.Seq.{paste, paste-zero, lt-length-set}
-use Rattle.rows.specs.Systems.{ownedIn}
-use Rattle.rows.specs.Answering.{answersOver, pathIn, takenBy}
+use Rattle.rows.specs.Charts.{scansPart}
+use Rattle.rows.specs.Answering.{answersOver, takenIn}
+use Rattle.rows.proofs.ChartLaws.{scans-long}
 use Rattle.rows.proofs.AnsweringLaws.{answer-stored}
 use Rattle.rows.proofs.answers.reconstruct_answer.Statement.{statement}
 use Rattle.rows.proofs.answers.reconstruct_answer.Tie as tie
 
 abbrev Inv-loop : tie.InvT-loop
-Inv-loop d work scans pieces path n answers₀ at v i₀ answers i =
-    let ts = takenBy (ownedIn pieces (d .pieces)) (d .kinds) (pathIn work path n) in
-    (length answers ≡ length answers₀) × (i ≤ v) × (answers ≡ paste answers₀ at (answersOver ts (take v scans)) (2 * i))
+Inv-loop d work chart path n answers₀ at v i₀ answers i =
+    (length answers ≡ length answers₀) × (i ≤ v)
+    × (answers ≡ paste answers₀ at (answersOver (takenIn d work chart path n) (take v (scansPart chart))) (2 * i))
 
 abbrev μ-loop : tie.MeasureT-loop
-μ-loop d work scans pieces path n answers₀ at v i₀ answers i = v - i
+μ-loop d work chart path n answers₀ at v i₀ answers i = v - i
 
 loop-holds : tie.Need-loop-holds Inv-loop μ-loop
 loop-holds c =
-    let a = c .before .before .before .before .before .args in
-    let ts = takenBy (ownedIn (now (a .pieces)) (a .d .pieces)) (a .d .kinds) (pathIn (now (a .work)) (now (a .path)) (a .n)) in
-    (search needs, omega arith, paste-zero (now (a .answers)) (a .at) (answersOver ts (take (a .d .places) (now (a .scans)))))
+    let a = c .before .before .before .before .args in
+    let ts = takenIn (a .d) (now (a .work)) (now (a .chart)) (now (a .path)) (a .n) in
+    (search needs, omega arith, paste-zero (now (a .answers)) (a .at) (answersOver ts (take (a .d .places) (scansPart (now (a .chart))))))
 
 copy-at-requires : tie.Need-copy-at-requires Inv-loop μ-loop
 copy-at-requires c κs = search needs
@@ -58,13 +59,16 @@ loop-less c = search needs
 
 loop-again : tie.Need-loop-again Inv-loop μ-loop
 loop-again c =
-    let z = c .before .before .before .before .before .before .before .before in
-    let a = z .args in
-    let l = c .before .before .loop in
-    let ts = takenBy (ownedIn (now (a .pieces)) (a .d .pieces)) (a .d .kinds) (pathIn (now (a .work)) (now (a .path)) (a .n)) in (
+    let at-loop = c .before .before in
+    let start = at-loop .before .before .before .before .before in
+    let a = start .args in
+    let l = at-loop .loop in
+    let ts = takenIn (a .d) (now (a .work)) (now (a .chart)) (now (a .path)) (a .n) in
+    let long = scans-long (now (a .chart)) (start .pre .0 .charted .long) (a .d .places) (start .pre .1) in (
       simp length-set (l .inv .0),
       omega arith,
-      answer-stored ts (now (a .scans)) (now (a .answers)) (a .at) (a .d .places) (z .pre .1) (z .pre .2) (l .i) (omega arith) (l .answers) (l .inv .2) (c .copy-at .result) (c .copy-at .ensures),
+      answer-stored ts (scansPart (now (a .chart))) (now (a .answers)) (a .at) (a .d .places) long (start .pre .2) (l .i) (omega arith) (l .answers) (l .inv .2)
+          (c .copy-at .result) (c .copy-at .ensures),
     )
 
 same-length : tie.Need-same-length Inv-loop μ-loop
@@ -72,11 +76,12 @@ same-length c = search needs
 
 returns : tie.Need-returns Inv-loop μ-loop
 returns c =
-    let a = c .before .before .before .before .before .before .before .args in
-    let l = c .before .loop in
-    let ts = takenBy (ownedIn (now (a .pieces)) (a .d .pieces)) (a .d .kinds) (pathIn (now (a .work)) (now (a .path)) (a .n)) in
-    let e : l .i ≡ a .d .places = omega arith in
-    l .inv .2 ∙ ap (λ (k : ℕ). paste (now (a .answers)) (a .at) (answersOver ts (take (a .d .places) (now (a .scans)))) (2 * k)) e
+    let at-loop = c .before in
+    let a = at-loop .before .before .before .before .before .args in
+    let ts = takenIn (a .d) (now (a .work)) (now (a .chart)) (now (a .path)) (a .n) in
+    let told = answersOver ts (take (a .d .places) (scansPart (now (a .chart)))) in
+    let e : at-loop .loop .i ≡ a .d .places = omega arith in
+    at-loop .loop .inv .2 ∙ ap (λ (k : ℕ). paste (now (a .answers)) (a .at) told (2 * k)) e
 
 pub reconstruct-answer-spec : {M : Type 1} → statement M
 reconstruct-answer-spec =

@@ -9,8 +9,8 @@ use denote.Ref.{now}
 use lib.Dec.{eqb}
 use lib.ListN.{length, getD, take, drop}
 use lib.Seq.{length-take-le, getD-take}
-use Rattle.definitions.specs.Lists.{howMany}
-use Rattle.shape.proofs.GridLaws.{count-hit, count-miss, count-end}
+use Rattle.lists.specs.Lists.{howMany}
+use Rattle.lists.proofs.CountLaws.{count-hit, count-miss, count-end}
 use Rattle.rows.specs.Rows.{rowAt}
 use Rattle.rows.proofs.AnsweringLaws.{row-in, kind-counted}
 use Rattle.rows.proofs.answers.used_before.Statement.{statement}

@@ -4,8 +4,9 @@ use mathlib.Core.List.{map}
 use mathlib.Core.Path.{ap, _∙_}
 use borrow.Author.Needs.{needs}
 use denote.Ref.{now}
-use lib.ListN.{getD, take, drop}
-use Rattle.definitions.specs.Lists.{below}
+use lib.ListN.{getD}
+use Rattle.lists.specs.Lists.{below}
+use Rattle.rows.specs.Charts.{imagesOf, kindsPart}
 use Rattle.rows.specs.Rows.{rowsIn}
 use Rattle.rows.specs.Systems.{kindBy}
 use Rattle.rows.proofs.MovedLaws.{images-small, image-is}
@@ -23,25 +24,28 @@ mask-at-requires c κs = search needs
 
 moved-mask-requires : tie.Need-moved-mask-requires
 moved-mask-requires c κs =
-    let k = c .before .before .before .before .before .before .before in
-    let q = k .pre .1 .1 in
-    (q .0, q .1, images-small (k .args .d .cells) (take (k .args .d .cells) (drop (k .args .start) (now (k .args .images)))) (q .0) (q .2))
+    let start = c .before .before .before .before .before in
+    let a = start .args in
+    let q = start .pre .1 .1 in
+    (q .0, q .1, start .pre .0 .2, images-small (a .d .cells) (imagesOf (now (a .chart)) (a .d .cells) (a .m)) (q .0) (q .2))
 
 find-row-requires : tie.Need-find-row-requires
 find-row-requires c κs = search needs
 
 returns : tie.Need-returns
 returns c =
-    let k = c .before .before .before .before .before .before .before .before .before in
-    let a = k .args in
-    let kind = c .before .before .before .kind-after in
-    let mask = c .before .before .mask-at in
-    let moved = c .before .moved-mask in
-    let partners = map (λ (j : ℕ). getD (now (a .kinds)) (2 * j + 1) 0) (below (a .d .kinds)) in
+    let moved = c .before in
+    let mask = moved .before in
+    let after = mask .before in
+    let kind = after .before in
+    let start = kind .before .before .before in
+    let a = start .args in
+    let q = start .pre .1 in
+    let partners = map (λ (j : ℕ). getD (kindsPart (now (a .chart))) (3 * j + 1) 0) (below (a .d .kinds)) in
     c .find-row .ensures
-    ∙ image-is (rowsIn (now (a .work)) (a .d .rows)) (now (a .work)) partners (take (a .d .cells) (drop (a .start) (now (a .images)))) (a .odd) (a .r) (a .d .cells) (mask .result) (moved .result)
-    (kind .result) (mask .ensures) (k .pre .1 .1 .0) (k .pre .1 .0 .3) (k .pre .1 .1 .2) (moved .ensures)
-    (kind .ensures ∙ ap (kindBy partners (a .odd)) (c .before .before .before .before .kind-at .ensures))
+    ∙ image-is (rowsIn (now (a .work)) (a .d .rows)) (now (a .work)) partners (imagesOf (now (a .chart)) (a .d .cells) (a .m)) (a .odd) (a .r) (a .d .cells)
+    (mask .mask-at .result) (moved .moved-mask .result) (after .kind-after .result) (mask .mask-at .ensures) (q .1 .0) (q .0 .3) (q .1 .2)
+    (moved .moved-mask .ensures) (after .kind-after .ensures ∙ ap (kindBy partners (a .odd)) (kind .kind-at .ensures))
 
 pub image-row-spec : {M : Type 1} → statement M
 image-row-spec =

@@ -7,16 +7,17 @@ use borrow.Author.Needs.{needs}
 use denote.Ref.{now}
 use lib.ListN.{length, take, length-set}
 use lib.Seq.{lt-length-set}
+use Rattle.rows.specs.Charts.{scansPart}
 use Rattle.rows.specs.Shown.{Shown}
 use Rattle.rows.proofs.ShownLaws.{shown-more}
 use Rattle.rows.proofs.shown.show_cells.Statement.{statement}
 use Rattle.rows.proofs.shown.show_cells.Tie as tie
 
 abbrev Inv-loop : tie.InvT-loop
-Inv-loop d scans last shown₀ c₀ shown c = (length shown ≡ length shown₀) × (c ≤ d .cells) × Shown c (take (d .places) scans) last shown
+Inv-loop d chart last shown₀ c₀ shown c = (length shown ≡ length shown₀) × (c ≤ d .cells) × Shown c (take (d .places) (scansPart chart)) last shown
 
 abbrev μ-loop : tie.MeasureT-loop
-μ-loop d scans last shown₀ c₀ shown c = d .cells - c
+μ-loop d chart last shown₀ c₀ shown c = d .cells - c
 
 loop-holds : tie.Need-loop-holds Inv-loop μ-loop
 loop-holds c = (search needs, omega arith, record { piece = below-none _; copy = below-none _ })
@@ -62,12 +63,14 @@ loop-less c = omega arith
 
 loop-again : tie.Need-loop-again Inv-loop μ-loop
 loop-again c =
-    let l = c .before .before .before .before .before in
-    let a = l .before .before .before .before .args in (
-      simp length-set (l .loop .inv .0),
+    let place = c .before .before in
+    let at-loop = place .before .before .before in
+    let l = at-loop .loop in
+    let a = at-loop .before .before .before .before .args in (
+      simp length-set (l .inv .0),
       omega arith,
-      shown-more (take (a .d .places) (now (a .scans))) (now (a .last)) (l .loop .shown) (l .loop .c) (c .before .before .place-of .result) _ _ (l .loop .inv .2) (omega arith)
-          (c .before .before .place-of .ensures .0) (c .before .byte-or .ensures) (c .byte-or2 .ensures),
+      shown-more (take (a .d .places) (scansPart (now (a .chart)))) (now (a .last)) (l .shown) (l .c) (place .place-of .result) _ _ (l .inv .2) (omega arith)
+          (place .place-of .ensures .0) (c .before .byte-or .ensures) (c .byte-or2 .ensures),
     )
 
 same-length : tie.Need-same-length Inv-loop μ-loop
@@ -75,10 +78,11 @@ same-length c = search needs
 
 returns : tie.Need-returns Inv-loop μ-loop
 returns c =
-    let l = c .before .before in
-    let a = l .before .before .before .before .args in
-    let e : l .loop .c ≡ a .d .cells = omega arith in
-    subst (λ (n : ℕ). Shown n (take (a .d .places) (now (a .scans))) (now (a .last)) (l .loop .shown)) e (l .loop .inv .2)
+    let at-loop = c .before .before in
+    let l = at-loop .loop in
+    let a = at-loop .before .before .before .before .args in
+    let e : l .c ≡ a .d .cells = omega arith in
+    subst (λ (n : ℕ). Shown n (take (a .d .places) (scansPart (now (a .chart)))) (now (a .last)) (l .shown)) e (l .inv .2)
 
 pub show-cells-spec : {M : Type 1} → statement M
 show-cells-spec =

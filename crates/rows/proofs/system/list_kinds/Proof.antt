@@ -1,30 +1,81 @@
--- `list_kinds` meets its contract. The loop's invariant: the copies and the partners of the first k kinds stand at the front. Assumes nothing.
-use Prim.Native.Nat.{ℕ, _-_, _*_, _≤_}
+-- `list_kinds` meets its contract. The loop's invariant: the numbers of the first k kinds stand at the front, and all are small. Assumes nothing.
+use Prim.Native.Nat.{ℕ, _+_, _-_, _*_, _≤_, _<_}
 use mathlib.Core.Path.{_≡_, ap, _∙_}
 use native.Mathlib.Omega.{arith}
 use borrow.Author.Needs.{needs}
 use denote.Ref.{now}
-use lib.ListN.{length, getD, take, length-set}
-use lib.Seq.{paste, paste-zero, lt-length-set}
+use lib.Dec.{eqb}
+use lib.ListN.{length, getD, length-set}
+use lib.Seq.{lt-length-set}
+use Rattle.lists.specs.Lists.{howMany}
 use Rattle.definitions.specs.Maps.{mapOf}
-use Rattle.placements.specs.Merging.{copiesAt, movedForm}
+use Rattle.placements.specs.Merging.{Sound, movedForm, gridAt}
 use Rattle.placements.proofs.RefusalLaws.{rows-long}
-use Rattle.rows.proofs.PairLaws.{pairs}
-use Rattle.rows.proofs.KindListLaws.{partnerAt, lent-sound, kind-piece, copies-fit, number-fits, kind-next, kinds-end}
+use Rattle.placements.proofs.MergingLaws.{record-fits}
+use Rattle.rows.specs.Built.{KindsSmall}
+use Rattle.rows.proofs.PairLaws.{set3-long}
+use Rattle.rows.proofs.KindListLaws.{sizeAt, KindAt, lent-sound, kind-piece, copies-fit, number-fits, size-fits, small-next, kind-next, kinds-end}
 use Rattle.rows.proofs.system.list_kinds.Statement.{statement}
 use Rattle.rows.proofs.system.list_kinds.Tie as tie
 
 abbrev Inv-loop : tie.InvT-loop
-Inv-loop t bytes first n kinds₀ k₀ kinds k =
-    (length kinds ≡ length kinds₀) × (k ≤ n) × (kinds ≡ paste kinds₀ 0 (pairs (copiesAt t bytes) (partnerAt t bytes first n) (take n first)) (2 * k))
+Inv-loop bytes first n kinds₀ t k₀ kinds k =
+    (length kinds ≡ length kinds₀) × (k ≤ n) × KindsSmall kinds × ((j : ℕ) → j < k → KindAt t bytes first n kinds j)
 
 abbrev μ-loop : tie.MeasureT-loop
-μ-loop t bytes first n kinds₀ k₀ kinds k = n - k
+μ-loop bytes first n kinds₀ t k₀ kinds k = n - k
+
+-- the stops: the entry, the loop's head, and a turn with its piece, copies, partner and cells
+abbrev to-start : tie.At-loop Inv-loop μ-loop → tie.Start Inv-loop μ-loop
+to-start c = c .before .before .before .before
+
+abbrev to-turn : tie.After-p Inv-loop μ-loop → tie.In-loop Inv-loop μ-loop
+to-turn c = c .before .before
+
+abbrev number : tie.In-loop Inv-loop μ-loop → ℕ
+number c = getD (now (to-start (c .before) .args .first)) (c .before .loop .k) 0
+
+long : (z : tie.Start Inv-loop μ-loop) → length (z .args .t1 .rows) ≡ 16
+long z = rows-long (z .args .t1) (z .good .0)
+
+few : (z : tie.Start Inv-loop μ-loop) → Sound (z .args .t1) (now (z .args .bytes))
+few z = lent-sound _ _ _ _ _ (long z) (z .pre .0) (z .pre .1) (z .pre .2)
+
+is-piece : (c : tie.In-loop Inv-loop μ-loop) → number c < to-start (c .before) .args .t1 .n
+is-piece c = let z = to-start (c .before) in kind-piece _ _ _ _ _ (long z) (z .pre .0) (z .pre .1) (z .pre .2) (c .before .loop .k) (c .loop-test .taken)
+
+-- there is room for the numbers of kind k, which are small
+room : (c : tie.In-loop Inv-loop μ-loop) → 3 * c .before .loop .k + 2 < length (c .before .loop .kinds)
+room c = let z = to-start (c .before) in omega (arith, c .before .loop .inv .0, z .pre .3, c .loop-test .taken)
+
+few-kinds : (c : tie.In-loop Inv-loop μ-loop) → c .before .loop .k < 16
+few-kinds c = let z = to-start (c .before) in omega (arith, few z .few, z .pre .1 .few, c .loop-test .taken)
+
+copies-small : (c : tie.After-copies-of Inv-loop μ-loop) → c .copies-of .result ≤ 128
+copies-small c =
+    let z = to-start (to-turn (c .before) .before) in
+    omega (arith, c .copies-of .ensures, copies-fit _ _ _ _ _ (long z) (z .pre .0) (z .pre .1) (z .pre .2) (number (to-turn (c .before))))
+
+partner-small : (c : tie.After-kind-of Inv-loop μ-loop) → c .kind-of .result ≤ 16
+partner-small c =
+    let turn = to-turn (c .before .before) in
+    let z = to-start (turn .before) in
+    omega (arith, c .kind-of .ensures, number-fits _ _ _ _ _ (long z) (z .pre .0) (z .pre .1) (z .pre .2) (movedForm (mapOf 26) (z .args .t1) (now (z .args .bytes)) (number turn)))
+
+cells-small : (c : tie.After-count-filled Inv-loop μ-loop) → c .count-filled .result ≤ 512
+cells-small c =
+    let turn = to-turn (c .before .before .before .before) in
+    let z = to-start (turn .before) in
+    size-fits _ _ _ _ _ (long z) (z .pre .0) (z .pre .1) (z .pre .2) (c .count-filled .result) (now (c .before .cells-of .result)) (number turn) (is-piece turn) (c .before .cells-of .ensures .1)
+    (c .count-filled .ensures .1)
+
+cells-are : (c : tie.After-count-filled Inv-loop μ-loop)
+    → (let turn = to-turn (c .before .before .before .before) in let a = to-start (turn .before) .args in c .count-filled .result ≡ sizeAt (a .t1) (now (a .bytes)) (number turn))
+unfolding gridAt
+cells-are c = c .count-filled .ensures .0 ∙ ap (howMany (eqb 1)) (c .before .cells-of .ensures .0)
 
 loop-holds : tie.Need-loop-holds Inv-loop μ-loop
-loop-holds c =
-    let a = c .before .before .before .args in
-    (search needs, omega arith, paste-zero (now (a .kinds)) 0 (pairs (copiesAt (a .t) (now (a .bytes))) (partnerAt (a .t) (now (a .bytes)) (now (a .first)) (a .n)) (take (a .n) (now (a .first)))))
+loop-holds c = (search needs, omega arith, c .before .before .before .pre .4, λ j l. absurd (omega arith))
 
 shared-slice-read-i : tie.Need-shared-slice-read-i Inv-loop μ-loop
 shared-slice-read-i c = search needs
@@ -32,59 +83,89 @@ shared-slice-read-i c = search needs
 cast-i : tie.Need-cast-i Inv-loop μ-loop
 cast-i c = omega (arith, c .shared-slice-known3 .given (c .before .before .loop .k))
 
+mul-p : tie.Need-mul-p Inv-loop μ-loop
+mul-p c = omega (arith, is-piece (c .before), few (to-start (c .before .before)) .few)
+
+element-copy-out-p : tie.Need-element-copy-out-p Inv-loop μ-loop
+element-copy-out-p c = omega (arith, is-piece (c .before), few (to-start (c .before .before)) .few)
+
 copies-of-requires : tie.Need-copies-of-requires Inv-loop μ-loop
-copies-of-requires c κs =
-    let z = c .before .before .before .before .before .before in
-    let a = z .args in
-    (lent-sound _ _ _ _ _ (rows-long (a .t) (z .good .0)) (z .pre .0) (z .pre .1) (z .pre .2), kind-piece _ _ _ _ _ (rows-long (a .t) (z .good .0)) (z .pre .0) (z .pre .1) (z .pre .2) (c .before .before .loop .k) (omega arith))
+copies-of-requires c κs = (few (to-start (to-turn c .before)), is-piece (to-turn c))
 
 cast-kinds : tie.Need-cast-kinds Inv-loop μ-loop
-cast-kinds c =
-    let z = c .before .before .before .before .before .before .before in
-    let a = z .args in
-    omega (arith, c .copies-of .ensures, copies-fit _ _ _ _ _ (rows-long (a .t) (z .good .0)) (z .pre .0) (z .pre .1) (z .pre .2) (getD (now (a .first)) (c .before .before .before .loop .k) 0))
+cast-kinds c = omega (arith, copies-small c)
 
 mul-kinds : tie.Need-mul-kinds Inv-loop μ-loop
-mul-kinds c = search needs
-
-slice-write-kinds : tie.Need-slice-write-kinds Inv-loop μ-loop
-slice-write-kinds c = search needs
-
-kind-of-requires : tie.Need-kind-of-requires Inv-loop μ-loop
-kind-of-requires c κs =
-    let z = c .before .before .before .before .before .before .before in
-    let a = z .args in
-    (lent-sound _ _ _ _ _ (rows-long (a .t) (z .good .0)) (z .pre .0) (z .pre .1) (z .pre .2), kind-piece _ _ _ _ _ (rows-long (a .t) (z .good .0)) (z .pre .0) (z .pre .1) (z .pre .2) (c .before .before .before .loop .k) (omega arith), z .pre .2, z .pre .1 .ordered)
-
-cast-kinds-2 : tie.Need-cast-kinds-2 Inv-loop μ-loop
-cast-kinds-2 c =
-    let z = c .before .before .before .before .before .before .before .before in
-    let a = z .args in
-    omega (arith, c .kind-of .ensures, number-fits _ _ _ _ _ (rows-long (a .t) (z .good .0)) (z .pre .0) (z .pre .1) (z .pre .2) (movedForm (mapOf 26) (a .t) (now (a .bytes)) (getD (now (a .first)) (c .before .before .before .before .loop .k) 0)))
+mul-kinds c = omega (arith, few-kinds (to-turn (c .before)))
 
 mul-kinds-2 : tie.Need-mul-kinds-2 Inv-loop μ-loop
-mul-kinds-2 c = search needs
+mul-kinds-2 c = omega (arith, few-kinds (to-turn (c .before)))
+
+slice-write-kinds : tie.Need-slice-write-kinds Inv-loop μ-loop
+slice-write-kinds c = omega (arith, room (to-turn (c .before)))
+
+kind-of-requires : tie.Need-kind-of-requires Inv-loop μ-loop
+kind-of-requires c κs = let z = to-start (to-turn (c .before) .before) in (few z, is-piece (to-turn (c .before)), z .pre .2, z .pre .1 .ordered)
+
+cast-kinds-2 : tie.Need-cast-kinds-2 Inv-loop μ-loop
+cast-kinds-2 c = omega (arith, partner-small c)
+
+mul-kinds-3 : tie.Need-mul-kinds-3 Inv-loop μ-loop
+mul-kinds-3 c = omega (arith, few-kinds (to-turn (c .before .before)))
 
 add-kinds : tie.Need-add-kinds Inv-loop μ-loop
-add-kinds c = search needs
+add-kinds c = omega (arith, few-kinds (to-turn (c .before .before)))
+
+mul-kinds-4 : tie.Need-mul-kinds-4 Inv-loop μ-loop
+mul-kinds-4 c = omega (arith, few-kinds (to-turn (c .before .before)))
 
 slice-write-kinds-2 : tie.Need-slice-write-kinds-2 Inv-loop μ-loop
-slice-write-kinds-2 c = lt-length-set (c .before .before .before .before .loop .kinds) _ _ (omega arith)
+slice-write-kinds-2 c = let turn = to-turn (c .before .before) in lt-length-set (turn .before .loop .kinds) _ _ (omega (arith, room turn))
+
+cells-of-requires : tie.Need-cells-of-requires Inv-loop μ-loop
+cells-of-requires c κs =
+    let turn = to-turn (c .before .before) in
+    let z = to-start (turn .before) in
+    record-fits (z .args .t1) (now (z .args .bytes)) (few z) (long z) (number turn) (is-piece turn)
+
+count-filled-requires : tie.Need-count-filled-requires Inv-loop μ-loop
+count-filled-requires c κs = search needs
+
+cast-kinds-3 : tie.Need-cast-kinds-3 Inv-loop μ-loop
+cast-kinds-3 c = omega (arith, cells-small c)
+
+mul-kinds-5 : tie.Need-mul-kinds-5 Inv-loop μ-loop
+mul-kinds-5 c = omega (arith, few-kinds (to-turn (c .before .before .before .before)))
+
+add-kinds-2 : tie.Need-add-kinds-2 Inv-loop μ-loop
+add-kinds-2 c = omega (arith, few-kinds (to-turn (c .before .before .before .before)))
+
+mul-kinds-6 : tie.Need-mul-kinds-6 Inv-loop μ-loop
+mul-kinds-6 c = omega (arith, few-kinds (to-turn (c .before .before .before .before)))
+
+slice-write-kinds-3 : tie.Need-slice-write-kinds-3 Inv-loop μ-loop
+slice-write-kinds-3 c = simp length-set (omega (arith, room (to-turn (c .before .before .before .before))))
 
 add-k : tie.Need-add-k Inv-loop μ-loop
-add-k c = search needs
+add-k c = omega (arith, few-kinds (to-turn (c .before .before .before .before)))
 
 loop-less : tie.Need-loop-less Inv-loop μ-loop
-loop-less c = search needs
+loop-less c = omega (arith, to-turn (c .before .before .before .before) .loop-test .taken)
 
 loop-again : tie.Need-loop-again Inv-loop μ-loop
 loop-again c =
-    let z = c .before .before .before .before .before .before .before .before in
+    let turn = to-turn (c .before .before .before .before) in
+    let l = turn .before .loop in
+    let z = to-start (turn .before) in
     let a = z .args in
-    let l = c .before .before .before .before .loop in (
-      simp length-set (l .inv .0),
-      omega arith,
-      kind-next _ _ _ _ _ (rows-long (a .t) (z .good .0)) (z .pre .0) (z .pre .1) (z .pre .2) (now (a .kinds)) (z .pre .3) (l .k) (omega arith) (l .kinds) (l .inv .2) (c .before .copies-of .result) (c .kind-of .result) (c .before .copies-of .ensures) (c .kind-of .ensures),
+    let copies = c .before .before .before .copies-of in
+    let partner = c .before .before .kind-of in
+    let cells = c .count-filled .result in (
+      set3-long (l .kinds) (l .k) (copies .result) (partner .result) cells ∙ l .inv .0,
+      omega (arith, turn .loop-test .taken),
+      small-next (l .kinds) (l .k) (copies .result) (partner .result) cells (room turn) (l .inv .2) (omega (arith, copies-small (c .before .before .before))) (cells-small c),
+      kind-next _ _ _ _ _ (long z) (z .pre .0) (z .pre .1) (z .pre .2) (l .kinds) (l .k) (copies .result) (partner .result) cells (room turn) (l .inv .3) (copies .ensures)
+          (partner .ensures) (cells-are c),
     )
 
 same-length : tie.Need-same-length Inv-loop μ-loop
@@ -92,12 +173,9 @@ same-length c = search needs
 
 returns : tie.Need-returns Inv-loop μ-loop
 returns c =
-    let z = c .before .before .before .before .before in
-    let a = z .args in
     let l = c .before .loop in
-    let e : l .k ≡ a .n = omega arith in
-    kinds-end _ _ _ _ _ (rows-long (a .t) (z .good .0)) (z .pre .0) (z .pre .1) (z .pre .2) (now (a .kinds)) (z .pre .3) (l .kinds)
-    (l .inv .2 ∙ ap (λ (k : ℕ). paste (now (a .kinds)) 0 (pairs (copiesAt (a .t) (now (a .bytes))) (partnerAt (a .t) (now (a .bytes)) (now (a .first)) (a .n)) (take (a .n) (now (a .first)))) (2 * k)) e)
+    let z = to-start (c .before) in
+    (kinds-end _ _ _ _ _ (long z) (z .pre .0) (z .pre .1) (z .pre .2) (l .kinds) (λ k h. l .inv .3 k (omega (arith, c .loop-test .left))), l .inv .2)
 
 pub list-kinds-spec : {M : Type 1} → statement M
 list-kinds-spec =
@@ -108,15 +186,26 @@ list-kinds-spec =
     loop-holds
     shared-slice-read-i
     cast-i
+    mul-p
+    element-copy-out-p
     copies-of-requires
     cast-kinds
     mul-kinds
+    mul-kinds-2
     slice-write-kinds
     kind-of-requires
     cast-kinds-2
-    mul-kinds-2
+    mul-kinds-3
     add-kinds
+    mul-kinds-4
     slice-write-kinds-2
+    cells-of-requires
+    count-filled-requires
+    cast-kinds-3
+    mul-kinds-5
+    add-kinds-2
+    mul-kinds-6
+    slice-write-kinds-3
     add-k
     loop-less
     loop-again

@@ -6,7 +6,7 @@ use borrow.Author.Needs.{needs}
 use denote.Ref.{now}
 use lib.ListN.{length, length-set}
 use lib.Seq.{paste, paste-zero, lt-length-set}
-use Rattle.definitions.specs.Lists.{below}
+use Rattle.lists.specs.Lists.{below}
 use Rattle.definitions.specs.Maps.{mapOf}
 use Rattle.placements.specs.Merging.{movedForm}
 use Rattle.placements.proofs.RefusalLaws.{rows-long}

@@ -7,7 +7,7 @@ use native.Mathlib.Omega.{arith}
 use borrow.Author.Needs.{needs}
 use denote.Ref.{now}
 use lib.ListN.{getD}
-use Rattle.definitions.specs.Lists.{member}
+use Rattle.lists.specs.Lists.{member}
 use Rattle.definitions.specs.Grid.{Cell, Grid, InBox, volume, placeOf, filledCells, gridWith}
 use Rattle.definitions.specs.Maps.{mapOf, mapGrid, mapSides}
 use Rattle.definitions.specs.Placements.{lies}

@@ -7,41 +7,42 @@ use native.Mathlib.Omega.{arith}
 use borrow.Author.Needs.{needs}
 use denote.Ref.{now}
 use lib.Dec.{T}
-use lib.ListN.{length, getD, take}
+use lib.ListN.{length, getD}
+use Rattle.lists.proofs.TestLaws.{holds}
 use Rattle.definitions.specs.Maps.{mapOf, mapGrid}
 use Rattle.definitions.specs.Scan.{scan}
 use Rattle.definitions.specs.Placements.{Placement, placementsAt}
-use Rattle.definitions.proofs.ListLaws.{holds}
 use Rattle.shape.specs.Coords.{asCell}
 use Rattle.shape.specs.Grids.{asGrid}
 use Rattle.shape.specs.Scans.{asOrder}
 use Rattle.shape.specs.Variants.{turnedBy}
 use Rattle.placements.specs.Fitting.{fitsGrid}
 use Rattle.placements.proofs.FittingLaws.{fitsBy, fits-by}
-use Rattle.rows.proofs.TableLaws.{Reached, reached-start, reached-one, reached-same, reached-all, reached-room, numbered-order, numbered-long, fit-reaches, fit-lands, spread-is, placed, leftAt, left-start, left-hit, left-miss, left-end}
+use Rattle.rows.proofs.TableLaws.{Reached, reached-start, reached-one, reached-same, reached-all, reached-room, numbered-order, numbered-long}
+use Rattle.rows.proofs.TableLaws.{fit-reaches, fit-lands, spread-is, placed, leftAt, left-start, left-hit, left-miss, left-end}
 use Rattle.rows.proofs.table.rows_at.Statement.{statement}
 use Rattle.rows.proofs.table.rows_at.Tie as tie
 
 abbrev Inv-loop : tie.InvT-loop
-Inv-loop board b scans cells s numbers n order kind p at work₀ r j₀ i₀ work j i =
+Inv-loop board b scans cells s numbers order kind p at work₀ r j₀ i₀ work j i =
     let o = asOrder order in
     let g = asGrid b board in
     let h = asGrid s cells in
-    (length work ≡ length work₀) × (i ≤ n) × (j ≤ i)
-    × Reached work₀ r work (r + j) (leftAt o g h kind p (asCell at) numbers n j i) (placementsAt (scan o g) kind (map (scan o) (turnedBy h (take n numbers))) p (asCell at))
+    (length work ≡ length work₀) × (i ≤ length numbers) × (j ≤ i)
+    × Reached work₀ r work (r + j) (leftAt o g h kind p (asCell at) numbers j i) (placementsAt (scan o g) kind (map (scan o) (turnedBy h numbers)) p (asCell at))
 
 abbrev μ-loop : tie.MeasureT-loop
-μ-loop board b scans cells s numbers n order kind p at work₀ r j₀ i₀ work j i = n - i
+μ-loop board b scans cells s numbers order kind p at work₀ r j₀ i₀ work j i = length numbers - i
 
 -- a slice's length fits a number
 sized : (z : tie.Start Inv-loop μ-loop) → length (now (z .args .work)) < 2 ^ 64
-sized z = z .good .1 .1 .1 .1 .1 .1 .1 .1 .1 .1 .1 .0 .0
+sized z = z .good .1 .1 .1 .1 .1 .1 .1 .1 .1 .1 .0 .0
 
 -- what is left from the i-th number on, j placements written
 abbrev left : (z : tie.Start Inv-loop μ-loop) → ℕ → ℕ → List Placement
 left z i j =
     let a = z .args in
-    leftAt (asOrder (a .order)) (asGrid (a .b) (now (a .board))) (asGrid (a .s) (now (a .cells))) (a .kind) (a .p) (asCell (a .at)) (now (a .numbers)) (a .n) j i
+    leftAt (asOrder (a .order)) (asGrid (a .b) (now (a .board))) (asGrid (a .s) (now (a .cells))) (a .kind) (a .p) (asCell (a .at)) (now (a .numbers)) j i
 
 -- of a turn whose grid fits: the fit, what is left, and that there is room for its row
 fit : (c : tie.Then1 Inv-loop μ-loop)
@@ -77,8 +78,8 @@ left-is c =
     let l = c .before .before .before .before .before in
     let z = l .before .before .before .before .before .before in
     let a = z .args in
-    left-hit (asOrder (a .order)) (asGrid (a .b) (now (a .board))) (asGrid (a .s) (now (a .cells))) (a .kind) (a .p) (asCell (a .at)) (now (a .numbers)) (a .n) (l .loop .j) (l .loop .i)
-    (z .pre .0 .4) (c .before .before .before .before .loop-test .taken) (fits-is (c .before) ∙ c .if1 .taken)
+    left-hit (asOrder (a .order)) (asGrid (a .b) (now (a .board))) (asGrid (a .s) (now (a .cells))) (a .kind) (a .p) (asCell (a .at)) (now (a .numbers)) (l .loop .j) (l .loop .i)
+    (c .before .before .before .before .loop-test .taken) (fits-is (c .before) ∙ c .if1 .taken)
 
 room : (c : tie.Then1 Inv-loop μ-loop)
     → let l = c .before .before .before .before .before in
@@ -97,7 +98,7 @@ loop-holds c =
       omega arith,
       omega arith,
       reached-start (now (a .work)) (a .r) _ _
-          (left-start (asOrder (a .order)) (asGrid (a .b) (now (a .board))) (asGrid (a .s) (now (a .cells))) (a .kind) (a .p) (asCell (a .at)) (now (a .numbers)) (a .n)),
+          (left-start (asOrder (a .order)) (asGrid (a .b) (now (a .board))) (asGrid (a .s) (now (a .cells))) (a .kind) (a .p) (asCell (a .at)) (now (a .numbers))),
     )
 
 shared-slice-read-t21 : tie.Need-shared-slice-read-t21 Inv-loop μ-loop
@@ -164,7 +165,7 @@ loop-again c =
       omega (arith, turn),
       omega (arith, same, l .loop .inv .2),
       reached-same (l .loop .j) (l .loop .inv .3) (left z (i + 1)) (c .if1 .work) (c .if1 .j)
-          (left-miss o g h (a .kind) (a .p) (asCell (a .at)) (now (a .numbers)) (a .n) (l .loop .j) i (z .pre .0 .4) turn (fits-is (c .before) ∙ w .0 .left))
+          (left-miss o g h (a .kind) (a .p) (asCell (a .at)) (now (a .numbers)) (l .loop .j) i turn (fits-is (c .before) ∙ w .0 .left))
           (w .1) (w .2),
     ))
     (c .if1 .came)
@@ -184,8 +185,8 @@ returns c =
     let z = l .before .before .before .before .before .before in
     let a = z .args in
     reached-all (l .loop .inv .3)
-    (left-end (asOrder (a .order)) (asGrid (a .b) (now (a .board))) (asGrid (a .s) (now (a .cells))) (a .kind) (a .p) (asCell (a .at)) (now (a .numbers)) (a .n) (l .loop .j) (l .loop .i)
-    (z .pre .0 .4) (c .loop-test .left))
+    (left-end (asOrder (a .order)) (asGrid (a .b) (now (a .board))) (asGrid (a .s) (now (a .cells))) (a .kind) (a .p) (asCell (a .at)) (now (a .numbers)) (l .loop .j) (l .loop .i)
+    (c .loop-test .left))
 
 pub rows-at-spec : {M : Type 1} → statement M
 rows-at-spec =

@@ -5,8 +5,8 @@ use mathlib.Core.Path.{_≡_, refl, sym, _∙_, subst}
 use native.Mathlib.Omega.{arith}
 use borrow.Author.Needs.{needs}
 use denote.Ref.{now}
-use lib.ListN.{length, take, drop}
-use Rattle.definitions.specs.Lists.{joined, numbered, numberedFrom}
+use lib.ListN.{length, drop}
+use Rattle.lists.specs.Lists.{joined, numbered, numberedFrom}
 use Rattle.definitions.specs.Grid.{Cell}
 use Rattle.definitions.specs.Scan.{scan}
 use Rattle.definitions.specs.Placements.{Placement, placementsAt}
@@ -20,19 +20,19 @@ use Rattle.rows.proofs.table.rows_by.Statement.{statement}
 use Rattle.rows.proofs.table.rows_by.Tie as tie
 
 abbrev Inv-loop : tie.InvT-loop
-Inv-loop board b scans places size cells s numbers n order kind work₀ r t₀ p₀ work t p =
+Inv-loop board b scans places size cells s numbers order kind work₀ r t₀ p₀ work t p =
     let o = asOrder order in
     let g = asGrid b board in
-    let vs = map (scan o) (turnedBy (asGrid s cells) (take n numbers)) in
+    let vs = map (scan o) (turnedBy (asGrid s cells) numbers) in
     (length work ≡ length work₀) × (p ≤ size)
     × Reached work₀ r work t (joined (numberedFrom p (drop p (scan o g)) (placementsAt (scan o g) kind vs))) (joined (numbered (scan o g) (placementsAt (scan o g) kind vs)))
 
 abbrev μ-loop : tie.MeasureT-loop
-μ-loop board b scans places size cells s numbers n order kind work₀ r t₀ p₀ work t p = size - p
+μ-loop board b scans places size cells s numbers order kind work₀ r t₀ p₀ work t p = size - p
 
 -- the variants, their placements at a cell, and what is left from cell p on
 abbrev turned : (z : tie.Start Inv-loop μ-loop) → List (List Cell)
-turned z = map (scan (asOrder (z .args .order))) (turnedBy (asGrid (z .args .s) (now (z .args .cells))) (take (z .args .n) (now (z .args .numbers))))
+turned z = map (scan (asOrder (z .args .order))) (turnedBy (asGrid (z .args .s) (now (z .args .cells))) (now (z .args .numbers)))
 
 abbrev at : (z : tie.Start Inv-loop μ-loop) → ℕ → Cell → List Placement
 at z = placementsAt (scan (asOrder (z .args .order)) (asGrid (z .args .b) (now (z .args .board)))) (z .args .kind) (turned z)
@@ -75,7 +75,7 @@ rows-at-requires c κs =
     let q = z .pre .0 in
     let p = l .loop .p in
     let v = asCell (c .before .cell-at .result) in (
-      (q .0, q .1, c .before .cell-at .ensures .1, q .2, q .4, q .5),
+      (q .0, q .1, c .before .cell-at .ensures .1, q .2, q .4),
       subst (λ (m : ℕ). 8 * (l .loop .t + length (at z p v)) ≤ m) (sym (l .loop .inv .0))
           (reached-room (l .loop .inv .2) (length (now (z .args .work))) (z .pre .1) (at z p v) (left z (p + 1)) (left-is (c .before))),
     )
@@ -92,7 +92,7 @@ loop-again c =
     let l = r .before .before .before .before .before in
     let z = l .before .before .before .before .before .before .before in
     let p = l .loop .p in (
-      r .rows-at .kept .1 .1 .1 .1 .1 .1 .1 .1 .1 .1 .1 .0 ∙ l .loop .inv .0,
+      r .rows-at .kept .1 .1 .1 .1 .1 .1 .1 .1 .1 .1 .0 ∙ l .loop .inv .0,
       omega arith,
       reached-more (l .loop .inv .2) (at z p (asCell (r .before .before .cell-at .result))) (left z (p + 1)) (left-is (r .before .before)) (r .rows-at .ensures),
     )

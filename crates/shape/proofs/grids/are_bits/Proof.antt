@@ -7,7 +7,7 @@ use borrow.Author.Tests.{le-leb, lt-leb}
 use denote.Ref.{now}
 use lib.Dec.{leb}
 use lib.ListN.{length, getD, drop}
-use Rattle.definitions.specs.Lists.{all}
+use Rattle.lists.specs.Lists.{all}
 use Rattle.shape.proofs.GridLaws.{all-from, all-end}
 use Rattle.shape.proofs.grids.are_bits.Statement.{statement}
 use Rattle.shape.proofs.grids.are_bits.Tie as tie

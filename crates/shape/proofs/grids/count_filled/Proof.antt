@@ -8,8 +8,8 @@ use borrow.Author.Tests.{eq-eqb, ne-eqb}
 use denote.Ref.{now}
 use lib.Dec.{eqb}
 use lib.ListN.{length, getD, drop}
-use Rattle.definitions.specs.Lists.{howMany}
-use Rattle.shape.proofs.GridLaws.{count-hit, count-miss, count-end}
+use Rattle.lists.specs.Lists.{howMany}
+use Rattle.lists.proofs.CountLaws.{count-hit, count-miss, count-end}
 use Rattle.shape.proofs.grids.count_filled.Statement.{statement}
 use Rattle.shape.proofs.grids.count_filled.Tie as tie
 

@@ -43,8 +43,7 @@ use denote.Triple.Spec.{Meets, tripleOf}
 use denote.Triple.Table.{entered, cited}
 use denote.Triple.Walked.{says, Stays, stay-none-slice, walkOf, goes-none-slice, Walks, ends-at, walked, walk-meets}
 use denote.Exit.{yes}
-use Rattle.placements.specs.Tables.{noRecord}
-use Rattle.solver.specs.Records.{emptyTable, putRow, tableOf}
+use Rattle.placements.specs.Tables.{noRecord, emptyTable, putRow, tableOf}
 use Rattle.solver.proofs.RecordLaws.{filled, filled-is}
 use Rattle.definitions.specs.declared.Record.{Record}
 use Rattle.placements.specs.declared.Table.{Table}
@@ -57,18 +56,18 @@ use Rattle.solver.proofs.records.count_of as count
 use Rattle.solver.proofs.records.count_of.Symbol as count-def
 use Rattle.solver.proofs.records.count_of.Symbol.{name as #count-of}
 use Rattle.solver.proofs.records.count_of.Met as count-thm
-use Rattle.solver.proofs.records.empty_table as empty
-use Rattle.solver.proofs.records.empty_table.Symbol as empty-def
-use Rattle.solver.proofs.records.empty_table.Symbol.{name as #empty-table}
-use Rattle.solver.proofs.records.empty_table.Met as empty-thm
+use Rattle.placements.proofs.records.empty_table as empty
+use Rattle.placements.proofs.records.empty_table.Symbol as empty-def
+use Rattle.placements.proofs.records.empty_table.Symbol.{name as #empty-table}
+use Rattle.placements.proofs.records.empty_table.Met as empty-thm
 use Rattle.solver.proofs.records.record_or as or
 use Rattle.solver.proofs.records.record_or.Symbol as or-def
 use Rattle.solver.proofs.records.record_or.Symbol.{name as #record-or}
 use Rattle.solver.proofs.records.record_or.Met as or-thm
-use Rattle.solver.proofs.records.put_row as put
-use Rattle.solver.proofs.records.put_row.Symbol as put-def
-use Rattle.solver.proofs.records.put_row.Symbol.{name as #put-row}
-use Rattle.solver.proofs.records.put_row.Met as put-thm
+use Rattle.placements.proofs.records.put_row as put
+use Rattle.placements.proofs.records.put_row.Symbol as put-def
+use Rattle.placements.proofs.records.put_row.Symbol.{name as #put-row}
+use Rattle.placements.proofs.records.put_row.Met as put-thm
 use Rattle.solver.proofs.records.taken.Key.{name as #taken}
 use Rattle.solver.proofs.records.taken as f
 use Rattle.solver.proofs.records.taken.Statement as stated
@@ -180,8 +179,8 @@ module _ {M : Type 1} (𝓤 : URA M) (H : Heap 𝓤) (A : Atoms 𝓤) (W : Given
 
   goes-put : (t : Table) (i : ℕ) (p : Record) (u : Val) → i < 16 → ent 𝓤 (⋆ 𝓤 H A (‵ (OwnT t (vals t)) ∷ ‵ (T.the-row .own p (u ∷ [])) ∷ [])) (Put 𝓤 H A mem run .pre (to-put t i p u))
   goes-put t i p u l =
-      qed W (‵ (OwnT t (vals t)) ∷ ‵ (T.the-row .own p (u ∷ [])) ∷ []) ∵ says ! l $ move ! (1 ∷ []) $ nothing ! $ move ! (1 ∷ 0 ∷ []) $ fjoin ! $
-      owned ! usize (Is usize) (uint-makes 𝓤 H A W w64) i _ (refl, fits) $ fjoin ! $ move ! (1 ∷ 0 ∷ []) $ fjoin ! $ nothing ! $ done !
+      qed W (‵ (OwnT t (vals t)) ∷ ‵ (T.the-row .own p (u ∷ [])) ∷ []) ∵ move ! (1 ∷ []) $ nothing ! $ move ! (1 ∷ 0 ∷ []) $ fjoin ! $
+      owned ! usize (Is usize) (uint-makes 𝓤 H A W w64) i _ (refl, fits) $ fjoin ! $ move ! (1 ∷ 0 ∷ []) $ fjoin ! $ nothing ! $ join ! $ frame ! $ done !
     where
       fits : i < 2 ^ 64
       fits = omega arith
@@ -316,6 +315,6 @@ taken-spec 𝓤 H 𝓜 𝓖 𝓡 =
     (tables 𝓤 H 𝓜 𝓡 code.env .C) (tables 𝓤 H 𝓜 𝓡 code.env .Λ) #taken code.function (code.unfolded 𝓤 H 𝓜 𝓡)
     (meets 𝓤 H (𝓖 .A) (givenOf 𝓤 H 𝓜 𝓖) (𝓜 .mem) (𝓡 .run) (tablesOf 𝓤 H 𝓜 (tables 𝓤 H 𝓜 𝓡 code.env))
     (cited 𝓤 H (Count 𝓤 H (𝓖 .A) (𝓜 .mem) (𝓡 .run)) 𝓜 𝓡 code.env #count-of count-def.routine code.calls-solver·records·count-of (count-thm.met 𝓤 H 𝓜 𝓖 𝓡))
-    (cited 𝓤 H (Empty 𝓤 H (𝓖 .A) (𝓜 .mem) (𝓡 .run)) 𝓜 𝓡 code.env #empty-table empty-def.routine code.calls-solver·records·empty-table (empty-thm.met 𝓤 H 𝓜 𝓖 𝓡))
+    (cited 𝓤 H (Empty 𝓤 H (𝓖 .A) (𝓜 .mem) (𝓡 .run)) 𝓜 𝓡 code.env #empty-table empty-def.routine code.calls-placements·records·empty-table (empty-thm.met 𝓤 H 𝓜 𝓖 𝓡))
     (cited 𝓤 H (Or 𝓤 H (𝓖 .A) (𝓜 .mem) (𝓡 .run)) 𝓜 𝓡 code.env #record-or or-def.routine code.calls-solver·records·record-or (or-thm.met 𝓤 H 𝓜 𝓖 𝓡))
-    (cited 𝓤 H (Put 𝓤 H (𝓖 .A) (𝓜 .mem) (𝓡 .run)) 𝓜 𝓡 code.env #put-row put-def.routine code.calls-solver·records·put-row (put-thm.met 𝓤 H 𝓜 𝓖 𝓡)))
+    (cited 𝓤 H (Put 𝓤 H (𝓖 .A) (𝓜 .mem) (𝓡 .run)) 𝓜 𝓡 code.env #put-row put-def.routine code.calls-placements·records·put-row (put-thm.met 𝓤 H 𝓜 𝓖 𝓡)))

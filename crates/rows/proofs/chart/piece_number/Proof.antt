@@ -1,0 +1,19 @@
+-- `piece_number` meets its contract: the pieces stand behind the first 6832 numbers of the chart. Assumes nothing.
+use borrow.Author.Needs.{needs}
+use lib.Seq.{getD-drop}
+use Rattle.rows.specs.Charts.{piecesPart}
+use Rattle.rows.proofs.chart.piece_number.Statement.{statement}
+use Rattle.rows.proofs.chart.piece_number.Tie as tie
+
+add-number-at : tie.Need-add-number-at
+add-number-at c = search needs
+
+number-at-requires : tie.Need-number-at-requires
+number-at-requires c κs = search needs
+
+returns : tie.Need-returns
+unfolding piecesPart
+returns c = rw getD-drop (c .number-at .ensures)
+
+pub piece-number-spec : {M : Type 1} → statement M
+piece-number-spec = tie.close (tie.spec add-number-at number-at-requires returns)
