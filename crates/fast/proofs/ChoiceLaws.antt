@@ -1,27 +1,27 @@
 -- What Fast lists below a state is what it lists below its choices, one after the other: each choice covers a cell, so that fuel runs out at no state, and
--- the choices are met row by row along the chain of the first uncovered cell. Assumes nothing.
-use Prim.Native.Nat.{ℕ, zero, suc, _+_, _≤_, _<_}
+-- the choices are met row by row, while rows that are none are passed. Assumes nothing.
+use Prim.Native.Nat.{ℕ, zero, suc, _+_, _-_, _≤_, _<_}
 use mathlib.Core.Bool.{Bool, true, false, cond, not, _&&_, _||_}
 use mathlib.Core.List.{List, [], _∷_, _++_, map, List·Memᴰ, List·Memᴰ·eq-of-singleton, Memᴰ·cast, map-append}
 use mathlib.Core.Path.{_≡_, refl, sym, ap, _∙_, subst}
+use native.Mathlib.Numerals.{add-one}
 use native.Mathlib.Omega.{arith}
-use lib.Dec.{T, eqb, eqb→eq}
-use lib.ListN.{length, getD, take, drop, length-drop, drop-of-length-le}
-use lib.Seq.{drop-drop, getD-drop, drop-cons}
-use Rattle.lists.specs.Lists.{consIf, keep, any, before, each, member, isEmpty}
-use Rattle.lists.proofs.TestLaws.{not-not, and-left, is-true, is-false, eqb-of}
-use Rattle.lists.proofs.ListLaws.{before-at, any-at, keep-at, keep-append, keep-shorter, each-same-in, take-in}
+use lib.Dec.{T, eqb, ltb, eqb→eq}
+use lib.ListN.{length, getD, take, drop, drop-of-length-le}
+use lib.Seq.{drop-cons}
+use Rattle.lists.specs.Lists.{consIf, keep, all, any, each, member, isEmpty}
+use Rattle.lists.proofs.TestLaws.{not-not, and-left, and-no, is-true, is-false, eqb-of, by-order}
+use Rattle.lists.proofs.ListLaws.{any-at, keep-at, keep-append, keep-shorter, each-same-in, take-in}
 use Rattle.lists.proofs.RangeLaws.{member-of}
 use Rattle.definitions.specs.Placements.{Placement}
 use Rattle.definitions.specs.Kept.{Identify}
 use Rattle.definitions.specs.Orders.{State, possible, choose, search, fastChoices}
 use Rattle.rows.specs.Systems.{System}
 use Rattle.rows.specs.Answering.{answerBy}
-use Rattle.rows.specs.Chains.{nextAt}
 use Rattle.rows.specs.Lawful.{Lawful}
 use Rattle.kept.specs.Normal.{rowOf, noRow, normal}
 use Rattle.kept.specs.Entries.{numbersOf, entries}
-use Rattle.fast.specs.Searching.{fastBelow}
+use Rattle.fast.specs.Searching.{fastBelow, goesOn}
 
 -- ---- lists
 some-length : (xs : List ℕ) → isEmpty xs ≡ false → 0 < length xs
@@ -78,40 +78,23 @@ unfolding search
 below-leaf rows zero t e = ap (λ (b : Bool). cond b (t .chosen ∷ []) []) e
 below-leaf rows (suc n) t e = ap (λ (b : Bool). cond b (t .chosen ∷ []) (each (fastChoices rows t) (λ q. search (fastChoices rows) n (choose t q)))) e
 
--- ---- chains
-chain-skip : (test : Placement → Bool) (c : ℕ) → ((q : Placement) → T (test q) → q .p ≡ c) → (qs : List Placement)
-    → keep test qs ≡ keep test (drop (before (λ q. eqb (q .p) c) qs) qs)
-chain-skip test c only [] = refl
-chain-skip test c only (q ∷ qs) = go (eqb (q .p) c) refl (chain-skip test c only qs)
+-- ---- entries that fail are passed
+keep-pass : (test : Placement → Bool) (d : Placement) (qs : List Placement) (n a : ℕ)
+    → ((r : ℕ) → a ≤ r → r < a + n → r < length qs → test (getD qs r d) ≡ false) → keep test (drop a qs) ≡ keep test (drop (a + n) qs)
+keep-pass test d qs zero a fail = ap (λ (k : ℕ). keep test (drop k qs)) {x = a} {y = a + zero} (omega arith)
+keep-pass test d qs (suc n) a fail = by-order (length qs) a past (here (keep-pass test d qs n (suc a) (λ r x y z. fail r (omega arith) (omega arith) z)))
   where
-    at : Placement → Bool
-    at z = eqb (z .p) c
+    past : length qs ≤ a → keep test (drop a qs) ≡ keep test (drop (a + suc n) qs)
+    past h = ap (λ (l : List Placement). keep test l) (drop-of-length-le qs h ∙ sym (drop-of-length-le qs {i = a + suc n} (omega arith)))
 
-    go : (b : Bool) → eqb (q .p) c ≡ b → keep test qs ≡ keep test (drop (before at qs) qs) → keep test (q ∷ qs) ≡ keep test (drop (cond b 0 (suc (before at qs))) (q ∷ qs))
-    go true e r = refl
-    go false e r = ap (λ (b : Bool). consIf b q (keep test qs)) (is-false (test q) (λ t. subst T e (eqb-of (only q t)))) ∙ r
-
-chain-from : (test : Placement → Bool) (c : ℕ) → ((q : Placement) → T (test q) → q .p ≡ c) → (qs : List Placement) (r : ℕ)
-    → keep test (drop r qs) ≡ keep test (drop (nextAt qs c r) qs)
-unfolding nextAt
-chain-from test c only qs r =
-    chain-skip test c only (drop r qs) ∙ ap (λ (l : List Placement). keep test l) (drop-drop (before (λ q. eqb (q .p) c) (drop r qs)) r qs)
-
--- a row that a chain names has the chain's p, and comes no earlier than where it was looked for
-pub chain-at : (qs : List Placement) (c r : ℕ) (d : Placement) → nextAt qs c r < length qs → getD qs (nextAt qs c r) d .p ≡ c
-unfolding nextAt
-chain-at qs c r d h =
-    let l = length-drop r qs in
-    eqb→eq (getD qs (r + before (λ q. eqb (q .p) c) (drop r qs)) d .p) c
-    (subst (λ (q : Placement). T (eqb (q .p) c)) (getD-drop r qs (before (λ q. eqb (q .p) c) (drop r qs)) d)
-    (before-at (λ (q : Placement). eqb (q .p) c) d (drop r qs) (omega arith)))
-
-pub chain-after : (qs : List Placement) (c r : ℕ) → r ≤ nextAt qs c r
-unfolding nextAt
-chain-after qs c r = omega arith
+    here : keep test (drop (suc a) qs) ≡ keep test (drop (suc a + n) qs) → a < length qs → keep test (drop a qs) ≡ keep test (drop (a + suc n) qs)
+    here rest h =
+        ap (λ (l : List Placement). keep test l) (drop-cons qs a d h)
+        ∙ ap (λ (b : Bool). consIf b (getD qs a d) (keep test (drop (suc a) qs))) (fail a (omega arith) (omega arith) h)
+        ∙ rest ∙ ap (λ (k : ℕ). keep test (drop k qs)) {x = suc a + n} {y = a + suc n} (omega arith)
 
 -- ---- what Fast lists below the choices from row r on
-abbrev chosenAt : State → Placement → Bool
+abbrev pub chosenAt : State → Placement → Bool
 chosenAt t q = any (eqb (q .p)) (take 1 (t .free)) && possible t q
 
 unfoldable pub choicesFrom : System → Identify → State → ℕ → List (List ℕ)
@@ -127,10 +110,45 @@ all-choices s law i t e h =
     sym (ap (λ (L : List (List Placement)). entries s i L) (below-step (s .rows) (λ q m. law .row q m .coversP) (s .size) t h e)
     ∙ entries-each s i (λ q. search (fastChoices (s .rows)) (s .size) (choose t q)) (fastChoices (s .rows) t))
 
+-- ---- where a search does not go on nothing is listed
+none-searched : (choices : State → List Placement) (n : ℕ) (t : State) → isEmpty (t .free) ≡ false → isEmpty (choices t) ≡ true → search choices n t ≡ []
+unfolding search
+none-searched choices zero t e f = ap (λ (b : Bool). cond b (t .chosen ∷ []) []) e
+none-searched choices (suc n) t e f =
+    ap (λ (b : Bool). cond b (t .chosen ∷ []) (each (choices t) (λ q. search choices n (choose t q)))) e ∙ nothing (choices t) f
+  where
+    nothing : (qs : List Placement) → isEmpty qs ≡ true → each qs (λ q. search choices n (choose t q)) ≡ []
+    nothing [] g = refl
+    nothing (q ∷ qs) g = absurd (subst T (sym g) tt)
+
+or-fails : (a b : Bool) → (a || not b) ≡ false → (a ≡ false) × (b ≡ true)
+or-fails false true e = (refl, refl)
+or-fails false false e = absurd (subst T e tt)
+or-fails true b e = absurd (subst T e tt)
+
+pub dead-lists : (s : System) (i : Identify) (t : State) → goesOn s t ≡ false → fastBelow s i t ≡ []
+unfolding fastBelow goesOn entries
+dead-lists s i t e =
+    let f = or-fails (isEmpty (t .free)) (isEmpty (fastChoices (s .rows) t)) e in
+    ap (λ (L : List (List Placement)). entries s i L) (none-searched (fastChoices (s .rows)) (s .size) t (f .0) (f .1))
+
 module _ (s : System) (i : Identify) (t : State) where
   pub choices-end : (r : ℕ) → length (s .rows) ≤ r → choicesFrom s i t r ≡ []
   unfolding choicesFrom
   choices-end r h = ap (λ (l : List Placement). each (keep (chosenAt t) l) (λ q. fastBelow s i (choose t q))) (drop-of-length-le (s .rows) h)
+
+  pub choices-skip : (a b : ℕ) → a ≤ b → ((r : ℕ) → a ≤ r → r < b → r < length (s .rows) → chosenAt t (rowOf s r) ≡ false) → choicesFrom s i t a ≡ choicesFrom s i t b
+  unfolding choicesFrom rowOf
+  choices-skip a b h fail =
+      let e : a + (b - a) ≡ b = omega arith in
+      ap (λ (l : List Placement). each l (λ q. fastBelow s i (choose t q)))
+      (keep-pass (chosenAt t) noRow (s .rows) (b - a) a (λ r x y z. fail r x (omega arith) z) ∙ ap (λ (k : ℕ). keep (chosenAt t) (drop k (s .rows))) e)
+
+  -- a row whose kind has no copy left is no choice
+  pub none-left : (q : Placement) → getD (t .left) (q .kind) 0 ≡ 0 → chosenAt t q ≡ false
+  unfolding possible
+  none-left q e =
+      ap (λ (k : ℕ). any (eqb (q .p)) (take 1 (t .free)) && (ltb 0 k && all (λ n. member n (t .free)) (q .cells))) e ∙ and-no (any (eqb (q .p)) (take 1 (t .free)))
 
   module _ (c : ℕ) (first : take 1 (t .free) ≡ c ∷ []) where
     only : (q : Placement) → T (chosenAt t q) → q .p ≡ c
@@ -138,9 +156,9 @@ module _ (s : System) (i : Identify) (t : State) where
         let x = any-at (eqb (q .p)) (c ∷ []) (subst (λ (l : List ℕ). T (any (eqb (q .p)) l)) first (and-left (any (eqb (q .p)) (take 1 (t .free))) (possible t q) u)) in
         eqb→eq (q .p) (x .0) (x .2) ∙ List·Memᴰ·eq-of-singleton (x .1)
 
-    pub choices-skip : (r : ℕ) → choicesFrom s i t r ≡ choicesFrom s i t (nextAt (s .rows) c r)
-    unfolding choicesFrom
-    choices-skip r = ap (λ (l : List Placement). each l (λ q. fastBelow s i (choose t q))) (chain-from (chosenAt t) c only (s .rows) r)
+    -- nor is one at another cell
+    pub other-cell : (q : Placement) → (q .p ≡ c → ⊥) → chosenAt t q ≡ false
+    other-cell q d = is-false (chosenAt t q) (λ u. d (only q u))
 
     module _ (r : ℕ) (row : r < length (s .rows)) (at : rowOf s r .p ≡ c) where
       passes : chosenAt t (rowOf s r) ≡ possible t (rowOf s r)
@@ -154,16 +172,16 @@ module _ (s : System) (i : Identify) (t : State) where
           ap (λ (l : List Placement). each (keep (chosenAt t) l) (λ q. fastBelow s i (choose t q))) (drop-cons (s .rows) r noRow row)
           ∙ ap (λ (b : Bool). each (consIf b (rowOf s r) (keep (chosenAt t) (drop (suc r) (s .rows)))) (λ q. fastBelow s i (choose t q))) passes
 
-      pub choices-take : possible t (rowOf s r) ≡ true → choicesFrom s i t r ≡ fastBelow s i (choose t (rowOf s r)) ++ choicesFrom s i t (nextAt (s .rows) c (suc r))
+      pub choices-take : possible t (rowOf s r) ≡ true → choicesFrom s i t r ≡ fastBelow s i (choose t (rowOf s r)) ++ choicesFrom s i t (r + 1)
       unfolding choicesFrom
       choices-take e =
           one-more
           ∙ ap (λ (b : Bool). each (consIf b (rowOf s r) (keep (chosenAt t) (drop (suc r) (s .rows)))) (λ q. fastBelow s i (choose t q))) e
-          ∙ ap (λ (l : List (List ℕ)). fastBelow s i (choose t (rowOf s r)) ++ l) (choices-skip (suc r))
+          ∙ ap (λ (k : ℕ). fastBelow s i (choose t (rowOf s r)) ++ choicesFrom s i t k) (sym (add-one r))
 
-      pub choices-pass : possible t (rowOf s r) ≡ false → choicesFrom s i t r ≡ choicesFrom s i t (nextAt (s .rows) c (suc r))
+      pub choices-pass : possible t (rowOf s r) ≡ false → choicesFrom s i t r ≡ choicesFrom s i t (r + 1)
       unfolding choicesFrom
       choices-pass e =
           one-more
           ∙ ap (λ (b : Bool). each (consIf b (rowOf s r) (keep (chosenAt t) (drop (suc r) (s .rows)))) (λ q. fastBelow s i (choose t q))) e
-          ∙ choices-skip (suc r)
+          ∙ ap (choicesFrom s i t) (sym (add-one r))

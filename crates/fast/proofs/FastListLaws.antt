@@ -1,4 +1,4 @@
--- The list that Fast walks through is document 01's: rows in the table's order are the placements in order, so a row's number tells which is ahead. Assumes nothing.
+-- The list that Fast walks through is document 01's: rows in their order are the placements in order, so a row's number tells which is ahead. Assumes nothing.
 use Prim.Native.Nat.{ℕ, suc, _+_, _<_}
 use mathlib.Core.Bool.{Bool, true, false, cond, not, _&&_, _||_}
 use mathlib.Core.List.{List, [], _∷_, map, List·Memᴰ}

@@ -31,7 +31,7 @@ use Rattle.kept.specs.Entries.{startBy}
 use Rattle.kept.proofs.ReadyLaws.{kinds-many}
 use Rattle.fast.specs.Searching.{Searching, uncovered, stateBy, fastBelow}
 use Rattle.fast.specs.Pruned.{fastFirst}
-use Rattle.fast.specs.Listing.{cellsBy, cellsIn, firstBy, fastAnswers}
+use Rattle.fast.specs.Listing.{totalCells, cellsIn, firstBy, fastAnswers}
 
 -- ---- the numbers of kinds in a chart
 abbrev pub copiesIn : List ℕ → ℕ → List ℕ
@@ -75,7 +75,7 @@ module _ (chart : List ℕ) (n : ℕ) where
     pub cells-few : Charted chart → x * y ≤ 130560
     cells-few ok =
         let a : x ≤ 255 = let b = ok .copies k in omega arith in
-        let c : y ≤ 512 = let b = ok .cells k in omega arith in
+        let c : y ≤ 512 = let b = ok .sizes k in omega arith in
         mul-le-mul a c
 
 -- ---- kind 0 is placed first as the code decides it
@@ -116,7 +116,7 @@ turned-is false false = refl
 
 -- in the definitions: of an accepted tray's system
 pub first-same : (t : Tray) (i : Identify) → firstBy (systemOf t) i ≡ kind0First (compile t) i
-unfolding firstBy cellsBy kind0First allCells systemOf limits
+unfolding firstBy totalCells kind0First allCells systemOf limits
 first-same t i =
     let c = compile t in
     let cells : ℕ → ℕ = λ n. sum (map (λ k. getD (limits c) k 0 * getD (sizes c) k 0) (below n)) in
@@ -127,8 +127,8 @@ module _ (d : Dims) (work chart : List ℕ) where
   abbrev S : System
   S = systemIn d work chart
 
-  cells-in : cellsBy S ≡ cellsIn chart (d .kinds)
-  unfolding cellsBy cellsIn systemIn systemOver
+  cells-in : totalCells S ≡ cellsIn chart (d .kinds)
+  unfolding totalCells cellsIn systemIn systemOver
   cells-in =
       let n = d .kinds in
       ap (λ (m : ℕ). sum (map (λ k. getD (copiesIn chart n) k 0 * getD (sizesIn chart n) k 0) (below m))) (kinds-many d work chart)
@@ -139,11 +139,11 @@ module _ (d : Dims) (work chart : List ℕ) where
       at f k h = getD-of f 0 0 (d .kinds) k h ∙ ap f (let e : 0 + k ≡ k = omega arith in e)
 
   pub first-told : (turned mirrored told : Bool)
-      → told ≡ (turned && (eqb (getD (copiesIn chart (d .kinds)) 0 0) 1 && eqb (cellsIn chart (d .kinds)) (d .cells)))
+      → told ≡ (turned && (eqb (getD (copiesIn chart (d .kinds)) 0 0) 1 && eqb (cellsIn chart (d .kinds)) (d .size)))
       → firstBy (systemIn d work chart) (identifies turned mirrored) ≡ told
   unfolding firstBy systemIn systemOver
   first-told turned mirrored told e =
-      (λ i. turned-is turned mirrored i && (eqb (getD (copiesIn chart (d .kinds)) 0 0) 1 && eqb (cells-in i) (d .cells))) ∙ sym e
+      (λ i. turned-is turned mirrored i && (eqb (getD (copiesIn chart (d .kinds)) 0 0) 1 && eqb (cells-in i) (d .size))) ∙ sym e
 
   -- ---- the start of a search: all copies left, and nothing covered
   module _ (left rest : List ℕ) (full : left ≡ copiesIn chart (d .kinds) ++ rest) where

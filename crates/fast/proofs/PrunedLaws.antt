@@ -29,12 +29,12 @@ use Rattle.rows.specs.Shown.{Shown, showsRow}
 use Rattle.kept.specs.Normal.{rowOf, imageOf}
 use Rattle.kept.specs.Ready.{Ready, OfRows}
 use Rattle.kept.specs.Entries.{entries}
-use Rattle.fast.specs.Searching.{Searching, fastBelow, fits, stateBy}
+use Rattle.fast.specs.Searching.{Searching, fastBelow, stateBy}
 use Rattle.fast.specs.Pruned.{movedBefore, alwaysMirrorableBy, prunedBy, firstRows, fastFirst}
 use Rattle.rows.specs.declared.Dims.{Dims}
 use Rattle.kept.proofs.ReadyLaws.{kinds-many, rows-many, few-cells, row-is, row-in, row-cells, rows-kinds, image-is}
 use Rattle.kept.proofs.NormalRowLaws.{row-of-in}
-use Rattle.fast.proofs.SearchingLaws.{fits-possible, child-state, child-searching}
+use Rattle.fast.proofs.SearchingLaws.{fits, fits-possible, child-state, child-searching}
 use Rattle.fast.proofs.UnmetLaws.{untried, unmet}
 use Rattle.fast.proofs.ChoiceLaws.{entries-append}
 
@@ -97,13 +97,13 @@ mirrorable-start d work chart =
 module _ (d : Dims) (work chart : List ℕ) (r : ℕ) where
   -- map m takes row r onto a row before it
   abbrev pub moves : ℕ → Bool
-  moves m = ltb (imageOf (systemIn d work chart) (leb (d .turns) m) (imagesOf chart (d .cells) m) r) r
+  moves m = ltb (imageOf (systemIn d work chart) (leb (d .turns) m) (imagesOf chart (d .size) m) r) r
 
   pub moves-told : r < d .rows → (m x : ℕ)
-      → x ≡ rowWith (rowsIn work (d .rows)) (movedBy (map (λ k. getD (kindsPart chart) (3 * k + 1) 0) (below (d .kinds))) (leb (d .turns) m) (imagesOf chart (d .cells) m) (rowAt work r))
+      → x ≡ rowWith (rowsIn work (d .rows)) (movedBy (map (λ k. getD (kindsPart chart) (3 * k + 1) 0) (below (d .kinds))) (leb (d .turns) m) (imagesOf chart (d .size) m) (rowAt work r))
       → (b : Bool) → ltb x r ≡ b → moves m ≡ b
   moves-told h m x e b f =
-      ap (λ (y : ℕ). ltb y r) (sym (e ∙ image-is d work chart r h (leb (d .turns) m) (imagesOf chart (d .cells) m))) ∙ f
+      ap (λ (y : ℕ). ltb y r) (sym (e ∙ image-is d work chart r h (leb (d .turns) m) (imagesOf chart (d .size) m))) ∙ f
 
   pub turned-before : any moves (from 0 (d .turns - 0)) ≡ movedBefore (systemIn d work chart) false (systemIn d work chart .turned) r
   unfolding movedBefore systemIn systemOver imagesIn imagesOf
@@ -111,9 +111,9 @@ module _ (d : Dims) (work chart : List ℕ) (r : ℕ) where
       let s = systemIn d work chart in
       let e : d .turns - 0 ≡ d .turns = omega arith in
       ap (λ (n : ℕ). any moves (from 0 n)) e
-      ∙ any-same moves (λ m. ltb (imageOf s false (imagesOf chart (d .cells) m) r) r) (from 0 (d .turns))
-      (λ m k. ap (λ (b : Bool). ltb (imageOf s b (imagesOf chart (d .cells) m) r) r) (lt-leb (d .turns) m (below-at (d .turns) k)))
-      ∙ sym (any-map (λ to. ltb (imageOf s false to r) r) (λ m. imagesOf chart (d .cells) m) (from 0 (d .turns)))
+      ∙ any-same moves (λ m. ltb (imageOf s false (imagesOf chart (d .size) m) r) r) (from 0 (d .turns))
+      (λ m k. ap (λ (b : Bool). ltb (imageOf s b (imagesOf chart (d .size) m) r) r) (lt-leb (d .turns) m (below-at (d .turns) k)))
+      ∙ sym (any-map (λ to. ltb (imageOf s false to r) r) (λ m. imagesOf chart (d .size) m) (from 0 (d .turns)))
 
   pub mirrored-before : any moves (from (d .turns) (d .turns + d .mirrorings - d .turns)) ≡ movedBefore (systemIn d work chart) true (systemIn d work chart .mirrored) r
   unfolding movedBefore systemIn systemOver imagesIn imagesOf
@@ -121,9 +121,9 @@ module _ (d : Dims) (work chart : List ℕ) (r : ℕ) where
       let s = systemIn d work chart in
       let e : d .turns + d .mirrorings - d .turns ≡ d .mirrorings = omega arith in
       ap (λ (n : ℕ). any moves (from (d .turns) n)) e
-      ∙ any-same moves (λ m. ltb (imageOf s true (imagesOf chart (d .cells) m) r) r) (from (d .turns) (d .mirrorings))
-      (λ m k. ap (λ (b : Bool). ltb (imageOf s b (imagesOf chart (d .cells) m) r) r) (le-leb (d .turns) m (from-at (d .turns) (d .mirrorings) k .0)))
-      ∙ sym (any-map (λ to. ltb (imageOf s true to r) r) (λ m. imagesOf chart (d .cells) m) (from (d .turns) (d .mirrorings)))
+      ∙ any-same moves (λ m. ltb (imageOf s true (imagesOf chart (d .size) m) r) r) (from (d .turns) (d .mirrorings))
+      (λ m k. ap (λ (b : Bool). ltb (imageOf s b (imagesOf chart (d .size) m) r) r) (le-leb (d .turns) m (from-at (d .turns) (d .mirrorings) k .0)))
+      ∙ sym (any-map (λ to. ltb (imageOf s true to r) r) (λ m. imagesOf chart (d .size) m) (from (d .turns) (d .mirrorings)))
 
 -- ---- a row that starts no packing that is kept
 module _ (s : System) (r : ℕ) (turned mirrored : Bool) where
@@ -285,7 +285,7 @@ module _ (d : Dims) (work chart : List ℕ) (ready : Ready d work chart) (r : �
       can-start : possible begun (rowOf sys r) ≡ true
       can-start = sym (fits-possible sys (ready .lawful) left₀ nothingCovered (maskAt work r) [] r in-rows row-mask) ∙ fits-first left₀ some
 
-      module _ (last shown : List ℕ) (sh : Shown (d .cells) (take (d .places) (scansPart chart)) last shown) (i : Identify) (capacity : ℕ) (x z : Emitted) (is : x .last ≡ last) where
+      module _ (last shown : List ℕ) (sh : Shown (d .size) (take (d .places) (scansPart chart)) last shown) (i : Identify) (capacity : ℕ) (x z : Emitted) (is : x .last ≡ last) where
         hides : showsRow (ownedIn (piecesPart chart) (d .pieces)) shown (rowAt work r) ≡ false → x .waiting ≡ true → emits capacity (fastBelow sys i (choose begun (rowOf sys r))) x ≡ x
         unfolding systemIn systemOver
         hides v w =

@@ -5,17 +5,17 @@ use mathlib.Core.List.{List, [], _∷_, _++_, map, List·Memᴰ, List·Memᴰ·h
 use mathlib.Core.Path.{_≡_, refl, sym, ap, ap₂, _∙_, subst}
 use mathlib.Core.Logic.{_⊎_, inl, inr}
 use native.Mathlib.Omega.{arith}
-use lib.Dec.{T, ltb, eqb, ltb→lt, eqb→eq}
+use lib.Dec.{T, ltb, eqb, ltb→lt, lt→ltb, eqb→eq}
 use lib.ListN.{length, getD, take, set, length-append, length-set}
 use lib.Seq.{getD-take, getD-set-same, getD-set-other, take-set-lt}
 use Rattle.lists.specs.Lists.{consIf, keep, all, from, below, member, isEmpty, put}
-use Rattle.lists.proofs.TestLaws.{and-right, decide, clash, is-true, is-false, not-T, holds, eqb-of, tests-same, not-not}
+use Rattle.lists.proofs.TestLaws.{and-right, and-true, decide, clash, is-true, is-false, not-T, holds, eqb-of, tests-same, not-not}
 use Rattle.lists.proofs.ListLaws.{all-at, all-of, keep-at, keep-of, keep-same, keep-keep, keep-append, keep-shorter, apart-append}
 use Rattle.lists.proofs.RangeLaws.{below-at, below-of, member-at, member-of}
 use Rattle.kept.proofs.NormalRowLaws.{row-of-in}
 use Rattle.definitions.specs.Placements.{Placement}
 use Rattle.definitions.specs.Packing.{ahead}
-use Rattle.definitions.specs.Orders.{possible, choose}
+use Rattle.definitions.specs.Orders.{possible, choose, fastChoices}
 use Rattle.masks.specs.Masks.{has, either, apart, FirstOpen}
 use Rattle.masks.specs.declared.Mask.{Mask}
 use Rattle.masks.proofs.MaskLaws.{apart-of, apart-not}
@@ -25,8 +25,27 @@ use Rattle.rows.specs.Rows.{cellsOf}
 use Rattle.kept.specs.Normal.{rowOf, ofKind}
 use Rattle.kept.specs.Ready.{Fillable}
 use Rattle.kept.specs.Entries.{putAll}
-use Rattle.fast.specs.Searching.{uncovered, stateBy, Searching, fits}
+use Rattle.fast.specs.Searching.{uncovered, stateBy, Searching, goesOn}
 use Rattle.kept.proofs.LeafLaws.{put-all-last}
+
+-- ---- a copy of the kind is left, and no cell is covered
+unfoldable pub fits : List ℕ → Mask → Mask → ℕ → Bool
+fits left covered mask kind = apart 128 (has mask) (has covered) && ltb 0 (getD left kind 0)
+
+pub fits-apart : (left : List ℕ) (covered mask : Mask) (kind : ℕ) → 0 < getD left kind 0 → fits left covered mask kind ≡ apart 128 (has mask) (has covered)
+unfolding fits
+fits-apart left covered mask kind h =
+    ap (λ (b : Bool). apart 128 (has mask) (has covered) && b) (is-true (ltb 0 (getD left kind 0)) (lt→ltb 0 (getD left kind 0) h)) ∙ and-true (apart 128 (has mask) (has covered))
+
+-- ---- whether a search goes on: the rows chosen do not matter
+pub goes-same : (s : System) (left : List ℕ) (covered : Mask) (rs : List ℕ) (q : Placement)
+    → goesOn s (choose (stateBy s left covered rs) q) ≡ goesOn s (choose (stateBy s left covered []) q)
+unfolding goesOn fastChoices possible choose stateBy
+goes-same s left covered rs q = refl
+
+pub goes-any : (s : System) (left : List ℕ) (covered : Mask) (rs : List ℕ) → goesOn s (stateBy s left covered rs) ≡ goesOn s (stateBy s left covered [])
+unfolding goesOn fastChoices possible stateBy
+goes-any s left covered rs = refl
 
 -- ---- the first uncovered cell
 first-from : (a : ℕ → Bool) (c i n : ℕ) → i ≤ c → c < i + n → ((k : ℕ) → i ≤ k → k < c → a k ≡ true) → a c ≡ false → take 1 (keep (λ k. not (a k)) (from i n)) ≡ c ∷ []

@@ -1,16 +1,15 @@
--- The laws of Fast's search over the slices of a row system: the leaf, the loop over the rows of a cell, a call, and what it puts back. Assumes nothing.
-use Prim.Native.Nat.{ℕ, suc, _+_, _-_, _*_, _≤_, _<_}
+-- The laws of Fast's search over the slices of a row system: the leaf, the loops over the rows of a cell, a call, and what it puts back. Assumes nothing.
+use Prim.Native.Nat.{ℕ, _+_, _-_, _*_, _≤_, _<_}
 use mathlib.Core.Bool.{Bool, true, false, not, _&&_, _||_}
 use mathlib.Core.List.{List, [], _∷_, _++_}
-use mathlib.Core.Logic.{⊎-elim}
+use mathlib.Core.Logic.{_⊎_, inl, inr, ⊎-elim}
 use mathlib.Core.Path.{_≡_, refl, sym, ap, ap₂, _∙_, subst}
 use native.Mathlib.Omega.{arith}
-use borrow.Author.Tests.{not-true, not-false}
-use lib.Dec.{T, ltb, ltb→lt, lt→ltb}
+use lib.Dec.{T, ltb, lt→ltb}
 use lib.ListN.{length, getD, take, set, length-set}
-use lib.Seq.{length-take-le, take-take, take-set-le, set-set, set-getD, getD-set-same}
+use lib.Seq.{length-take-le, getD-take, take-take, take-set-le, set-set, set-getD, getD-set-same}
 use Rattle.lists.specs.Lists.{all, isEmpty}
-use Rattle.lists.proofs.TestLaws.{and-left, and-right, and-both, holds}
+use Rattle.lists.proofs.TestLaws.{and-left, and-right, and-both, by-eq}
 use Rattle.lists.proofs.ListLaws.{take-set-next}
 use Rattle.kept.proofs.NormalRowLaws.{row-of-in}
 use Rattle.definitions.specs.Placements.{Placement}
@@ -23,18 +22,25 @@ use Rattle.masks.specs.declared.Mask.{Mask}
 use Rattle.rows.specs.Charts.{scansPart, piecesPart}
 use Rattle.rows.specs.Systems.{System, systemIn, ownedIn, systemOver}
 use Rattle.rows.specs.Rows.{maskAt, rowAt, cellsOf}
-use Rattle.rows.specs.Chains.{nextAt}
+use Rattle.rows.specs.Ranges.{startOf}
 use Rattle.rows.specs.Shown.{Shown, showsRow}
-use Rattle.kept.specs.Normal.{rowOf, noRow}
+use Rattle.kept.specs.Normal.{rowOf}
 use Rattle.kept.specs.Ready.{Ready, OfRows, Fillable}
 use Rattle.kept.specs.Emission.{emitKept}
-use Rattle.fast.specs.Searching.{fastBelow, uncovered, stateBy, Searching, fits}
+use Rattle.fast.specs.Searching.{fastBelow, uncovered, stateBy, Searching, goesOn}
 use Rattle.rows.specs.declared.Dims.{Dims}
-use Rattle.fast.proofs.ChoiceLaws.{choicesFrom, leaf-lists, all-choices, choices-end, choices-skip, choices-take, choices-pass, chain-at, chain-after}
+use Rattle.fast.proofs.ChoiceLaws.{chosenAt, choicesFrom, dead-lists, leaf-lists, all-choices, choices-end, choices-skip, choices-take, choices-pass, none-left, other-cell}
+use Rattle.rows.proofs.RowRangeLaws.{rangeOf, start-most, before-start, starts-up, from-start, range-of}
 use Rattle.kept.proofs.LeafLaws.{packing-emits}
 use Rattle.kept.proofs.ReadyLaws as laws
-use Rattle.fast.proofs.SearchingLaws.{first-uncovered, none-uncovered, some-uncovered, fits-possible, child-state, child-less, child-searching, fillable}
+use Rattle.fast.proofs.SearchingLaws.{goes-same, fits, fits-apart, first-uncovered, none-uncovered, some-uncovered, fits-possible, child-state, child-less, child-searching, fillable}
 use Rattle.fast.proofs.UnmetLaws.{untried, unmet}
+
+-- of three tests one fails: one of the first two, or the third
+not-tried : (a b c : Bool) → (a && (b && c)) ≡ false → ((a && b) ≡ false) ⊎ ((a ≡ true) × (c ≡ false))
+not-tried false b c e = inl refl
+not-tried true false c e = inl refl
+not-tried true true c e = inr (refl, e)
 
 -- ---- one copy fewer, and put back
 one-more : (left left₁ : List ℕ) (k : ℕ) → left₁ ≡ set left k (getD left k 0 - 1) → k < length left → 0 < getD left k 0 → getD left₁ k 0 + 1 ≡ getD left k 0
@@ -48,10 +54,6 @@ pub path-back : (path path₁ : List ℕ) (n r : ℕ) → take (n + 1) path₁ �
 path-back path path₁ n r e =
     sym (take-take n (n + 1) path₁ (omega arith)) ∙ ap (λ (l : List ℕ). take n l) e ∙ take-take n (n + 1) (set path n r) (omega arith) ∙ take-set-le n path n r (omega arith)
 
-chain-row : (s : System) (c r : ℕ) → nextAt (s .rows) c r < length (s .rows) → rowOf s (nextAt (s .rows) c r) .p ≡ c
-unfolding rowOf
-chain-row s c r h = chain-at (s .rows) c r noRow h
-
 module _ {d : Dims} {work chart : List ℕ} (ready : Ready d work chart) where
   abbrev S : System
   S = systemIn d work chart
@@ -59,22 +61,39 @@ module _ {d : Dims} {work chart : List ℕ} (ready : Ready d work chart) where
   pub rows-many : length (S .rows) ≡ d .rows
   rows-many = laws.rows-many d work chart
 
-  pub size-is : S .size ≡ d .cells
+  pub size-is : S .size ≡ d .size
   unfolding systemIn systemOver
   size-is = refl
 
   pub row-is : (r : ℕ) → r < d .rows → rowOf S r ≡ rowAt work r
   row-is = laws.row-is d work chart
 
-  head-is : (c : ℕ) → c < 128 → getD chart c 0 ≡ nextAt (S .rows) c 0
+  -- where the ranges of rows begin
+  pub start-is : (i : ℕ) → i ≤ 2048 → getD chart i 0 ≡ startOf (S .rows) i
   unfolding systemIn systemOver
-  head-is c h = ready .chained .firsts c h
+  start-is i h = ready .ranged .begins i h
 
-  next-is : (r : ℕ) → r < d .rows → getD work (8 * r + 5) 0 ≡ nextAt (S .rows) (rowAt work r .p) (suc r)
+  pub start-before : (i r : ℕ) → r < startOf (S .rows) i → rangeOf (rowAt work r) < i
   unfolding systemIn systemOver
-  next-is r h = ready .chained .nexts r h
+  start-before i r h = before-start work (d .rows) i r h
 
-  row-cells : (r : ℕ) → r < d .rows → rowOf S r .cells ≡ cellsOf (maskAt work r)
+  pub start-behind : (i r : ℕ) → startOf (S .rows) i ≤ r → r < d .rows → i ≤ rangeOf (rowAt work r)
+  unfolding systemIn systemOver
+  start-behind i r h l = from-start work (d .rows) (laws.first-cells d work chart (ready .lawful)) (laws.in-order d work chart (ready .lawful)) i r h l
+
+  pub start-range : (i r : ℕ) → r < d .rows → rangeOf (rowAt work r) ≡ i → (startOf (S .rows) i ≤ r) × (r < startOf (S .rows) (i + 1))
+  unfolding systemIn systemOver
+  start-range i r h e = range-of work (d .rows) (laws.first-cells d work chart (ready .lawful)) (laws.in-order d work chart (ready .lawful)) i r h e
+
+  pub start-few : (i : ℕ) → startOf (S .rows) i ≤ d .rows
+  unfolding systemIn systemOver
+  start-few i = start-most work (d .rows) i
+
+  pub start-up : (i j : ℕ) → i ≤ j → startOf (S .rows) i ≤ startOf (S .rows) j
+  unfolding systemIn systemOver
+  start-up i j h = starts-up work (d .rows) i j h
+
+  pub row-cells : (r : ℕ) → r < d .rows → rowOf S r .cells ≡ cellsOf (maskAt work r)
   unfolding rowAt
   row-cells r h = ap (λ (q : Placement). q .cells) (row-is r h)
 
@@ -93,7 +112,7 @@ module _ {d : Dims} {work chart : List ℕ} (ready : Ready d work chart) where
     pub leaf-fillable : Fillable S (take n path)
     leaf-fillable = fillable S left covered (take n path) h
 
-    pub leaf-emits : (i : Identify) (capacity c : ℕ) (e : Emitted) → FirstOpen (has covered) 0 c → d .cells ≤ c
+    pub leaf-emits : (i : Identify) (capacity c : ℕ) (e : Emitted) → FirstOpen (has covered) 0 c → d .size ≤ c
         → emitKept S i capacity (take n path) e ≡ emits capacity (fastBelow S i t) e
     unfolding stateBy
     leaf-emits i capacity c e o l =
@@ -101,20 +120,13 @@ module _ {d : Dims} {work chart : List ℕ} (ready : Ready d work chart) where
         packing-emits S (ready .lawful) (take n path) all-rows (h .apart) i capacity e
         ∙ sym (ap (λ (L : List (List ℕ)). emits capacity L e) (leaf-lists S i t (ap (λ (l : List ℕ). isEmpty l) (none-uncovered (S .size) covered c o (omega arith)))))
 
-    -- ---- the loop's end
-    pub loop-ends : (i : Identify) (capacity r : ℕ) (e whole : Emitted) → d .rows ≤ r → emits capacity (choicesFrom S i t r) e ≡ whole → e ≡ whole
-    unfolding emits
-    loop-ends i capacity r e whole l g =
-        let m = rows-many in
-        sym (ap (λ (L : List (List ℕ)). emits capacity L e) (choices-end S i t r (omega arith))) ∙ g
-
 -- ---- cell c is the first that is left
 pub record Opened (d : Dims) (work chart left path : List ℕ) (n : ℕ) (covered : Mask) (c : ℕ) : Type 0 where
   pub ready : Ready d work chart
   pub ofRows : OfRows d path n
   pub searching : Searching (systemIn d work chart) left covered (take n path)
   pub first : FirstOpen (has covered) 0 c
-  pub inside : c < d .cells
+  pub inside : c < d .size
 
 module _ {d : Dims} {work chart left path : List ℕ} {n : ℕ} {covered : Mask} {c : ℕ} (x : Opened d work chart left path n covered c) where
   abbrev the-system : System
@@ -123,7 +135,7 @@ module _ {d : Dims} {work chart left path : List ℕ} {n : ℕ} {covered : Mask}
   abbrev the-state : State
   the-state = stateBy the-system left covered (take n path)
 
-  few : d .cells ≤ 128
+  few : d .size ≤ 128
   few = let z = size-is (x .ready) in let w = x .ready .lawful .fewCells in omega arith
 
   pub cell-below : c < 128
@@ -147,20 +159,105 @@ module _ {d : Dims} {work chart left path : List ℕ} {n : ℕ} {covered : Mask}
       let w = x .ready .lawful .fewCells in
       omega arith
 
-  pub loop-starts : (i : Identify) (capacity r : ℕ) (e : Emitted) → r ≡ getD chart c 0 → emits capacity (choicesFrom the-system i the-state r) e ≡ emits capacity (fastBelow the-system i the-state) e
-  loop-starts i capacity r e g =
-      let f = few in
-      let b : length (the-state .free) ≤ the-system .size = let w = x .searching .room in let z = ap (λ (l : List ℕ). length l) (free-is (x .ready) (x .ofRows) (x .searching)) in omega arith in
-      ap (λ (L : List (List ℕ)). emits capacity L e)
-      (ap (choicesFrom the-system i the-state) (g ∙ head-is (x .ready) c (omega arith)) ∙ sym (choices-skip the-system i the-state c first 0)
-      ∙ all-choices the-system (x .ready .lawful) i the-state (some-uncovered (the-state .free) c first .0) b)
+  -- ---- the rows at the cell, kind by kind
+  row-first : (r : ℕ) → r < d .rows → rowAt work r .p < 128
+  row-first r l =
+      let q = laws.row-in d work chart r l in
+      let a = x .ready .lawful .row (rowAt work r) q .onBoard (rowAt work r .p) (x .ready .lawful .row (rowAt work r) q .coversP) in
+      let b = x .ready .lawful .fewCells in
+      omega arith
 
-  pub starts-at : (r : ℕ) → r ≡ getD chart c 0 → r < d .rows → rowAt work r .p ≡ c
-  starts-at r g l =
-      let f = few in
+  -- rows from a to below b are passed, where each is at another cell, or has no copy left
+  passed : (i : Identify) (a b : ℕ) → a ≤ b → ((r : ℕ) → a ≤ r → r < b → r < d .rows → rowAt work r .p ≡ c → getD left (rowAt work r .kind) 0 ≡ 0)
+      → choicesFrom the-system i the-state a ≡ choicesFrom the-system i the-state b
+  unfolding stateBy
+  passed i a b h f =
+      choices-skip the-system i the-state a b h
+      (λ r u v w.
       let m = rows-many (x .ready) in
-      let k : r ≡ nextAt (the-system .rows) c 0 = g ∙ head-is (x .ready) c (omega arith) in
-      ap (λ (q : Placement). q .p) (sym (row-is (x .ready) r l)) ∙ ap (λ (j : ℕ). rowOf the-system j .p) k ∙ chain-row the-system c 0 (omega arith)
+      let l : r < d .rows = omega arith in
+      let e = row-is (x .ready) r l in
+      let k = laws.row-kind d work chart (x .ready .lawful) r l in
+      let n = laws.kinds-many d work chart in
+      ap (chosenAt the-state) e
+      ∙ by-eq (rowAt work r .p) c
+      (λ g. none-left the-system i the-state (rowAt work r) (getD-take (length (the-system .copies)) left (rowAt work r .kind) 0 (omega arith) ∙ f r u v l g))
+      (λ g. other-cell the-system i the-state c first (rowAt work r) g))
+
+  module _ (i : Identify) (capacity : ℕ) (e : Emitted) where
+    pub loop-starts : emits capacity (choicesFrom the-system i the-state (startOf (the-system .rows) (128 * 0 + c))) e ≡ emits capacity (fastBelow the-system i the-state) e
+    loop-starts =
+        let b : length (the-state .free) ≤ the-system .size = let w = x .searching .room in let z = ap (λ (l : List ℕ). length l) (free-is (x .ready) (x .ofRows) (x .searching)) in omega arith in
+        ap (λ (L : List (List ℕ)). emits capacity L e)
+        (sym (passed i 0 (startOf (the-system .rows) (128 * 0 + c)) (omega arith) (λ r u v w g. absurd (let k = start-before (x .ready) (128 * 0 + c) r v in omega arith)))
+        ∙ all-choices the-system (x .ready .lawful) i the-state (some-uncovered (the-state .free) c first .0) b)
+
+    -- no row is of a kind behind the last
+    pub loop-ends : (k : ℕ) (whole : Emitted) → d .kinds ≤ k → emits capacity (choicesFrom the-system i the-state (startOf (the-system .rows) (128 * k + c))) e ≡ whole → e ≡ whole
+    unfolding emits
+    loop-ends k whole h g =
+        let m = rows-many (x .ready) in
+        sym (ap (λ (L : List (List ℕ)). emits capacity L e)
+        (passed i (startOf (the-system .rows) (128 * k + c)) (d .rows) (start-few (x .ready) (128 * k + c))
+        (λ r u v w p. absurd (let a = start-behind (x .ready) (128 * k + c) r u w in let b = laws.row-kind d work chart (x .ready .lawful) r w in let f = row-first r w in omega arith))
+        ∙ choices-end the-system i the-state (d .rows) (omega arith))) ∙ g
+
+    -- a kind without copies left is passed; and behind the rows of a kind those of the next come
+    pub kind-passes : (k : ℕ) (whole : Emitted) → getD left k 0 ≡ 0 → emits capacity (choicesFrom the-system i the-state (startOf (the-system .rows) (128 * k + c))) e ≡ whole
+        → emits capacity (choicesFrom the-system i the-state (startOf (the-system .rows) (128 * (k + 1) + c))) e ≡ whole
+    kind-passes k whole none g =
+        sym (ap (λ (L : List (List ℕ)). emits capacity L e)
+        (passed i (startOf (the-system .rows) (128 * k + c)) (startOf (the-system .rows) (128 * (k + 1) + c)) (start-up (x .ready) (128 * k + c) (128 * (k + 1) + c) (omega arith))
+        (λ r u v w p.
+        let a = start-behind (x .ready) (128 * k + c) r u w in
+        let b = start-before (x .ready) (128 * (k + 1) + c) r v in
+        let q : rowAt work r .kind ≡ k = omega arith in
+        ap (λ (j : ℕ). getD left j 0) q ∙ none))) ∙ g
+
+    pub kind-ends : (k r : ℕ) (whole : Emitted) → r ≡ startOf (the-system .rows) (128 * k + c + 1) → emits capacity (choicesFrom the-system i the-state r) e ≡ whole
+        → emits capacity (choicesFrom the-system i the-state (startOf (the-system .rows) (128 * (k + 1) + c))) e ≡ whole
+    kind-ends k r whole is g =
+        let f = cell-below in
+        sym (ap (λ (L : List (List ℕ)). emits capacity L e)
+        (ap (choicesFrom the-system i the-state) is
+        ∙ passed i (startOf (the-system .rows) (128 * k + c + 1)) (startOf (the-system .rows) (128 * (k + 1) + c)) (start-up (x .ready) (128 * k + c + 1) (128 * (k + 1) + c) (omega arith))
+        (λ r u v w p.
+        absurd (let a = start-behind (x .ready) (128 * k + c + 1) r u w in let b = start-before (x .ready) (128 * (k + 1) + c) r v in omega arith)))) ∙ g
+
+  pub kinds-in-left : d .kinds ≤ length left
+  kinds-in-left = let a = laws.kinds-many d work chart in let b = x .searching .enough in omega arith
+
+  -- the rows of a kind at the cell
+  module _ (k : ℕ) (kind : k < d .kinds) where
+    range-within : 128 * k + c + 1 ≤ 2048
+    range-within = let a = laws.few-kinds d work chart (x .ready .lawful) in let b = cell-below in omega arith
+
+    pub kind-in-left : k < length left
+    kind-in-left = let a = kinds-in-left in omega arith
+
+    pub starts-within : (128 * k + c ≤ 2048) × (128 * k + c + 1 ≤ 2048)
+    starts-within = let a = range-within in (omega arith, a)
+
+    module _ (first end : ℕ) (begins : first ≡ getD chart (128 * k + c) 0) (ends : end ≡ getD chart (128 * k + c + 1) 0) where
+      pub begins-is : first ≡ startOf (the-system .rows) (128 * k + c)
+      begins-is = begins ∙ start-is (x .ready) (128 * k + c) (starts-within .0)
+
+      pub ends-is : end ≡ startOf (the-system .rows) (128 * k + c + 1)
+      ends-is = ends ∙ start-is (x .ready) (128 * k + c + 1) (starts-within .1)
+
+      pub range-up : first ≤ end
+      range-up = let a = begins-is in let b = ends-is in let h = start-up (x .ready) (128 * k + c) (128 * k + c + 1) (omega arith) in omega arith
+
+      pub range-row : (r : ℕ) → first ≤ r → r < end → (r < d .rows) × (rowAt work r .kind ≡ k) × (rowAt work r .p ≡ c)
+      range-row r h l =
+          let a = begins-is in
+          let b = ends-is in
+          let row : r < d .rows = let m = start-few (x .ready) (128 * k + c + 1) in omega arith in
+          let u = start-behind (x .ready) (128 * k + c) r (omega arith) row in
+          let v = start-before (x .ready) (128 * k + c + 1) r (omega arith) in
+          let f = row-first r row in
+          let g = cell-below in
+          (row, omega arith, omega arith)
 
   -- ---- a row of the cell
   module _ (r : ℕ) (row : r < d .rows) (at : rowAt work r .p ≡ c) where
@@ -173,25 +270,11 @@ module _ {d : Dims} {work chart left path : List ℕ} {n : ℕ} {covered : Mask}
     kind-is : rowOf the-system r .kind ≡ rowAt work r .kind
     kind-is = ap (λ (q : Placement). q .kind) (row-is (x .ready) r row)
 
-    next : getD work (8 * r + 5) 0 ≡ nextAt (the-system .rows) c (suc r)
-    next = next-is (x .ready) r row ∙ ap (λ (k : ℕ). nextAt (the-system .rows) k (suc r)) at
-
     pub kind-in : rowAt work r .kind < length left
     kind-in = let a = x .ready .lawful .row (rowOf the-system r) (row-of-in the-system r row-in-rows) .ofKind in let b = kind-is in let w = x .searching .enough in omega arith
 
     pub first-small : rowAt work r .p < 128
     first-small = let b = cell-below in omega arith
-
-    pub next-after : r < getD work (8 * r + 5) 0
-    next-after = let a = chain-after (the-system .rows) c (suc r) in let b = next in omega arith
-
-    pub next-at : getD work (8 * r + 5) 0 < d .rows → rowAt work (getD work (8 * r + 5) 0) .p ≡ c
-    next-at l =
-        let m = rows-many (x .ready) in
-        let e = next in
-        ap (λ (q : Placement). q .p) (sym (row-is (x .ready) (getD work (8 * r + 5) 0) l))
-        ∙ ap (λ (j : ℕ). rowOf the-system j .p) next
-        ∙ chain-row the-system c (suc r) (omega arith)
 
     test-is : fits left covered (maskAt work r) (rowAt work r .kind) ≡ possible the-state (rowOf the-system r)
     test-is =
@@ -200,35 +283,49 @@ module _ {d : Dims} {work chart left path : List ℕ} {n : ℕ} {covered : Mask}
 
     -- ---- it does not fit, or the entry that is waited for does not show it
     misses : fits left covered (maskAt work r) (rowAt work r .kind) ≡ false → (i : Identify) (capacity : ℕ) (e : Emitted)
-        → emits capacity (choicesFrom the-system i the-state (getD work (8 * r + 5) 0)) e ≡ emits capacity (choicesFrom the-system i the-state r) e
+        → emits capacity (choicesFrom the-system i the-state (r + 1)) e ≡ emits capacity (choicesFrom the-system i the-state r) e
     misses f i capacity e =
-        sym (ap (λ (L : List (List ℕ)). emits capacity L e) (choices-pass the-system i the-state c first r row-in-rows at-row (sym test-is ∙ f) ∙ ap (choicesFrom the-system i the-state) (sym next)))
+        sym (ap (λ (L : List (List ℕ)). emits capacity L e) (choices-pass the-system i the-state c first r row-in-rows at-row (sym test-is ∙ f)))
 
     takes : fits left covered (maskAt work r) (rowAt work r .kind) ≡ true → (i : Identify)
-        → choicesFrom the-system i the-state r ≡ fastBelow the-system i (choose the-state (rowOf the-system r)) ++ choicesFrom the-system i the-state (getD work (8 * r + 5) 0)
-    takes f i =
-        choices-take the-system i the-state c first r row-in-rows at-row (sym test-is ∙ f)
-        ∙ ap (λ (k : ℕ). fastBelow the-system i (choose the-state (rowOf the-system r)) ++ choicesFrom the-system i the-state k) (sym next)
+        → choicesFrom the-system i the-state r ≡ fastBelow the-system i (choose the-state (rowOf the-system r)) ++ choicesFrom the-system i the-state (r + 1)
+    takes f i = choices-take the-system i the-state c first r row-in-rows at-row (sym test-is ∙ f)
 
-    module _ (last shown : List ℕ) (sh : Shown (d .cells) (take (d .places) (scansPart chart)) last shown) where
+    module _ (last shown : List ℕ) (sh : Shown (d .size) (take (d .places) (scansPart chart)) last shown) where
       hides : fits left covered (maskAt work r) (rowAt work r .kind) ≡ true → showsRow (ownedIn (piecesPart chart) (d .pieces)) shown (rowAt work r) ≡ false
           → (i : Identify) (capacity : ℕ) (e : Emitted) → e .waiting ≡ true → e .last ≡ last
-          → emits capacity (choicesFrom the-system i the-state (getD work (8 * r + 5) 0)) e ≡ emits capacity (choicesFrom the-system i the-state r) e
+          → emits capacity (choicesFrom the-system i the-state (r + 1)) e ≡ emits capacity (choicesFrom the-system i the-state r) e
       unfolding systemIn systemOver
       hides f v i capacity e w is =
-          let rest = choicesFrom the-system i the-state (getD work (8 * r + 5) 0) in
+          let rest = choicesFrom the-system i the-state (r + 1) in
           let here = fastBelow the-system i (choose the-state (rowOf the-system r)) in
           ap (emits capacity rest)
           (sym (unmet the-system (x .ready .lawful) left covered (take n path) (all-rows (x .ready) (x .ofRows) (x .searching)) (x .searching) r row-in-rows (sym test-is ∙ f) last shown sh
           (ap (λ (q : Placement). showsRow (ownedIn (piecesPart chart) (d .pieces)) shown q) (row-is (x .ready) r row) ∙ v) i capacity e w is))
           ∙ sym (emits-append capacity here rest e) ∙ ap (λ (L : List (List ℕ)). emits capacity L e) (sym (takes f i))
 
-      pub turn-passes : (i : Identify) (capacity : ℕ) (e whole : Emitted) → e .last ≡ last
-          → (fits left covered (maskAt work r) (rowAt work r .kind) && (not (e .waiting) || showsRow (ownedIn (piecesPart chart) (d .pieces)) shown (rowAt work r))) ≡ false
-          → emits capacity (choicesFrom the-system i the-state r) e ≡ whole → emits capacity (choicesFrom the-system i the-state (getD work (8 * r + 5) 0)) e ≡ whole
-      turn-passes i capacity e whole is f g =
-          ⊎-elim (λ a. misses a i capacity e) (λ a. hides (a .0) (a .2) i capacity e (a .1) is)
-          (untried (fits left covered (maskAt work r) (rowAt work r .kind)) (e .waiting) (showsRow (ownedIn (piecesPart chart) (d .pieces)) shown (rowAt work r)) f) ∙ g
+      -- or the search does not go on below it
+      dead : fits left covered (maskAt work r) (rowAt work r .kind) ≡ true → goesOn the-system (choose (stateBy the-system left covered []) (rowAt work r)) ≡ false
+          → (i : Identify) (capacity : ℕ) (e : Emitted)
+          → emits capacity (choicesFrom the-system i the-state (r + 1)) e ≡ emits capacity (choicesFrom the-system i the-state r) e
+      dead f g i capacity e =
+          let none = dead-lists the-system i (choose the-state (rowOf the-system r))
+          (ap (λ (q : Placement). goesOn the-system (choose the-state q)) (row-is (x .ready) r row) ∙ goes-same the-system left covered (take n path) (rowAt work r) ∙ g) in
+          sym (ap (λ (L : List (List ℕ)). emits capacity L e) (takes f i ∙ ap (λ (L : List (List ℕ)). L ++ choicesFrom the-system i the-state (r + 1)) none))
+
+      pub turn-passes : 0 < getD left (rowAt work r .kind) 0 → (i : Identify) (capacity : ℕ) (e whole : Emitted) → e .last ≡ last
+          → (apart 128 (has (maskAt work r)) (has covered)
+          && ((not (e .waiting) || showsRow (ownedIn (piecesPart chart) (d .pieces)) shown (rowAt work r)) && goesOn the-system (choose (stateBy the-system left covered []) (rowAt work r)))) ≡ false
+          → emits capacity (choicesFrom the-system i the-state r) e ≡ whole → emits capacity (choicesFrom the-system i the-state (r + 1)) e ≡ whole
+      turn-passes some i capacity e whole is f g =
+          let fit = fits-apart left covered (maskAt work r) (rowAt work r .kind) some in
+          let clear = apart 128 (has (maskAt work r)) (has covered) in
+          let shows = showsRow (ownedIn (piecesPart chart) (d .pieces)) shown (rowAt work r) in
+          ⊎-elim
+          (λ h. ⊎-elim (λ a. misses (fit ∙ a) i capacity e) (λ a. hides (fit ∙ a .0) (a .2) i capacity e (a .1) is) (untried clear (e .waiting) shows h))
+          (λ h. dead (fit ∙ h .0) (h .1) i capacity e)
+          (not-tried clear (not (e .waiting) || shows) (goesOn the-system (choose (stateBy the-system left covered []) (rowAt work r))) f)
+          ∙ g
 
     -- ---- it fits, and the search goes on below it
     module _ (fit : fits left covered (maskAt work r) (rowAt work r .kind) ≡ true) where
@@ -242,7 +339,7 @@ module _ {d : Dims} {work chart left path : List ℕ} {n : ℕ} {covered : Mask}
       in-size = let z = size-is (x .ready) in omega arith
 
       module _ (more : Mask) (union : has more ≡ either (has covered) (has (maskAt work r))) where
-        call-less : length (uncovered (d .cells) more) < length (uncovered (d .cells) covered)
+        call-less : length (uncovered (d .size) more) < length (uncovered (d .size) covered)
         call-less =
             subst (λ (m : ℕ). length (uncovered m more) < length (uncovered m covered)) (size-is (x .ready))
             (child-less the-system (x .ready .lawful) left covered (maskAt work r) (take n path) r row-in-rows (row-cells (x .ready) r row) more union c at-row is-open in-size)
@@ -273,33 +370,16 @@ module _ {d : Dims} {work chart left path : List ℕ} {n : ℕ} {covered : Mask}
                   (all-last xs (and-right (ltb z (d .rows)) (all (λ j. ltb j (d .rows)) xs) u))
 
           turn : (i : Identify) (capacity : ℕ) (e e′ whole : Emitted) → e′ ≡ emits capacity (fastBelow the-system i (stateBy the-system left′ more (take (n + 1) path′))) e
-              → emits capacity (choicesFrom the-system i the-state r) e ≡ whole → emits capacity (choicesFrom the-system i the-state (getD work (8 * r + 5) 0)) e′ ≡ whole
+              → emits capacity (choicesFrom the-system i the-state r) e ≡ whole → emits capacity (choicesFrom the-system i the-state (r + 1)) e′ ≡ whole
           turn i capacity e e′ whole g w =
               let s : stateBy the-system left′ more (take (n + 1) path′) ≡ choose the-state (rowOf the-system r) =
               ap (λ (y : List ℕ). stateBy the-system y more (take (n + 1) path′)) left-row
               ∙ ap (λ (y : List ℕ). stateBy the-system (set left (rowOf the-system r .kind) (getD left (rowOf the-system r .kind) 0 - 1)) more y) p
               ∙ child-state the-system (x .ready .lawful) left covered (maskAt work r) (take n path) r row-in-rows (row-cells (x .ready) r row) more union in
-              ap (emits capacity (choicesFrom the-system i the-state (getD work (8 * r + 5) 0))) (g ∙ ap (λ (y : State). emits capacity (fastBelow the-system i y) e) s)
-              ∙ sym (emits-append capacity (fastBelow the-system i (choose the-state (rowOf the-system r))) (choicesFrom the-system i the-state (getD work (8 * r + 5) 0)) e)
+              ap (emits capacity (choicesFrom the-system i the-state (r + 1))) (g ∙ ap (λ (y : State). emits capacity (fastBelow the-system i y) e) s)
+              ∙ sym (emits-append capacity (fastBelow the-system i (choose the-state (rowOf the-system r))) (choicesFrom the-system i the-state (r + 1)) e)
               ∙ ap (λ (L : List (List ℕ)). emits capacity L e) (sym (takes fit i))
               ∙ w
-
--- ---- the test of a row
-pub fits-not : (left : List ℕ) (covered mask m : Mask) (k : ℕ) (b : Bool) → m ≡ mask → b ≡ not (apart 128 (has m) (has covered)) → b ≡ true → false ≡ fits left covered mask k
-unfolding fits
-fits-not left covered mask m k b e g h =
-    sym (ap (λ (x : Bool). x && ltb 0 (getD left k 0)) (ap (λ (x : Mask). apart 128 (has x) (has covered)) (sym e) ∙ not-true (apart 128 (has m) (has covered)) (sym g ∙ h)))
-
-pub fits-by-left : (left : List ℕ) (covered mask m : Mask) (k j : ℕ) (b : Bool) → m ≡ mask → b ≡ not (apart 128 (has m) (has covered)) → b ≡ false → j ≡ k → ltb 0 (getD left j 0) ≡ fits left covered mask k
-unfolding fits
-fits-by-left left covered mask m k j b e g h i =
-    ap (λ (x : ℕ). ltb 0 (getD left x 0)) i
-    ∙ sym (ap (λ (x : Bool). x && ltb 0 (getD left k 0)) (ap (λ (x : Mask). apart 128 (has x) (has covered)) (sym e) ∙ not-false (apart 128 (has m) (has covered)) (sym g ∙ h)))
-
--- a row that fits has a copy left
-fits-left : (left : List ℕ) (covered mask : Mask) (k : ℕ) → fits left covered mask k ≡ true → 0 < getD left k 0
-unfolding fits
-fits-left left covered mask k e = ltb→lt 0 (getD left k 0) (and-right (apart 128 (has mask) (has covered)) (ltb 0 (getD left k 0)) (holds (fits left covered mask k) e))
 
 -- ---- a row of the cell that fits, with the copies and the path as the loop has them
 pub record Placing (d : Dims) (work left₀ path₀ left path : List ℕ) (n : ℕ) (covered : Mask) (c r k : ℕ) : Type 0 where
@@ -308,7 +388,8 @@ pub record Placing (d : Dims) (work left₀ path₀ left path : List ℕ) (n : �
   pub long : length path ≡ 128
   pub row : r < d .rows
   pub at : rowAt work r .p ≡ c
-  pub fit : fits left covered (maskAt work r) (rowAt work r .kind) ≡ true
+  pub some : 0 < getD left₀ k 0
+  pub clear : apart 128 (has (maskAt work r)) (has covered) ≡ true
   pub kind : k ≡ rowAt work r .kind
 
 module _ {d : Dims} {work chart left₀ path₀ left path : List ℕ} {n : ℕ} {covered : Mask} {c r k : ℕ}
@@ -317,7 +398,7 @@ module _ {d : Dims} {work chart left₀ path₀ left path : List ℕ} {n : ℕ} 
   place-in = let a = kind-in x r (y .row) (y .at) in let e = ap (λ (l : List ℕ). length l) (y .sameLeft) in let f = y .kind in omega arith
 
   pub place-left : 0 < getD left k 0
-  place-left = subst (λ (j : ℕ). 0 < getD left j 0) (sym (y .kind)) (fits-left left covered (maskAt work r) (rowAt work r .kind) (y .fit))
+  place-left = subst (λ (l : List ℕ). 0 < getD l k 0) (sym (y .sameLeft)) (y .some)
 
   pub place-path : n < length path
   place-path = let a = room-left x in let l = y .long in omega arith
@@ -332,7 +413,7 @@ module _ {d : Dims} {work chart left₀ path₀ left path : List ℕ} {n : ℕ} 
   back-left left₁ e = put-back left left₁ k e place-in place-left ∙ y .sameLeft
 
   fit₀ : fits left₀ covered (maskAt work r) (rowAt work r .kind) ≡ true
-  fit₀ = ap (λ (l : List ℕ). fits l covered (maskAt work r) (rowAt work r .kind)) (sym (y .sameLeft)) ∙ y .fit
+  fit₀ = fits-apart left₀ covered (maskAt work r) (rowAt work r .kind) (subst (λ (j : ℕ). 0 < getD left₀ j 0) (y .kind) (y .some)) ∙ y .clear
 
   left-is : set left k (getD left k 0 - 1) ≡ set left₀ (rowAt work r .kind) (getD left₀ (rowAt work r .kind) 0 - 1)
   left-is = ap₂ (λ (l : List ℕ) (j : ℕ). set l j (getD l j 0 - 1)) (y .sameLeft) (y .kind)
@@ -344,7 +425,7 @@ module _ {d : Dims} {work chart left₀ path₀ left path : List ℕ} {n : ℕ} 
     union-is : has more ≡ either (has covered) (has (maskAt work r))
     union-is = union ∙ ap (λ (z : Mask). either (has covered) (has z)) is-mask
 
-    pub place-falls : length (uncovered (d .cells) more) < length (uncovered (d .cells) covered)
+    pub place-falls : length (uncovered (d .size) more) < length (uncovered (d .size) covered)
     place-falls = call-less x r (y .row) (y .at) fit₀ more union-is
 
     pub place-searching : Searching (systemIn d work chart) (set left k (getD left k 0 - 1)) more (take (n + 1) (set path n r))
@@ -356,5 +437,5 @@ module _ {d : Dims} {work chart left₀ path₀ left path : List ℕ} {n : ℕ} 
     pub place-turns : (i : Identify) (capacity : ℕ) (e e′ whole : Emitted)
         → e′ ≡ emits capacity (fastBelow (systemIn d work chart) i (stateBy (systemIn d work chart) (set left k (getD left k 0 - 1)) more (take (n + 1) (set path n r)))) e
         → emits capacity (choicesFrom (systemIn d work chart) i (stateBy (systemIn d work chart) left₀ covered (take n path₀)) r) e ≡ whole
-        → emits capacity (choicesFrom (systemIn d work chart) i (stateBy (systemIn d work chart) left₀ covered (take n path₀)) (getD work (8 * r + 5) 0)) e′ ≡ whole
+        → emits capacity (choicesFrom (systemIn d work chart) i (stateBy (systemIn d work chart) left₀ covered (take n path₀)) (r + 1)) e′ ≡ whole
     place-turns = turn x r (y .row) (y .at) fit₀ more union-is (set left k (getD left k 0 - 1)) (set path n r) left-is path-is

@@ -14,8 +14,8 @@ use Rattle.fast.specs.Searching.{fastBelow}
 use Rattle.fast.specs.Pruned.{fastFirst}
 
 -- the cells of all copies together; the same of n kinds that stand in a chart
-unfoldable pub cellsBy : System → ℕ
-cellsBy s = sum (map (λ k. getD (s .copies) k 0 * getD (s .sizes) k 0) (below (length (s .copies))))
+unfoldable pub totalCells : System → ℕ
+totalCells s = sum (map (λ k. getD (s .copies) k 0 * getD (s .sizes) k 0) (below (length (s .copies))))
 
 unfoldable pub cellsIn : List ℕ → ℕ → ℕ
 cellsIn chart n = sum (map (λ k. getD (kindsPart chart) (3 * k) 0 * getD (kindsPart chart) (3 * k + 2) 0) (below n))
@@ -23,7 +23,7 @@ cellsIn chart n = sum (map (λ k. getD (kindsPart chart) (3 * k) 0 * getD (kinds
 -- "The piece of merged kind 0 is placed first exactly if turned packings are identified, that kind has one copy, and all copies together have as many
 -- cells as the board."
 unfoldable pub firstBy : System → Identify → Bool
-firstBy s i = identifiesTurned i && (eqb (getD (s .copies) 0 0) 1 && eqb (cellsBy s) (s .size))
+firstBy s i = identifiesTurned i && (eqb (getD (s .copies) 0 0) 1 && eqb (totalCells s) (s .size))
 
 -- the list
 unfoldable pub fastAnswers : System → Identify → List (List ℕ)

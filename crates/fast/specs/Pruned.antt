@@ -1,4 +1,4 @@
--- Kind 0 first, by row numbers: the rows of kind 0 come first in the table, so an image ahead of one is an image with a smaller number.
+-- Kind 0 first, by row numbers: the rows of kind 0 come first, so an image ahead of one is an image with a smaller number.
 use Prim.Native.Nat.{ℕ}
 use mathlib.Core.Bool.{Bool, true, false, not, _&&_, _||_}
 use mathlib.Core.List.{List}

@@ -1,14 +1,13 @@
 -- Fast's search over the slices of a row system.
 use Prim.Native.Nat.{ℕ, _+_, _≤_, _<_}
-use mathlib.Core.Bool.{Bool, true, not, _&&_}
+use mathlib.Core.Bool.{Bool, true, not, _||_}
 use mathlib.Core.List.{List, [], map, List·Memᴰ}
 use mathlib.Core.Path.{_≡_}
-use lib.Dec.{ltb}
 use lib.ListN.{length, getD, take}
-use Rattle.lists.specs.Lists.{keep, below, Apart}
+use Rattle.lists.specs.Lists.{keep, below, isEmpty, Apart}
 use Rattle.definitions.specs.Kept.{Identify}
 use Rattle.definitions.specs.Orders.{State, search, fastChoices}
-use Rattle.masks.specs.Masks.{has, apart}
+use Rattle.masks.specs.Masks.{has}
 use Rattle.masks.specs.declared.Mask.{Mask}
 use Rattle.rows.specs.Systems.{System}
 use Rattle.kept.specs.Normal.{rowOf, ofKind}
@@ -26,6 +25,10 @@ stateBy s left covered rs =
 unfoldable pub fastBelow : System → Identify → State → List (List ℕ)
 fastBelow s i t = entries s i (search (fastChoices (s .rows)) (s .size) t)
 
+-- a search goes on below a state: no cell is uncovered, or the first that is can be covered. proofs/AheadLaws: where it does not, nothing is listed below.
+unfoldable pub goesOn : System → State → Bool
+goesOn s t = isEmpty (t .free) || not (isEmpty (fastChoices (s .rows) t))
+
 -- what a search keeps true: the rows chosen differ and are covered, their copies are taken, and there is a place in the path for each uncovered cell
 pub record Searching (s : System) (left : List ℕ) (covered : Mask) (rs : List ℕ) : Type 0 where
   pub enough : length (s .copies) ≤ length left
@@ -33,7 +36,3 @@ pub record Searching (s : System) (left : List ℕ) (covered : Mask) (rs : List 
   pub taken : (k : ℕ) → k < length (s .copies) → getD left k 0 + length (ofKind s k rs) ≡ getD (s .copies) k 0
   pub covers : (r : ℕ) → List·Memᴰ r rs → (c : ℕ) → List·Memᴰ c (rowOf s r .cells) → has covered c ≡ true
   pub room : length rs + length (uncovered (s .size) covered) ≤ s .size
-
--- a copy of the kind is left, and no cell is covered
-unfoldable pub fits : List ℕ → Mask → Mask → ℕ → Bool
-fits left covered mask kind = apart 128 (has mask) (has covered) && ltb 0 (getD left kind 0)

@@ -40,7 +40,7 @@ fn is_kind_0_first(d: Dims, chart: &[u16], turned: bool) -> bool
     requires { ⌜ (d .kinds ≤ 16) × Charted (now chart) ⌝ }
     ensures { λ b. do
       let copies = map (λ k. getD (kindsPart (now (chart .entry))) (3 * k) 0) (below (d .kinds))
-      ⌜ b ≡ turned && (eqb (getD copies 0 0) 1 && eqb (cellsIn (now (chart .entry)) (d .kinds)) (d .cells)) ⌝ }
+      ⌜ b ≡ turned && (eqb (getD copies 0 0) 1 && eqb (cellsIn (now (chart .entry)) (d .kinds)) (d .size)) ⌝ }
 {
     if !turned {
         return false;
@@ -51,7 +51,7 @@ fn is_kind_0_first(d: Dims, chart: &[u16], turned: bool) -> bool
     if chart::copies_of(chart, 0) != 1 {
         return false;
     }
-    cells_of_all(chart, d.kinds) == d.cells
+    cells_of_all(chart, d.kinds) == d.size
 }
 
 // The copies of each kind; what lies behind them stays.

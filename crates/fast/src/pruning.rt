@@ -23,15 +23,15 @@ use kept::emission::Wanted;
 use rows::Dims;
 use rows::chart;
 use rows::images;
+use rows::row;
 use rows::shown;
-use rows::table;
 
 // Whether one of the maps numbered from `start` to below `end` takes row r onto a row before it.
 fn moves_before(d: Dims, work: &[u64], chart: &[u16], start: usize, end: usize, r: usize) -> bool
     requires { ⌜ Ready d (now work) (now chart) × (start ≤ end) × (end ≤ d .turns + d .mirrorings) × (r < d .rows) ⌝ }
     ensures { λ b. do
       let S = systemIn d (now (work .entry)) (now (chart .entry))
-      ⌜ b ≡ any (λ m. ltb (imageOf S (leb (d .turns) m) (imagesOf (now (chart .entry)) (d .cells) m) r) r) (from start (end - start)) ⌝ }
+      ⌜ b ≡ any (λ m. ltb (imageOf S (leb (d .turns) m) (imagesOf (now (chart .entry)) (d .size) m) r) r) (from start (end - start)) ⌝ }
 {
     let mut m = start;
     while m < end {
@@ -122,7 +122,7 @@ pub fn search_first(
     e: Emission,
 ) -> Emission
     requires { ⌜ Ready d (now work) (now chart) × (length (now path) ≡ 128) × (length (now shown) ≡ 256)
-        × Shown (d .cells) (take (d .places) (scansPart (now chart))) (now last) (now shown) × (wanted .capacity * (2 * d .places) ≤ length (now answers))
+        × Shown (d .size) (take (d .places) (scansPart (now chart))) (now last) (now shown) × (wanted .capacity * (2 * d .places) ≤ length (now answers))
         × (0 < getD (now left) 0 0) ⌝ }
     requires { ⌜ Searching (systemIn d (now work) (now chart)) (now left) (record { low = 0; high = 0 }) [] ⌝ }
     ensures page { λ r. do
@@ -136,13 +136,13 @@ pub fn search_first(
     // The rows of kind 0, which come first: s is what those passed have left, and the copies are as they were.
     let mut r = 0;
     while r < d.rows {
-        if 0 < table::kind_at(work, r) {
+        if 0 < row::kind_at(work, r) {
             return s;
         }
         if is_first(d, work, chart, wanted, shown, s.waiting, r) {
             left[0] -= 1;
             path[0] = r as u16;
-            let mask = table::mask_at(work, r);
+            let mask = row::mask_at(work, r);
             s = search::search(
                 d,
                 work,

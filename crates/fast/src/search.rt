@@ -1,38 +1,90 @@
 // The search: the first uncovered cell is covered in each way that is still possible.
 ghost use mathlib.Core.Bool.{_&&_, _||_, not};
+ghost use mathlib.Core.List.{[]};
 ghost use mathlib.Core.Path.{_≡_};
-ghost use Prim.Native.Nat.{_+_, _*_, _≤_, _<_};
-ghost use lib.ListN.{length, take};
+ghost use Prim.Native.Nat.{_+_, _*_, _-_, _≤_, _<_};
+ghost use lib.ListN.{getD, length, set, take};
+ghost use Rattle.lists.specs.Lists.{any, from};
 ghost use Rattle.definitions.specs.Emission.{emits};
-ghost use Rattle.rows.specs.Charts.{chartLength, piecesPart, scansPart};
+ghost use Rattle.definitions.specs.Orders.{choose};
+ghost use Rattle.masks.specs.Masks.{apart, has};
+ghost use Rattle.rows.specs.Charts.{piecesPart, scansPart};
 ghost use Rattle.rows.specs.Rows.{maskAt, rowAt};
 ghost use Rattle.rows.specs.Shown.{Shown, showsRow};
 ghost use Rattle.rows.specs.Systems.{ownedIn, systemIn};
 ghost use Rattle.kept.specs.Emission.{emittedOf, identified};
 ghost use Rattle.kept.specs.Ready.{OfRows, Ready, Restored};
-ghost use Rattle.fast.specs.Searching.{Searching, fastBelow, fits, stateBy};
+ghost use Rattle.fast.specs.Searching.{Searching, fastBelow, goesOn, stateBy};
 use kept::emission;
 use kept::emission::Emission;
 use kept::emission::Wanted;
 use masks::Mask;
 use rows::Dims;
 use rows::chart;
+use rows::row;
 use rows::shown;
-use rows::table;
 
-// Whether a copy of row r's kind is left and none of its cells is covered.
-fn can_place(work: &[u64], left: &[u8], covered: Mask, r: usize) -> bool
-    requires { ⌜ (8 * r + 8 ≤ length (now work)) × (rowAt (now work) r .kind < length (now left)) ⌝ }
-    ensures { λ b. ⌜ b ≡ fits (now (left .entry)) covered (maskAt (now (work .entry)) r) (rowAt (now (work .entry)) r .kind) ⌝ }
+// Whether none of row r's cells is covered.
+fn is_clear(work: &[u64], covered: Mask, r: usize) -> bool
+    requires { ⌜ 8 * r + 8 ≤ length (now work) ⌝ }
+    ensures { λ b. ⌜ b ≡ apart 128 (has (maskAt (now (work .entry)) r)) (has covered) ⌝ }
 {
-    if table::mask_at(work, r).meets(covered) {
-        return false;
-    }
-    let kind = table::kind_at(work, r);
-    0 < left[kind]
+    !row::mask_at(work, r).meets(covered)
 }
 
-// Whether row r is tried: it can be placed, and while an answer is waited for the answer shows it.
+// Whether one of the rows from `start` to below `end` has no cell that is covered.
+fn any_clear(work: &[u64], start: usize, end: usize, covered: Mask) -> bool
+    requires { ⌜ (start ≤ end) × (8 * end ≤ length (now work)) ⌝ }
+    ensures { λ b. ⌜ b ≡ any (λ r. apart 128 (has (maskAt (now (work .entry)) r)) (has covered)) (from start (end - start)) ⌝ }
+{
+    let mut r = start;
+    // no row before r has none
+    while r < end {
+        if is_clear(work, covered, r) {
+            return true;
+        }
+        r += 1;
+    }
+    false
+}
+
+// How many copies of kind k are left when one of a kind is placed.
+fn left_after(left: &[u8], kind: usize, k: usize) -> u8
+    requires { ⌜ (k < length (now left)) × (0 < getD (now left) kind 0) ⌝ }
+    ensures { λ r. ⌜ r ≡ getD (set (now (left .entry)) kind (getD (now (left .entry)) kind 0 - 1)) k 0 ⌝ }
+{
+    if k == kind { left[k] - 1 } else { left[k] }
+}
+
+// Whether a search goes on when a row of a kind is placed and these cells are covered: none is uncovered, or a row can be placed at the first that is.
+fn goes_on(d: Dims, work: &[u64], chart: &[u16], left: &[u8], kind: usize, covered: Mask) -> bool
+    requires { ⌜ Ready d (now work) (now chart) × (d .kinds ≤ length (now left)) × (0 < getD (now left) kind 0) ⌝ }
+    ensures { λ b. do
+      let S = systemIn d (now (work .entry)) (now (chart .entry))
+      let after = set (now (left .entry)) kind (getD (now (left .entry)) kind 0 - 1)
+      ⌜ b ≡ goesOn S (stateBy S after covered []) ⌝ }
+{
+    let c = covered.next_open(0);
+    if d.size <= c {
+        return true;
+    }
+    let mut k = 0;
+    // no row of a kind before k can be placed there
+    while k < d.kinds {
+        if 0 < left_after(left, kind, k) {
+            let start = chart::start_at(chart, 128 * k + c);
+            let end = chart::start_at(chart, 128 * k + c + 1);
+            if any_clear(work, start, end, covered) {
+                return true;
+            }
+        }
+        k += 1;
+    }
+    false
+}
+
+// Whether row r, of a kind that has copies left, is tried: none of its cells is covered, while an answer is waited for the answer shows it, and the search
+// goes on below it.
 fn is_tried(
     d: Dims,
     work: &[u64],
@@ -41,19 +93,32 @@ fn is_tried(
     covered: Mask,
     shown: &[u8],
     waiting: bool,
+    kind: usize,
     r: usize,
 ) -> bool
-    requires { ⌜ (8 * r + 8 ≤ length (now work)) × (rowAt (now work) r .kind < length (now left)) × (rowAt (now work) r .p < 128) ⌝ }
-    requires { ⌜ (length (now shown) ≡ 256) × (d .pieces ≤ 16) × (length (now chart) ≡ chartLength) ⌝ }
+    requires { ⌜ Ready d (now work) (now chart) × (r < d .rows) × (kind ≡ rowAt (now work) r .kind) × (rowAt (now work) r .p < 128) ⌝ }
+    requires { ⌜ (length (now shown) ≡ 256) × (d .kinds ≤ length (now left)) × (0 < getD (now left) kind 0) ⌝ }
     ensures { λ b. do
+      let S = systemIn d (now (work .entry)) (now (chart .entry))
       let row = rowAt (now (work .entry)) r
       let shows = showsRow (ownedIn (piecesPart (now (chart .entry))) (d .pieces)) (now (shown .entry)) row
-      ⌜ b ≡ fits (now (left .entry)) covered (maskAt (now (work .entry)) r) (row .kind) && (not waiting || shows) ⌝ }
+      let below = choose (stateBy S (now (left .entry)) covered []) row
+      ⌜ b ≡ apart 128 (has (maskAt (now (work .entry)) r)) (has covered) && ((not waiting || shows) && goesOn S below) ⌝ }
 {
-    if !can_place(work, left, covered, r) {
+    if !is_clear(work, covered, r) {
         return false;
     }
-    shown::leads(d, work, chart, shown, waiting, r)
+    if !shown::leads(d, work, chart, shown, waiting, r) {
+        return false;
+    }
+    goes_on(
+        d,
+        work,
+        chart,
+        left,
+        kind,
+        covered.union(row::mask_at(work, r)),
+    )
 }
 
 // The packings that extend the rows chosen, one after the other, until the page is full and a further one is known.
@@ -72,7 +137,7 @@ pub fn search(
     e: Emission,
 ) -> Emission
     requires { ⌜ Ready d (now work) (now chart) × OfRows d (now path) n × (length (now path) ≡ 128) × (length (now shown) ≡ 256)
-        × Shown (d .cells) (take (d .places) (scansPart (now chart))) (now last) (now shown) × (wanted .capacity * (2 * d .places) ≤ length (now answers)) ⌝ }
+        × Shown (d .size) (take (d .places) (scansPart (now chart))) (now last) (now shown) × (wanted .capacity * (2 * d .places) ≤ length (now answers)) ⌝ }
     requires { ⌜ Searching (systemIn d (now work) (now chart)) (now left) covered (take n (now path)) ⌝ }
     ensures page { λ r. do
       let S = systemIn d (now (work .entry)) (now (chart .entry))
@@ -82,38 +147,45 @@ pub fn search(
     ensures restored { λ _. ⌜ (now (left .exit) ≡ now (left .entry)) × Restored n (now (path .entry)) (now (path .exit)) ⌝ }
 {
     let c = covered.next_open(0);
-    if d.cells <= c {
+    if d.size <= c {
         return emission::emit_kept(d, work, chart, wanted, path, n, last, answers, e);
     }
     let mut s = e;
-    // The rows at cell c, each by the one before it: s is what those passed have left, and copies and path are as they were.
-    let mut r = chart::first_row(chart, c);
-    while r < d.rows {
-        if is_tried(d, work, chart, left, covered, shown, s.waiting, r) {
-            let kind = table::kind_at(work, r);
-            left[kind] -= 1;
-            path[n] = r as u16;
-            let more = covered.union(table::mask_at(work, r));
-            s = search(
-                d,
-                work,
-                chart,
-                wanted,
-                left,
-                path,
-                n + 1,
-                more,
-                last,
-                shown,
-                answers,
-                s,
-            );
-            left[kind] += 1;
-            if s.further {
-                return s;
+    // The rows at cell c, kind by kind: s is what those of the kinds before have left, and copies and path are as they were.
+    let mut kind = 0;
+    while kind < d.kinds {
+        if 0 < left[kind] {
+            let mut r = chart::start_at(chart, 128 * kind + c);
+            let end = chart::start_at(chart, 128 * kind + c + 1);
+            // The same of the rows of this kind before r.
+            while r < end {
+                if is_tried(d, work, chart, left, covered, shown, s.waiting, kind, r) {
+                    left[kind] -= 1;
+                    path[n] = r as u16;
+                    let more = covered.union(row::mask_at(work, r));
+                    s = search(
+                        d,
+                        work,
+                        chart,
+                        wanted,
+                        left,
+                        path,
+                        n + 1,
+                        more,
+                        last,
+                        shown,
+                        answers,
+                        s,
+                    );
+                    left[kind] += 1;
+                    if s.further {
+                        return s;
+                    }
+                }
+                r += 1;
             }
         }
-        r = table::next_at(work, r);
+        kind += 1;
     }
     s
 }

@@ -1,5 +1,5 @@
 -- What the fields of a line give: the configuration of the first line; a grid's record, and its cells as bytes 0 and 1 put into a slice one by one; one record
--- more behind those of a table. Assumes nothing.
+-- more behind those of the pieces. Assumes nothing.
 use Prim.Native.Nat.{ℕ, zero, suc, _+_, _-_, _*_, _≤_, _<_}
 use mathlib.Core.Bool.{Bool, true, false, cond, not, _&&_, _||_}
 use mathlib.Core.List.{List, [], _∷_, _++_, append-nil, append-assoc, map}
@@ -18,11 +18,11 @@ use Rattle.definitions.specs.Texts.{text}
 use Rattle.definitions.specs.Files.{Written, recordAt, recordsFrom, field, fieldsOf, numberFrom, numberIn, gridIn, isNumber, isGridIn, isConfig, isBoard, isWood, hasPieceFields, isPiece, woodIn}
 use Rattle.definitions.specs.declared.Record.{Record}
 use Rattle.definitions.specs.declared.SolverKind.the-variants.{Fast, KnuthAlgorithm}
-use Rattle.placements.specs.declared.Table.{Table}
-use Rattle.placements.specs.Tables.{noRecord, emptyTable, tableOf}
+use Rattle.placements.specs.declared.Pieces.{Pieces}
+use Rattle.placements.specs.Pieces.{noRecord, emptyPieces, piecesOf}
 use Rattle.files.specs.declared.spans.Span.{Span}
 use Rattle.files.specs.Stretches.{Within, stretch}
-use Rattle.files.specs.Reading.{cellsOfAll, configIn, pushRow}
+use Rattle.files.specs.Reading.{cellsOfAll, configIn, pushRecord}
 use Rattle.files.proofs.SpanLaws.{isCell}
 use Rattle.files.proofs.LineLaws.{three-are-nine, stretch-length}
 
@@ -215,9 +215,9 @@ cells-length bytes s w old at i h k e =
     ap length e ∙ length-paste old at (map (λ x. x - 48) (stretch s bytes)) i (omega arith) (omega arith)
 
 -- ---- one record more
-pub pushed : (t : Table) (p : Record) (rows : List Record) → ((t .n < 16) × (rows ≡ set (t .rows) (t .n) p)) ⊎ ((16 ≤ t .n) × (rows ≡ t .rows)) → record { rows = rows; n = t .n + 1 } ≡ pushRow t p
-pushed t p rows (inl e) = rw (lt-ltb (t .n) 16 (e .0), e .1)
-pushed t p rows (inr e) = rw (le-ltb (t .n) 16 (e .0), e .1)
+pub pushed : (t : Pieces) (p : Record) (rows : List Record) → ((t .count < 16) × (rows ≡ set (t .records) (t .count) p)) ⊎ ((16 ≤ t .count) × (rows ≡ t .records)) → record { records = rows; count = t .count + 1 } ≡ pushRecord t p
+pushed t p rows (inl e) = rw (lt-ltb (t .count) 16 (e .0), e .1)
+pushed t p rows (inr e) = rw (le-ltb (t .count) 16 (e .0), e .1)
 
 module _ (ps : List Record) (p : Record) where
   abbrev more : List Record
@@ -267,17 +267,17 @@ module _ (ps : List Record) (p : Record) where
       let m = rows-length more in
       ext-getD noRecord (rows-of more) (rows-of ps) (omega arith) (λ i k. let j : i < 16 = omega arith in rows-at more i j ∙ at-old i (λ e. omega arith) ∙ sym (rows-at ps i j))
 
-  table-more : pushRow (tableOf ps) p ≡ tableOf (ps ++ (p ∷ []))
-  unfolding tableOf
-  table-more = sym (ap (λ (n : ℕ). record { rows = rows-of more; n = n }) (length-append ps (p ∷ [])) ∙ pushed (tableOf ps) p (rows-of more) (go (ltb (length ps) 16) refl))
+  pieces-of-more : pushRecord (piecesOf ps) p ≡ piecesOf (ps ++ (p ∷ []))
+  unfolding piecesOf
+  pieces-of-more = sym (ap (λ (n : ℕ). record { records = rows-of more; count = n }) (length-append ps (p ∷ [])) ∙ pushed (piecesOf ps) p (rows-of more) (go (ltb (length ps) 16) refl))
     where
       go : (b : Bool) → ltb (length ps) 16 ≡ b → ((length ps < 16) × (rows-of more ≡ set (rows-of ps) (length ps) p)) ⊎ ((16 ≤ length ps) × (rows-of more ≡ rows-of ps))
       go true e = let h = ltb-true (length ps) 16 e in inl (h, rows-few h)
       go false e = let h = ltb-false (length ps) 16 e in inr (h, rows-many h)
 
-pub table-none : emptyTable 0 ≡ tableOf []
-unfolding tableOf
-table-none = refl
+pub pieces-of-none : emptyPieces 0 ≡ piecesOf []
+unfolding piecesOf
+pieces-of-none = refl
 
 -- records, and their cells, of one grid more
 module _ (g : Written) where
@@ -294,11 +294,11 @@ module _ (g : Written) where
       let e : start + length (h .cells) + length (cellsOfAll gs) ≡ start + length (h .cells ++ cellsOfAll gs) = omega arith in
       ap (λ (ps : List Record). recordAt start h ∷ ps) (records-more (start + length (h .cells)) gs ∙ ap (λ (n : ℕ). recordsFrom (start + length (h .cells)) gs ++ (recordAt n g ∷ [])) e)
 
-  pub piece-more : (gs : List Written) → pushRow (tableOf (recordsFrom 0 gs)) (recordAt (length (cellsOfAll gs)) g) ≡ tableOf (recordsFrom 0 (gs ++ (g ∷ [])))
+  pub piece-more : (gs : List Written) → pushRecord (piecesOf (recordsFrom 0 gs)) (recordAt (length (cellsOfAll gs)) g) ≡ piecesOf (recordsFrom 0 (gs ++ (g ∷ [])))
   piece-more gs =
       let e : length (cellsOfAll gs) ≡ 0 + length (cellsOfAll gs) = omega arith in
-      table-more (recordsFrom 0 gs) (recordAt (length (cellsOfAll gs)) g)
-      ∙ ap tableOf (ap (λ (n : ℕ). recordsFrom 0 gs ++ (recordAt n g ∷ [])) e ∙ sym (records-more 0 gs))
+      pieces-of-more (recordsFrom 0 gs) (recordAt (length (cellsOfAll gs)) g)
+      ∙ ap piecesOf (ap (λ (n : ℕ). recordsFrom 0 gs ++ (recordAt n g ∷ [])) e ∙ sym (records-more 0 gs))
 
 pub records-length : (start : ℕ) (gs : List Written) → length (recordsFrom start gs) ≡ length gs
 records-length start [] = refl

@@ -14,13 +14,13 @@ use Rattle.lists.specs.Lists.{all, before, isEmpty}
 use Rattle.lists.proofs.TestLaws.{and-left, and-right, eqb-of, decide, clash}
 use Rattle.definitions.specs.Files.{Written, recordAt, recordsFrom, onFirst, parts, field, fieldsOf, withoutLast, lastOf, linesOf, numberIn, gridIn, isConfig, isBoard, isPiece, woodIn, pieceIn, isFile, callOn, callIn}
 use Rattle.definitions.specs.declared.Record.{Record}
-use Rattle.placements.specs.declared.Table.{Table}
-use Rattle.placements.specs.Tables.{emptyTable, tableOf}
+use Rattle.placements.specs.declared.Pieces.{Pieces}
+use Rattle.placements.specs.Pieces.{emptyPieces, piecesOf}
 use Rattle.files.specs.declared.spans.Span.{Span}
 use Rattle.files.specs.Stretches.{Within, stretch, isLine}
-use Rattle.files.specs.Reading.{Lines, PiecesRead, cellsOfAll, configIn, piecesIn, pushRow}
+use Rattle.files.specs.Reading.{Lines, PiecesRead, cellsOfAll, configIn, piecesIn, pushRecord}
 use Rattle.files.proofs.LineLaws.{stretch-length, parts-some, pieces-all, fileFrom, file-over, file-long, file-starts, found, not-ended, next-line}
-use Rattle.files.proofs.ReadingLaws.{table-none, cells-more, piece-more, records-length}
+use Rattle.files.proofs.ReadingLaws.{pieces-of-none, cells-more, piece-more, records-length}
 use Rattle.files.proofs.SpanLaws.{parts-exist}
 
 -- ---- a field is no longer than its line
@@ -184,25 +184,25 @@ module _ {bytes : List ℕ} {f : Span} {fd : List ℕ} (is-f : Within f bytes ×
       ∙ ap₂ (λ (l : List ℕ) (j : ℕ). paste (paste old 0 xs j) j (map (λ x. x - 48) l) (length (map (λ x. x - 48) fd))) (is-f .1) e
 
 -- ---- the pieces read so far, from a place `start` on to another
-pub record ReadTo (bytes : List ℕ) (start : ℕ) (old : List ℕ) (from : ℕ) (t : Table) (used : ℕ) (new : List ℕ) : Type 0 where
+pub record ReadTo (bytes : List ℕ) (start : ℕ) (old : List ℕ) (from : ℕ) (t : Pieces) (used : ℕ) (new : List ℕ) : Type 0 where
   pub done : List Written
   pub left : piecesIn (drop start bytes) ≡ done ++ piecesIn (drop from bytes)
   pub lines : Lines isPiece (drop from bytes)
-  pub table : t ≡ tableOf (recordsFrom 0 done)
+  pub pieces : t ≡ piecesOf (recordsFrom 0 done)
   pub count : used ≡ length (cellsOfAll done)
   pub cells : new ≡ paste old 0 (cellsOfAll done) used
   pub inside : from ≤ length bytes
   pub passed : start + used ≤ from
   pub many : length done ≤ from
 
-pub none-read : (bytes : List ℕ) (start : ℕ) (old : List ℕ) {t : Table} → start ≤ length bytes → Lines isPiece (drop start bytes) → t ≡ emptyTable 0 → ReadTo bytes start old start t 0 old
+pub none-read : (bytes : List ℕ) (start : ℕ) (old : List ℕ) {t : Pieces} → start ≤ length bytes → Lines isPiece (drop start bytes) → t ≡ emptyPieces 0 → ReadTo bytes start old start t 0 old
 unfolding cellsOfAll
 none-read bytes start old h ls e =
     record {
       done = [];
       left = refl;
       lines = ls;
-      table = e ∙ table-none;
+      pieces = e ∙ pieces-of-none;
       count = refl;
       cells = paste-zero old 0 [];
       inside = h;
@@ -210,11 +210,11 @@ none-read bytes start old h ls e =
       many = omega arith;
     }
 
-module _ {bytes : List ℕ} {start : ℕ} {old : List ℕ} {from : ℕ} {t : Table} {used : ℕ} {new : List ℕ} (so : ReadTo bytes start old from t used new) where
-  pub rows-bound : t .n ≤ from
-  unfolding tableOf
+module _ {bytes : List ℕ} {start : ℕ} {old : List ℕ} {from : ℕ} {t : Pieces} {used : ℕ} {new : List ℕ} (so : ReadTo bytes start old from t used new) where
+  pub rows-bound : t .count ≤ from
+  unfolding piecesOf
   rows-bound =
-      let e = ap (λ (u : Table). u .n) (so .table) in
+      let e = ap (λ (u : Pieces). u .count) (so .pieces) in
       let f = records-length 0 (so .done) in
       omega (arith, so .many)
 
@@ -229,7 +229,7 @@ module _ {bytes : List ℕ} {start : ℕ} {old : List ℕ} {from : ℕ} {t : Tab
   all-read h =
       let e : so .done ≡ piecesIn (drop start bytes) = sym (so .left ∙ ap (λ (l : List Written). so .done ++ l) (pieces-none (drop from bytes) (lines-none bytes from h)) ∙ append-nil (so .done)) in
       record {
-        table = so .table ∙ ap (λ (l : List Written). tableOf (recordsFrom 0 l)) e;
+        pieces = so .pieces ∙ ap (λ (l : List Written). piecesOf (recordsFrom 0 l)) e;
         count = so .count ∙ ap (λ (l : List Written). length (cellsOfAll l)) e;
         cells = so .cells ∙ ap (λ (l : List Written). paste old 0 (cellsOfAll l) used) e;
       }
@@ -242,7 +242,7 @@ module _ {bytes : List ℕ} {start : ℕ} {old : List ℕ} {from : ℕ} {t : Tab
     pub one-more : {f : Span} → Within f bytes × (stretch f bytes ≡ field (stretch (record { from = from; to = end }) bytes) 5)
         → {count wood : ℕ} → count ≡ numberIn (field (stretch (record { from = from; to = end }) bytes) 1) → wood ≡ woodIn (stretch (record { from = from; to = end }) bytes)
         → {p : Record} → p ≡ recordAt used (gridIn count wood 2 (stretch (record { from = from; to = end }) bytes))
-        → {u : Table} → u ≡ pushRow t p → {r : ℕ} {last : List ℕ} → (r ≡ used + (f .to - f .from)) × (last ≡ paste new used (map (λ x. x - 48) (stretch f bytes)) (f .to - f .from))
+        → {u : Pieces} → u ≡ pushRecord t p → {r : ℕ} {last : List ℕ} → (r ≡ used + (f .to - f .from)) × (last ≡ paste new used (map (λ x. x - 48) (stretch f bytes)) (f .to - f .from))
         → ReadTo bytes start old (end + 1) u r last
     unfolding gridIn pieceIn
     one-more {f} is-f {count} {wood} is-count is-wood {p} is-p {u} is-u {r} {last} is =
@@ -267,9 +267,9 @@ module _ {bytes : List ℕ} {start : ℕ} {old : List ℕ} {from : ℕ} {t : Tab
           left =
               so .left ∙ ap (λ (l : List Written). gs ++ l) (pieces-next (drop from bytes) line (drop (end + 1) bytes) (here .lines)) ∙ sym (append-assoc gs (g ∷ []) (piecesIn (drop (end + 1) bytes)));
           lines = here .behind;
-          table =
+          pieces =
               is-u
-              ∙ ap₂ pushRow (so .table) (is-p ∙ ap₂ (λ (a b : ℕ). recordAt a (gridIn b wood 2 line)) (so .count) is-count ∙ ap (λ (w : ℕ). recordAt (length cs) (gridIn (numberIn (field line 1)) w 2 line)) is-wood)
+              ∙ ap₂ pushRecord (so .pieces) (is-p ∙ ap₂ (λ (a b : ℕ). recordAt a (gridIn b wood 2 line)) (so .count) is-count ∙ ap (λ (w : ℕ). recordAt (length cs) (gridIn (numberIn (field line 1)) w 2 line)) is-wood)
               ∙ piece-more g gs;
           count = omega arith;
           cells = put-behind is-f old cs (so .count) (so .cells) (is .1) ∙ paste-behind old cs (g .cells) (omega arith) ∙ ap₂ (λ (l : List ℕ) (j : ℕ). paste old 0 l j) (sym sum) total;
@@ -355,15 +355,15 @@ module _ {bytes : List ℕ} {first second : ℕ} (so : FileLines bytes first sec
   unfolding callIn callOn configIn
   call-config = sym (ap (λ (ls : List (List ℕ)). configIn (getD ls 0 [])) (so .lines))
 
-  module _ (old : List ℕ) (wide : 16384 ≤ length old) {t : Table} {used : ℕ} {new : List ℕ} (p : PiecesRead (drop (second + 1) bytes) old t used new × (second + 1 + used ≤ length bytes)) where
+  module _ (old : List ℕ) (wide : 16384 ≤ length old) {t : Pieces} {used : ℕ} {new : List ℕ} (p : PiecesRead (drop (second + 1) bytes) old t used new × (second + 1 + used ≤ length bytes)) where
     pub pieces-kept : length new ≡ length old
     pieces-kept =
         let e = p .0 .count in
         let f = so .few in
         ap length (p .0 .cells) ∙ length-paste old 0 (cellsOfAll (piecesIn behind)) used (omega (arith, p .1)) (omega arith)
 
-    pub asked-pieces : t ≡ tableOf (callIn bytes 0 0 .pieces)
-    asked-pieces = p .0 .table ∙ ap tableOf call-pieces
+    pub asked-pieces : t ≡ piecesOf (callIn bytes 0 0 .pieces)
+    asked-pieces = p .0 .pieces ∙ ap piecesOf call-pieces
 
     pub asked-board : {r : Record} → r ≡ recordAt used (gridIn 0 0 1 (stretch (record { from = first + 1; to = second }) bytes)) → r ≡ callIn bytes 0 0 .board
     asked-board e = e ∙ ap (λ (n : ℕ). recordAt n (gridIn 0 0 1 board-line)) (p .0 .count) ∙ call-board

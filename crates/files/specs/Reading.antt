@@ -12,8 +12,8 @@ use Rattle.definitions.specs.Files.{Written, callIn, field, isFile, lastOf, lin
 use Rattle.definitions.specs.declared.Config.{Config}
 use Rattle.definitions.specs.declared.Record.{Record}
 use Rattle.definitions.specs.declared.SolverKind.the-variants.{Fast, KnuthAlgorithm}
-use Rattle.placements.specs.declared.Table.{Table}
-use Rattle.placements.specs.Tables.{emptyTable, noRecord, tableOf}
+use Rattle.placements.specs.declared.Pieces.{Pieces}
+use Rattle.placements.specs.Pieces.{emptyPieces, noRecord, piecesOf}
 use Rattle.files.specs.declared.reading.Asked.{Asked}
 use Rattle.files.specs.declared.reading.Reading.{Reading}
 
@@ -28,8 +28,8 @@ configIn line =
     }
 
 -- one record more
-abbrev pub pushRow : Table → Record → Table
-pushRow t p = record { rows = cond (ltb (t .n) 16) (set (t .rows) (t .n) p) (t .rows); n = t .n + 1 }
+abbrev pub pushRecord : Pieces → Record → Pieces
+pushRecord t p = record { records = cond (ltb (t .count) 16) (set (t .records) (t .count) p) (t .records); count = t .count + 1 }
 
 -- each line is ended and passes a test
 abbrev pub Lines : (List ℕ → Bool) → List ℕ → Type 0
@@ -42,16 +42,16 @@ piecesIn bytes = map pieceIn (linesOf bytes)
 unfoldable pub cellsOfAll : List Written → List ℕ
 cellsOfAll gs = joined (map (λ (g : Written). g .cells) gs)
 
--- the table of the pieces' records, and their cells over the start of a slice
-pub record PiecesRead (bytes old : List ℕ) (t : Table) (used : ℕ) (new : List ℕ) : Type 0 where
-  pub table : t ≡ tableOf (recordsFrom 0 (piecesIn bytes))
+-- the pieces by their records, and their cells over the start of a slice
+pub record PiecesRead (bytes old : List ℕ) (t : Pieces) (used : ℕ) (new : List ℕ) : Type 0 where
+  pub pieces : t ≡ piecesOf (recordsFrom 0 (piecesIn bytes))
   pub count : used ≡ length (cellsOfAll (piecesIn bytes))
   pub cells : new ≡ paste old 0 (cellsOfAll (piecesIn bytes)) used
 
 -- ---- a text
 -- what a file asks for, with its cells over the start of a slice
 pub record Asks (text old : List ℕ) (asked : Asked) (new : List ℕ) : Type 0 where
-  pub piecesAre : asked .pieces ≡ tableOf (callIn text 0 0 .pieces)
+  pub piecesAre : asked .pieces ≡ piecesOf (callIn text 0 0 .pieces)
   pub boardIs : asked .board ≡ callIn text 0 0 .board
   pub configIs : asked .config ≡ callIn text 0 0 .config
   pub few : asked .used ≤ 16384
@@ -62,7 +62,7 @@ pub record Asks (text old : List ℕ) (asked : Asked) (new : List ℕ) : Type 0 
 abbrev pub nothingAsked : Asked
 nothingAsked =
     record {
-      pieces = emptyTable 0;
+      pieces = emptyPieces 0;
       board = noRecord;
       config = record { «identify_transformed_answers» = false; «identify_mirrored_answers» = false; solver = Fast };
       used = 0;

@@ -9,25 +9,25 @@ ghost use lib.ListN.{drop, length};
 ghost use lib.Seq.{paste};
 ghost use Rattle.definitions.specs.Files.{fieldsOf, gridIn, hasPieceFields, isConfig, isFile, isGridIn, isPiece, recordAt, woodIn};
 ghost use Rattle.files.specs.Stretches.{Within, stretch};
-ghost use Rattle.files.specs.Reading.{Asks, FileRead, Lines, PiecesRead, configIn, nothingAsked, pushRow};
+ghost use Rattle.files.specs.Reading.{Asks, FileRead, Lines, PiecesRead, configIn, nothingAsked, pushRecord};
 use super::lines;
 use super::spans;
 use super::spans::Span;
 use definitions::Config;
 use definitions::Record;
 use definitions::SolverKind;
-use placements::Table;
+use placements::Pieces;
 use placements::records;
 
 // The pieces of a file: the first 16 records, how many pieces there are, and how many cells they have together.
-struct Pieces {
-    table: Table,
+struct FilePieces {
+    pieces: Pieces,
     used: usize,
 }
 
 // What a text asks for: its pieces, its board, its configuration, and how many cells they have together.
 pub struct Asked {
-    pub pieces: Table,
+    pub pieces: Pieces,
     pub board: Record,
     pub config: Config,
     pub used: usize,
@@ -112,43 +112,43 @@ fn put_cells(text: &[u8], s: Span, cells: &mut [u8], at: usize) -> usize
     at + n
 }
 
-// One record more, behind those of a table; past 16 it is only counted.
-fn push_row(t: Table, p: Record) -> Table
-    requires { ⌜ t .n < 16384 ⌝ }
-    ensures { λ r. ⌜ r ≡ pushRow t p ⌝ }
+// One record more, behind those of the pieces; past 16 it is only counted.
+fn push_record(t: Pieces, p: Record) -> Pieces
+    requires { ⌜ t .count < 16384 ⌝ }
+    ensures { λ r. ⌜ r ≡ pushRecord t p ⌝ }
 {
-    let n = t.n;
+    let n = t.count;
     let mut out = t;
     if n < 16 {
-        out.rows[n] = p;
+        out.records[n] = p;
     }
-    out.n = n + 1;
+    out.count = n + 1;
     out
 }
 
 // The pieces of the lines from a place on, their cells from the start of a slice on.
-fn read_pieces(text: &[u8], start: usize, cells: &mut [u8]) -> Pieces
+fn read_pieces(text: &[u8], start: usize, cells: &mut [u8]) -> FilePieces
     requires { ⌜ (start ≤ length (now text)) × (length (now text) ≤ 16384) × (16384 ≤ length (now cells))
         × Lines isPiece (drop start (now text)) ⌝ }
-    ensures { λ r. ⌜ PiecesRead (drop start (now (text .entry))) (now (cells .entry)) (r .table) (r .used) (now (cells .exit))
+    ensures { λ r. ⌜ PiecesRead (drop start (now (text .entry))) (now (cells .entry)) (r .pieces) (r .used) (now (cells .exit))
         × (start + r .used ≤ length (now (text .entry))) ⌝ }
 {
     let to = text.len();
-    let mut t = records::empty_table(0);
+    let mut t = records::empty_pieces(0);
     let mut used = 0;
     let mut from = start;
-    // the pieces of the lines before `from` are in the table, and their cells stand before `used`
+    // the pieces of the lines before `from` are there, and their cells stand before `used`
     while from < to {
         let end = spans::find(text, Span { from, to }, 10);
         let line = Span { from, to: end };
         let count = spans::number_in(text, spans::field_of(text, line, 1));
         let wood = wood_in(text, line);
         let p = record_in(text, line, 2, count as u32, wood, used);
-        t = push_row(t, p);
+        t = push_record(t, p);
         used = put_cells(text, spans::field_of(text, line, 5), cells, used);
         from = end + 1;
     }
-    Pieces { table: t, used }
+    FilePieces { pieces: t, used }
 }
 
 // What a file asks for. The pieces' cells are lent first, then the board's.
@@ -169,7 +169,7 @@ fn read_lines(text: &[u8], cells: &mut [u8]) -> Asked
     let config = config_in(text, first);
     let p = read_pieces(text, second.to + 1, cells);
     let at = p.used;
-    let pieces = p.table;
+    let pieces = p.pieces;
     let board = record_in(text, second, 1, 0, 0, at);
     let used = put_cells(text, spans::field_of(text, second, 4), cells, at);
     Asked {
@@ -184,7 +184,7 @@ fn read_lines(text: &[u8], cells: &mut [u8]) -> Asked
 pub fn nothing_asked() -> Asked
     ensures { λ r. ⌜ r ≡ nothingAsked ⌝ }
 {
-    let pieces = records::empty_table(0);
+    let pieces = records::empty_pieces(0);
     let board = records::no_record();
     let config = Config {
         identify_transformed_answers: false,

@@ -69,7 +69,7 @@ module _ (d : Dims) (work chart : List ℕ) (ready : Ready d work chart) (path :
         areRows = all-of (λ r. ltb r (d .rows)) (take n sorted) (λ r m. lt→ltb r (d .rows) (sorted-row r m));
       }
 
-  sorted-up : T (ascending ltb (take n sorted))
+  pub sorted-up : T (ascending ltb (take n sorted))
   sorted-up = subst (λ (xs : List ℕ). T (ascending ltb xs)) (sym is) (sort-rows-ascending (take n path) (fills .apart))
 
   sorted-in : T (all (λ r. ltb r (length (S .rows))) (take n sorted))
@@ -115,7 +115,7 @@ module _ (d : Dims) (work chart : List ℕ) (ready : Ready d work chart) (path :
         charted = ready .charted;
         ascend = subst (λ (qs : List Placement). T (ascending ahead qs)) path-is (rows-ascend S (ready .lawful) (take n sorted) sorted-in sorted-up);
         ofKinds = all-path (λ q. ltb (q .kind) (d .kinds)) (λ r h. lt→ltb (rowAt work r .kind) (d .kinds) (row-kind d work chart (ready .lawful) r h));
-        onBoard = all-path (λ q. all (λ m. ltb m (d .cells)) (q .cells)) (λ r h. row-on-board d work chart (ready .lawful) r h);
+        onBoard = all-path (λ q. all (λ m. ltb m (d .size)) (q .cells)) (λ r h. row-on-board d work chart (ready .lawful) r h);
         enough = enough;
       }
 

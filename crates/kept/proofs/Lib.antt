@@ -4,6 +4,8 @@ pub mod NormalImageLaws
 pub mod NormalLaws
 pub mod EmitLaws
 pub mod NormalFormLaws
+pub mod StartLaws
+pub mod IdentityLaws
 pub mod LeafLaws
 pub mod EntryLaws
 pub mod ReadyLaws

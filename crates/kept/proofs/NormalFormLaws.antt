@@ -1,17 +1,17 @@
 -- Whether a packing is kept, as the code finds out: kind by kind, row by row, equal beginnings decide nothing. Assumes nothing.
 use Prim.Native.Nat.{ℕ, suc, _+_, _-_, _*_, _≤_, _<_}
 use mathlib.Core.Bool.{Bool, true, false, cond, not, _&&_, _||_}
-use mathlib.Core.List.{List, [], _∷_, _++_, map}
+use mathlib.Core.List.{List, [], _∷_, _++_, map, map-append}
 use mathlib.Core.Path.{_≡_, refl, sym, ap, ap₂, _∙_, subst}
 use native.Mathlib.Numerals.{add-one}
 use native.Mathlib.Omega.{arith}
 use borrow.Author.Tests.{le-leb, lt-leb, eq-eqb, ne-eqb}
 use lib.Dec.{T, ltb, leb, eqb, lt→ltb, ltb→lt}
-use lib.ListN.{length, take, drop, getD, length-drop, length-append, drop-of-length-le, List·getD-append, List·getD-eq-default}
-use lib.Seq.{length-take-le, drop-cons, drop-drop, getD-take, getD-drop, drop-at}
+use lib.ListN.{length, take, drop, getD, set, length-drop, length-map, drop-of-length-le, List·getD-eq-default}
+use lib.Seq.{length-take-le, drop-cons, take-suc, getD-take, getD-drop}
 use Rattle.lists.specs.Lists.{consIf, keep, all, each, howMany, from, below, same, less, ascending}
-use Rattle.lists.proofs.TestLaws.{and-true, and-left, and-right}
-use Rattle.lists.proofs.ListLaws.{all-same, all-append, before-few, all-at, all-of, all-map}
+use Rattle.lists.proofs.TestLaws.{and-true, and-left, and-right, by-order}
+use Rattle.lists.proofs.ListLaws.{all-same, all-append, before-few, all-at, all-of, all-map, take-set-next}
 use Rattle.lists.proofs.SortLaws.{less-level, less-over, less-under}
 use Rattle.lists.proofs.RangeLaws.{all-failed, all-next, from-start, from-end, from-next, getD-below, from-at, from-append}
 use Rattle.lists.proofs.NthLaws.{nth-mem, nth-at}
@@ -22,10 +22,10 @@ use Rattle.rows.specs.declared.Dims.{Dims}
 use Rattle.rows.specs.Rows.{rowAt, rowsIn}
 use Rattle.rows.specs.Systems.{System, systemIn, imagesIn, kindBy, movedBy, rowWith, systemOver}
 use Rattle.rows.specs.Answering.{pathIn}
-use Rattle.kept.specs.Normal.{insertRow, sortRows, rowOf, ofKind, imageOf, movedRows, counted, keyOf, imageKey, imageSmaller, mirrorable, normal, InKinds}
+use Rattle.kept.specs.Normal.{sortRows, rowOf, ofKind, imageOf, movedRows, counted, keyOf, imageKey, imageSmaller, mirrorable, normal}
 use Rattle.kept.specs.Ready.{Ready, OfRows}
-use Rattle.kept.proofs.ReadyLaws.{kinds-many, rows-many, row-is, few-rows}
-use Rattle.kept.proofs.SortingLaws.{path-more, path-none, sort-ascends}
+use Rattle.kept.proofs.ReadyLaws.{kinds-many, rows-many, row-is, few-rows, image-is}
+use Rattle.kept.proofs.SortingLaws.{sort-ascends, sort-rows-length, sort-count, nth-under, nth-over}
 
 -- ---- lists
 -- a test of each number below n, from k on
@@ -94,7 +94,7 @@ module _ (d : Dims) (work chart : List ℕ) where
 
   -- where map m takes each cell
   abbrev to : ℕ → List ℕ
-  to m = imagesOf chart (d .cells) m
+  to m = imagesOf chart (d .size) m
 
   -- how many rows of a list are of a kind
   pub of-kind : (k : ℕ) (rs : List ℕ) → T (all (λ r. ltb r (d .rows)) rs) → howMany (λ q. eqb (q .kind) k) (map (rowAt work) rs) ≡ length (ofKind S k rs)
@@ -224,35 +224,6 @@ module _ (d : Dims) (work chart : List ℕ) where
       pub kinds-end : d .kinds ≤ k → all (isKept rs) (from (m + 1) (maps - (m + 1))) ≡ all (isKept rs) (below maps)
       kinds-end g = map-passes (less-end (otherRows m) ownRows (d .kinds) k g)
 
-  pub in-kinds-start : (rs : List ℕ) → InKinds S rs → rs ≡ each (from 0 (d .kinds - 0)) (ownRows rs)
-  in-kinds-start rs e = sym e ∙ ap (λ (l : List ℕ). each l (ownRows rs)) (ap below (kinds-many d work chart) ∙ sym (from-start (d .kinds)))
-
-  -- the images of the rows of a kind, ascending
-  module _ (odd : Bool) (f : List ℕ) (source : ℕ) where
-    abbrev pub imagesAscending : List ℕ → List ℕ
-    imagesAscending rs = sortRows (map (imageOf S odd f) (ofKind S source rs))
-
-    module _ (r : ℕ) (rs : List ℕ) (h : r < d .rows) where
-      pub images-more : rowAt work r .kind ≡ source → imagesAscending (r ∷ rs) ≡ insertRow (imageOf S odd f r) (imagesAscending rs)
-      unfolding ofKind
-      images-more e =
-          ap (λ (b : Bool). sortRows (map (imageOf S odd f) (consIf b r (keep (λ s. eqb (rowOf S s .kind) source) rs))))
-          (eq-eqb (rowOf S r .kind) source (ap (λ (q : Placement). q .kind) (row-is d work chart r h) ∙ e))
-
-      pub images-same : (rowAt work r .kind ≡ source → ⊥) → imagesAscending (r ∷ rs) ≡ imagesAscending rs
-      unfolding ofKind
-      images-same e =
-          ap (λ (b : Bool). sortRows (map (imageOf S odd f) (consIf b r (keep (λ s. eqb (rowOf S s .kind) source) rs))))
-          (ne-eqb (rowOf S r .kind) source (λ g. e (ap (λ (q : Placement). q .kind) (sym (row-is d work chart r h)) ∙ g)))
-
-    pub images-ascend : (rs : List ℕ) (found : ℕ) (moved : List ℕ) → take found moved ≡ imagesAscending rs → T (ascending leb (take found moved))
-    images-ascend rs found moved e = subst (λ (xs : List ℕ). T (ascending leb xs)) (sym e) (sort-ascends (map (imageOf S odd f) (ofKind S source rs)))
-
-    pub image-is : (r : ℕ) → r < d .rows → (s : ℕ)
-        → s ≡ rowWith (rowsIn work (d .rows)) (movedBy (map (λ k. getD (kindsPart chart) (3 * k + 1) 0) (below (d .kinds))) odd f (rowAt work r)) → s ≡ imageOf S odd f r
-    unfolding imageOf systemIn systemOver
-    image-is r h s e = e ∙ ap (λ (q : Placement). rowWith (S .rows) (movedBy (S .partners) odd f q)) (sym (row-is d work chart r h))
-
   image-few : (x : List ℕ) → rowWith (rowsIn work (d .rows)) x ≤ d .rows
   unfolding rowWith systemIn systemOver
   image-few x = let h : rowWith (rowsIn work (d .rows)) x ≤ length (S .rows) = before-few (λ q. same (q .kind ∷ q .cells) x) (rowsIn work (d .rows)) in let e = rows-many d work chart in omega arith
@@ -281,56 +252,36 @@ module _ (d : Dims) (work chart : List ℕ) where
       unfolding pathIn
       used-is k u e = e ∙ of-kind k (take n rows) (o .areRows)
 
-      -- ---- the images of a kind
-      module _ (m : ℕ) (source : ℕ) where
-        abbrev pub imagesFrom : ℕ → List ℕ
-        imagesFrom i = imagesAscending (leb (d .turns) m) (to m) source (drop i (take n rows))
+      -- ---- the images of a part of the path
+      module _ (m at : ℕ) where
+        abbrev pub partImages : ℕ → List ℕ
+        partImages i = map (imageOf S (leb (d .turns) m) (to m)) (take i (drop at (take n rows)))
 
-        pub images-start : [] ≡ imagesFrom n
-        unfolding ofKind
-        images-start = ap (imagesAscending (leb (d .turns) m) (to m) source) (sym (path-none rows n (o .within) n refl))
+        pub part-next : (i s : ℕ) (moved : List ℕ) → at + i < n → i < length moved
+            → s ≡ rowWith (rowsIn work (d .rows)) (movedBy (map (λ k. getD (kindsPart chart) (3 * k + 1) 0) (below (d .kinds))) (leb (d .turns) m) (to m) (rowAt work (getD rows (at + i) 0)))
+            → take i moved ≡ partImages i → take (i + 1) (set moved i s) ≡ partImages (i + 1)
+        part-next i s moved h l is e =
+            let f = imageOf S (leb (d .turns) m) (to m) in
+            let part = drop at (take n rows) in
+            let there : getD part i 0 ≡ getD rows (at + i) 0 = getD-drop at (take n rows) i 0 ∙ getD-take n rows (at + i) 0 h in
+            let long : i < length part = let a = length-drop at (take n rows) in let b = length-take-le n rows (o .within) in omega arith in
+            let image : s ≡ f (getD part i 0) = is ∙ image-is d work chart (getD rows (at + i) 0) (path-row (at + i) h) (leb (d .turns) m) (to m) ∙ ap f (sym there) in
+            let more : take (i + 1) part ≡ take i part ++ (getD part i 0 ∷ []) = rw add-one (take-suc part i 0 long) in
+            take-set-next moved i s l ∙ ap₂ (λ (xs : List ℕ) (x : ℕ). xs ++ (x ∷ [])) e image
+            ∙ sym (map-append f (take i part) (getD part i 0 ∷ []))
+            ∙ ap (map f) (sym more)
 
-        module _ (i : ℕ) (p : 0 < i) (q : i ≤ n) where
-          next : drop (i - 1) (take n rows) ≡ getD rows (i - 1) 0 ∷ drop i (take n rows)
-          next = path-more rows n (o .within) i p q
-
-          is-row : getD rows (i - 1) 0 < d .rows
-          is-row = path-row (i - 1) (omega arith)
-
-          pub images-next : (found s : ℕ) (moved after : List ℕ) → take found moved ≡ imagesFrom i → rowAt work (getD rows (i - 1) 0) .kind ≡ source
-              → s ≡ rowWith (rowsIn work (d .rows)) (movedBy (map (λ k. getD (kindsPart chart) (3 * k + 1) 0) (below (d .kinds))) (leb (d .turns) m) (to m) (rowAt work (getD rows (i - 1) 0)))
-              → take (found + 1) after ≡ insertRow s (take found moved) → take (found + 1) after ≡ imagesFrom (i - 1)
-          images-next found s moved after e k is g =
-              g ∙ ap₂ (λ (x : ℕ) (xs : List ℕ). insertRow x xs) (image-is (leb (d .turns) m) (to m) source (getD rows (i - 1) 0) is-row s is) e
-              ∙ sym (images-more (leb (d .turns) m) (to m) source (getD rows (i - 1) 0) (drop i (take n rows)) is-row k)
-              ∙ ap (imagesAscending (leb (d .turns) m) (to m) source) (sym next)
-
-          pub images-pass : (rowAt work (getD rows (i - 1) 0) .kind ≡ source → ⊥) → imagesFrom i ≡ imagesFrom (i - 1)
-          images-pass k =
-              sym (images-same (leb (d .turns) m) (to m) source (getD rows (i - 1) 0) (drop i (take n rows)) is-row k)
-              ∙ ap (imagesAscending (leb (d .turns) m) (to m) source) (sym next)
-
-      pub images-end : (m source kind i : ℕ) → source ≡ kindBy (map (λ k. getD (kindsPart chart) (3 * k + 1) 0) (below (d .kinds))) (leb (d .turns) m) kind → i ≡ 0
-          → imagesFrom m source i ≡ movedRows S (leb (d .turns) m) (to m) kind (take n rows)
-      unfolding movedRows systemIn systemOver
-      images-end m source kind i e z = ap₂ (λ (k j : ℕ). imagesAscending (leb (d .turns) m) (to m) k (drop j (take n rows))) e z
-
--- ---- a kind of a packing against that of its image under map m: the rows from `at` on are those of the kinds from this one on, the image's stand in
--- `moved`; the kinds before are equal, and no map before is smaller
-pub record Compared (d : Dims) (work chart rows : List ℕ) (n maps m at kind used others : ℕ) (moved : List ℕ) : Type 0 where
+-- ---- a kind of a packing against that of its image under map m: so many rows are of it, so many of the image's are; the kinds before are equal, and no map
+-- before is smaller
+pub record Compared (d : Dims) (work chart rows : List ℕ) (n maps m kind used others : ℕ) : Type 0 where
   pub isMap : m < maps
   pub isKind : kind < d .kinds
-  pub within : n ≤ length rows
-  pub size : length moved ≡ 128
-  pub reached : at ≤ n
   pub own : length (ownRows d work chart (take n rows) kind) ≡ used
   pub other : length (otherRows d work chart (take n rows) m kind) ≡ others
-  pub rest : drop at (take n rows) ≡ each (from kind (d .kinds - kind)) (ownRows d work chart (take n rows))
-  pub stands : take others moved ≡ otherRows d work chart (take n rows) m kind
   pub decides : smallerFrom d work chart (take n rows) m kind ≡ smallerFrom d work chart (take n rows) m 0
   pub left : all (isKept d work chart (take n rows)) (from m (maps - m)) ≡ all (isKept d work chart (take n rows)) (below maps)
 
-module _ {d : Dims} {work chart rows : List ℕ} {n maps m at kind used others : ℕ} {moved : List ℕ} (t : Compared d work chart rows n maps m at kind used others moved) where
+module _ {d : Dims} {work chart rows : List ℕ} {n maps m kind used others : ℕ} (t : Compared d work chart rows n maps m kind used others) where
   abbrev own : ℕ → List ℕ
   own = ownRows d work chart (take n rows)
 
@@ -341,47 +292,27 @@ module _ {d : Dims} {work chart rows : List ℕ} {n maps m at kind used others :
   kept = isKept d work chart (take n rows)
 
   -- this map's image is not smaller: on to the next; or it is
-  on : smallerFrom d work chart (take n rows) m kind ≡ false → (m + 1 ≤ maps) × (length moved ≡ 128) × (all kept (from (m + 1) (maps - (m + 1))) ≡ all kept (below maps))
-  on e = (let h = t .isMap in omega arith, t .size, map-passes d work chart (take n rows) maps m kind (t .isMap) (t .decides) (t .left) e)
+  on : smallerFrom d work chart (take n rows) m kind ≡ false → all kept (from (m + 1) (maps - (m + 1))) ≡ all kept (below maps)
+  on e = map-passes d work chart (take n rows) maps m kind (t .isMap) (t .decides) (t .left) e
 
   stop : smallerFrom d work chart (take n rows) m kind ≡ true → false ≡ all kept (below maps)
   stop e = map-stops d work chart (take n rows) maps m kind (t .isMap) (t .decides) (t .left) e
 
-  pub more-others : used < others → (m + 1 ≤ maps) × (length moved ≡ 128) × (all kept (from (m + 1) (maps - (m + 1))) ≡ all kept (below maps))
+  pub more-others : used < others → all kept (from (m + 1) (maps - (m + 1))) ≡ all kept (below maps)
   more-others h = on (kind-more other own (d .kinds) kind (t .isKind) (let a = t .own in let b = t .other in omega arith))
 
   pub fewer-others : others < used → false ≡ all kept (below maps)
   fewer-others h = stop (kind-fewer other own (d .kinds) kind (t .isKind) (let a = t .own in let b = t .other in omega arith))
 
-  opened : drop at (take n rows) ≡ own kind ++ each (from (kind + 1) (d .kinds - (kind + 1))) own
-  opened = t .rest ∙ ap (λ (l : List ℕ). each l own) (from-next kind (d .kinds) (t .isKind))
-
-  pub at-within : at + used ≤ n
-  at-within =
-      let a = length-drop at (take n rows) in
-      let b = length-take-le n rows (t .within) in
-      let e = ap length opened ∙ length-append (own kind) (each (from (kind + 1) (d .kinds - (kind + 1))) own) in
-      let u = t .own in
-      let h = t .reached in
-      omega arith
-
-  at-next : drop (at + used) (take n rows) ≡ each (from (kind + 1) (d .kinds - (kind + 1))) own
-  at-next = sym (drop-drop used at (take n rows)) ∙ ap (drop used) opened ∙ drop-at (own kind) (each (from (kind + 1) (d .kinds - (kind + 1))) own) used (t .own)
-
-  module _ (g : others ≤ used) (h : used ≤ others) where
+  -- as many of both: its rows stand from `at` on, the image's in `moved`, in any order
+  module _ (g : others ≤ used) (h : used ≤ others) (at : ℕ) (moved : List ℕ) (fits : at + used ≤ n) (part : take used (drop at (take n rows)) ≡ own kind)
+      (stands : sortRows (take used moved) ≡ other kind) where
     pub rows-start : smallerAt d work chart (take n rows) m kind 0 ≡ smallerFrom d work chart (take n rows) m kind
     rows-start = sym (kind-level other own (d .kinds) kind (t .isKind) (let a = t .own in let b = t .other in omega arith))
 
     module _ (i : ℕ) (e : smallerAt d work chart (take n rows) m kind i ≡ smallerFrom d work chart (take n rows) m kind) where
-      pub kind-next : used ≤ i → (kind + 1 ≤ d .kinds) × (length moved ≡ 128) × (at + used ≤ n) × (drop (at + used) (take n rows) ≡ each (from (kind + 1) (d .kinds - (kind + 1))) own)
-          × (smallerFrom d work chart (take n rows) m (kind + 1) ≡ smallerFrom d work chart (take n rows) m 0)
-      kind-next k = (
-        let a = t .isKind in omega arith,
-        t .size,
-        at-within,
-        at-next,
-        sym (kind-end other own (d .kinds) kind i (let b = t .other in omega arith) (let a = t .own in omega arith)) ∙ e ∙ t .decides,
-      )
+      pub kind-next : used ≤ i → smallerFrom d work chart (take n rows) m (kind + 1) ≡ smallerFrom d work chart (take n rows) m 0
+      kind-next k = sym (kind-end other own (d .kinds) kind i (let b = t .other in omega arith) (let a = t .own in omega arith)) ∙ e ∙ t .decides
 
       module _ (k : i < used) where
         in-own : i < length (own kind)
@@ -392,19 +323,52 @@ module _ {d : Dims} {work chart rows : List ℕ} {n maps m at kind used others :
 
         own-at : getD rows (at + i) 0 ≡ getD (own kind) i 0
         own-at =
-            let w = at-within in
-            sym (getD-take n rows (at + i) 0 (omega arith)) ∙ sym (getD-drop at (take n rows) i 0) ∙ ap (λ (xs : List ℕ). getD xs i 0) opened
-            ∙ List·getD-append (own kind) (each (from (kind + 1) (d .kinds - (kind + 1))) own) 0 i in-own
+            sym (getD-take n rows (at + i) 0 (omega arith)) ∙ sym (getD-drop at (take n rows) i 0)
+            ∙ sym (getD-take used (drop at (take n rows)) i 0 k) ∙ ap (λ (xs : List ℕ). getD xs i 0) part
 
-        other-at : getD moved i 0 ≡ getD (other kind) i 0
-        other-at = sym (getD-take others moved i 0 (omega arith)) ∙ ap (λ (xs : List ℕ). getD xs i 0) (t .stands)
+        ascends : T (ascending leb (other kind))
+        ascends = subst (λ (xs : List ℕ). T (ascending leb xs)) stands (sort-ascends (take used moved))
 
-        pub larger-other : getD rows (at + i) 0 < getD moved i 0 → (m + 1 ≤ maps) × (length moved ≡ 128) × (all kept (from (m + 1) (maps - (m + 1))) ≡ all kept (below maps))
-        larger-other l = on (sym e ∙ entry-more other own (d .kinds) kind i in-other in-own (let a = own-at in let b = other-at in omega arith))
+        count-is : (v : ℕ) → howMany (λ s. ltb s v) (take used moved) ≡ howMany (λ s. ltb s v) (other kind)
+        count-is v = sym (sort-count (λ s. ltb s v) (take used moved)) ∙ ap (howMany (λ (s : ℕ). ltb s v)) stands
 
-        pub smaller-other : getD moved i 0 < getD rows (at + i) 0 → false ≡ all kept (below maps)
-        smaller-other l = stop (sym e ∙ entry-fewer other own (d .kinds) kind i in-other in-own (let a = own-at in let b = other-at in omega arith))
+        -- by how many of the images are below a number: the i-th of them, in ascending order, is below it or not
+        under : (v : ℕ) → i < howMany (λ s. ltb s v) (take used moved) → getD (other kind) i 0 < v
+        under v l = by-order v (getD (other kind) i 0) (λ u. absurd (let a = nth-over (other kind) ascends v i in-other u in let b = count-is v in omega arith)) (λ u. u)
 
-        pub row-next : getD moved i 0 ≤ getD rows (at + i) 0 → getD rows (at + i) 0 ≤ getD moved i 0
-            → (i + 1 ≤ used) × (smallerAt d work chart (take n rows) m kind (i + 1) ≡ smallerFrom d work chart (take n rows) m kind)
-        row-next p q = (omega arith, sym (entry-level other own (d .kinds) kind i in-other in-own (let a = own-at in let b = other-at in omega arith)) ∙ e)
+        over : (v : ℕ) → howMany (λ s. ltb s v) (take used moved) ≤ i → v ≤ getD (other kind) i 0
+        over v l = by-order v (getD (other kind) i 0) (λ u. u) (λ u. absurd (let a = nth-under (other kind) ascends v i in-other u in let b = count-is v in omega arith))
+
+        pub larger-other : howMany (λ s. ltb s (getD rows (at + i) 0 + 1)) (take used moved) ≤ i → all kept (from (m + 1) (maps - (m + 1))) ≡ all kept (below maps)
+        larger-other l = let b = over (getD rows (at + i) 0 + 1) l in on (sym e ∙ entry-more other own (d .kinds) kind i in-other in-own (let a = own-at in omega arith))
+
+        pub smaller-other : i < howMany (λ s. ltb s (getD rows (at + i) 0)) (take used moved) → false ≡ all kept (below maps)
+        smaller-other l = let b = under (getD rows (at + i) 0) l in stop (sym e ∙ entry-fewer other own (d .kinds) kind i in-other in-own (let a = own-at in omega arith))
+
+        pub row-next : i < howMany (λ s. ltb s (getD rows (at + i) 0 + 1)) (take used moved) → howMany (λ s. ltb s (getD rows (at + i) 0)) (take used moved) ≤ i
+            → smallerAt d work chart (take n rows) m kind (i + 1) ≡ smallerFrom d work chart (take n rows) m kind
+        row-next p q =
+            let a = own-at in
+            let b = under (getD rows (at + i) 0 + 1) p in
+            let c = over (getD rows (at + i) 0) q in
+            sym (entry-level other own (d .kinds) kind i in-other in-own (omega arith)) ∙ e
+
+-- the images of the rows that become of a kind, sorted, are the image's rows of that kind, and as many
+module _ (d : Dims) (work chart rows : List ℕ) (n m kind source : ℕ)
+    (e : source ≡ kindBy (map (λ k. getD (kindsPart chart) (3 * k + 1) 0) (below (d .kinds))) (leb (d .turns) m) kind) where
+  becomes : map (imageOf (systemIn d work chart) (leb (d .turns) m) (imagesOf chart (d .size) m)) (ownRows d work chart (take n rows) source)
+      ≡ map (imageOf (systemIn d work chart) (leb (d .turns) m) (imagesOf chart (d .size) m)) (ownRows d work chart (take n rows) (kindBy (systemIn d work chart .partners) (leb (d .turns) m) kind))
+  unfolding systemIn systemOver
+  becomes = ap (λ (k : ℕ). map (imageOf (systemIn d work chart) (leb (d .turns) m) (imagesOf chart (d .size) m)) (ownRows d work chart (take n rows) k)) e
+
+  pub others-many : length (otherRows d work chart (take n rows) m kind) ≡ length (ownRows d work chart (take n rows) source)
+  unfolding movedRows
+  others-many =
+      sort-rows-length (map (imageOf (systemIn d work chart) (leb (d .turns) m) (imagesOf chart (d .size) m)) (ownRows d work chart (take n rows) (kindBy (systemIn d work chart .partners) (leb (d .turns) m) kind)))
+      ∙ ap length (sym becomes) ∙ length-map (ownRows d work chart (take n rows) source) (imageOf (systemIn d work chart) (leb (d .turns) m) (imagesOf chart (d .size) m))
+
+  pub others-are : (used : ℕ) (moved part : List ℕ) → take used moved ≡ map (imageOf (systemIn d work chart) (leb (d .turns) m) (imagesOf chart (d .size) m)) part
+      → part ≡ ownRows d work chart (take n rows) source → sortRows (take used moved) ≡ otherRows d work chart (take n rows) m kind
+  unfolding movedRows
+  others-are used moved part f g =
+      ap sortRows (f ∙ ap (map (imageOf (systemIn d work chart) (leb (d .turns) m) (imagesOf chart (d .size) m))) g ∙ becomes)

@@ -9,7 +9,7 @@ use native.Mathlib.Omega.{arith}
 use borrow.Author.Tests.{leb-true, leb-false}
 use lib.Dec.{T, ltb, leb, eqb, lt→ltb, eqb→eq}
 use lib.ListN.{length, getD, length-map}
-use Rattle.lists.specs.Lists.{all, below}
+use Rattle.lists.specs.Lists.{all, ascending, below}
 use Rattle.lists.proofs.TestLaws.{decide, clash, eqb-of}
 use Rattle.lists.proofs.ListLaws.{all-of}
 use Rattle.lists.proofs.RangeLaws.{from-of, below-of, length-below, map-from-ahead, getD-of}
@@ -17,7 +17,7 @@ use Rattle.definitions.specs.Placements.{Placement}
 use Rattle.definitions.specs.Packing.{ahead}
 use Rattle.rows.specs.Charts.{chartLength, kindsPart, imagesOf}
 use Rattle.rows.specs.Rows.{rowAt, rowsIn}
-use Rattle.rows.specs.Chains.{Chained, FirstCells}
+use Rattle.rows.specs.Ranges.{Ranged, FirstCells}
 use Rattle.rows.specs.Systems.{systemIn, imagesIn, movedBy, rowWith, systemOver}
 use Rattle.rows.specs.Lawful.{Lawful, Permutes, allowed}
 use Rattle.kept.specs.Ready.{Ready}
@@ -52,16 +52,16 @@ module _ (d : Dims) (work chart : List ℕ) where
 
   -- map m: a turn below the number of turns, else a mirroring
   pub map-in : (m : ℕ) → m < d .turns + d .mirrorings
-      → List·Memᴰ (imagesOf chart (d .cells) m) (allowed (systemIn d work chart) (leb (d .turns) m))
+      → List·Memᴰ (imagesOf chart (d .size) m) (allowed (systemIn d work chart) (leb (d .turns) m))
   unfolding systemIn systemOver imagesIn imagesOf
   map-in m h = go (leb (d .turns) m) refl
     where
-      go : (b : Bool) → leb (d .turns) m ≡ b → List·Memᴰ (imagesOf chart (d .cells) m) (allowed (systemIn d work chart) b)
-      go false e = let l = leb-false (d .turns) m e in Memᴰ·map (λ (k : ℕ). imagesOf chart (d .cells) k) (from-of 0 (d .turns) {x = m} (omega arith) (omega arith))
-      go true e = let l = leb-true (d .turns) m e in Memᴰ·map (λ (k : ℕ). imagesOf chart (d .cells) k) (from-of (d .turns) (d .mirrorings) l h)
+      go : (b : Bool) → leb (d .turns) m ≡ b → List·Memᴰ (imagesOf chart (d .size) m) (allowed (systemIn d work chart) b)
+      go false e = let l = leb-false (d .turns) m e in Memᴰ·map (λ (k : ℕ). imagesOf chart (d .size) k) (from-of 0 (d .turns) {x = m} (omega arith) (omega arith))
+      go true e = let l = leb-true (d .turns) m e in Memᴰ·map (λ (k : ℕ). imagesOf chart (d .size) k) (from-of (d .turns) (d .mirrorings) l h)
 
   module _ (ok : Lawful (systemIn d work chart)) where
-    pub few-cells : d .cells ≤ 128
+    pub few-cells : d .size ≤ 128
     unfolding systemIn systemOver
     few-cells = ok .fewCells
 
@@ -75,9 +75,13 @@ module _ (d : Dims) (work chart : List ℕ) where
     unfolding systemIn systemOver
     first-cells = record { coversP = λ q m. ok .row q m .coversP; fromP = λ q m. ok .row q m .fromP }
 
+    pub in-order : T (ascending ahead (rowsIn work (d .rows)))
+    unfolding systemIn systemOver
+    in-order = ok .inOrder
+
     pub rows-ahead : (q r : ℕ) → q < r → r < d .rows → T (ahead (rowAt work q) (rowAt work r))
-    unfolding systemIn systemOver rowsIn
-    rows-ahead q r h k = map-from-ahead ahead (rowAt work) 0 (d .rows) (ok .inOrder) q r (omega arith) h (omega arith)
+    unfolding rowsIn
+    rows-ahead q r h k = map-from-ahead ahead (rowAt work) 0 (d .rows) in-order q r (omega arith) h (omega arith)
 
     -- kinds ascend with the rows
     pub rows-kinds : (q r : ℕ) → q ≤ r → r < d .rows → rowAt work q .kind ≤ rowAt work r .kind
@@ -91,26 +95,27 @@ module _ (d : Dims) (work chart : List ℕ) where
       pub row-kind : rowAt work r .kind < d .kinds
       row-kind = let e = kinds-many in let l = ok .row (rowAt work r) (row-in r h) .ofKind in omega arith
 
-      pub row-cells : (n : ℕ) → List·Memᴰ n (rowAt work r .cells) → n < d .cells
+      pub row-cells : (n : ℕ) → List·Memᴰ n (rowAt work r .cells) → n < d .size
       unfolding systemIn systemOver
       row-cells n m = ok .row (rowAt work r) (row-in r h) .onBoard n m
 
-      pub row-on-board : T (all (λ n. ltb n (d .cells)) (rowAt work r .cells))
-      row-on-board = all-of (λ (n : ℕ). ltb n (d .cells)) (rowAt work r .cells) (λ n m. lt→ltb n (d .cells) (row-cells n m))
+      pub row-on-board : T (all (λ n. ltb n (d .size)) (rowAt work r .cells))
+      row-on-board = all-of (λ (n : ℕ). ltb n (d .size)) (rowAt work r .cells) (λ n m. lt→ltb n (d .size) (row-cells n m))
 
-    pub map-permutes : (m : ℕ) → m < d .turns + d .mirrorings → Permutes (d .cells) (imagesOf chart (d .cells) m)
+    pub map-permutes : (m : ℕ) → m < d .turns + d .mirrorings → Permutes (d .size) (imagesOf chart (d .size) m)
     unfolding systemIn systemOver
-    map-permutes m h = ok .permutes (leb (d .turns) m) (imagesOf chart (d .cells) m) (map-in m h)
+    map-permutes m h = ok .permutes (leb (d .turns) m) (imagesOf chart (d .size) m) (map-in m h)
 
   -- what `image_row` asks of row r and map m
   pub image-asked : Ready d work chart → (m r : ℕ) → m < d .turns + d .mirrorings → r < d .rows
-      → ((8 * d .rows ≤ length work) × (d .rows ≤ 1024) × (length chart ≡ chartLength) × Chained work chart (d .rows) × FirstCells (rowsIn work (d .rows)))
-      × (((r < d .rows) × (d .kinds ≤ 16) × (rowAt work r .kind < d .kinds) × T (all (λ n. ltb n (d .cells)) (rowAt work r .cells)))
-      × ((d .cells ≤ 128) × (m < 48) × Permutes (d .cells) (imagesOf chart (d .cells) m)))
+      → ((8 * d .rows ≤ length work) × (d .rows ≤ 1024) × (length chart ≡ chartLength) × Ranged work chart (d .rows) × FirstCells (rowsIn work (d .rows))
+      × T (ascending ahead (rowsIn work (d .rows))))
+      × (((r < d .rows) × (d .kinds ≤ 16) × (rowAt work r .kind < d .kinds) × T (all (λ n. ltb n (d .size)) (rowAt work r .cells)))
+      × ((d .size ≤ 128) × (m < 48) × Permutes (d .size) (imagesOf chart (d .size) m)))
   image-asked ready m r h k =
       let ok = ready .lawful in
       let few = few-cells ok in
       let maps = ready .fewMaps in (
-        (ready .rowsFit, few-rows ok, ready .charted .long, ready .chained, first-cells ok),
+        (ready .rowsFit, few-rows ok, ready .charted .long, ready .ranged, first-cells ok, in-order ok),
         ((k, few-kinds ok, row-kind ok r k, row-on-board ok r k), (few, omega arith, map-permutes ok m h)),
       )

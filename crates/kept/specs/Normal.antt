@@ -1,16 +1,17 @@
 -- Which packing is kept, by row numbers. A packing is the ascending list of its rows' numbers; within a kind, ascending numbers are ascending (p, j).
 -- Proved in proofs/NormalLaws: of a packing's rows, `normal` says what `kept` of document 01's definitions says of the packing.
-use Prim.Native.Nat.{ℕ}
+use Prim.Native.Nat.{ℕ, _+_, _-_, _≤_}
 use mathlib.Core.Bool.{Bool, true, false, cond, not, _&&_, _||_}
 use mathlib.Core.List.{List, [], _∷_, map}
 use mathlib.Core.Path.{_≡_}
 use lib.Dec.{ltb, leb, eqb}
 use lib.ListN.{length, getD}
-use Rattle.lists.specs.Lists.{all, keep, each, below, less}
+use Rattle.lists.specs.Lists.{all, keep, each, howMany, below, less}
 use Rattle.definitions.specs.Placements.{Placement}
 use Rattle.definitions.specs.Kept.{Identify}
 use Rattle.definitions.specs.Kept.Identify.{None, Turned, Mirrored}
 use Rattle.rows.specs.Systems.{System, kindBy, movedBy, rowWith}
+use Rattle.rows.specs.Answering.{pathIn}
 
 -- a number put into an ascending list, behind those that are smaller; and a list in ascending order
 abbrev pub insertRow : ℕ → List ℕ → List ℕ
@@ -60,6 +61,22 @@ normal s None rs = true
 normal s Turned rs = all (λ to. not (imageSmaller s false rs to)) (s .turned)
 normal s Mirrored rs =
     all (λ to. not (imageSmaller s false rs to)) (s .turned) && (not (mirrorable s rs) || all (λ to. not (imageSmaller s true rs to)) (s .mirrored))
+
+-- how many rows of a path are of kinds before k: where those of kind k begin, in a path that goes kind by kind
+unfoldable pub startOf : List ℕ → List ℕ → ℕ → ℕ → ℕ
+startOf work rows n k = howMany (λ q. ltb (q .kind) k) (pathIn work rows n)
+
+-- these stand in a slice, for each kind, and behind them where the last one ends
+pub record KindStarts (work rows : List ℕ) (n kinds : ℕ) (starts : List ℕ) : Type 0 where
+  pub long : length starts ≡ 17
+  pub at : (k : ℕ) → k ≤ kinds → getD starts k 0 ≡ startOf work rows n k
+
+-- where the rows of a kind begin, and how many they are, by such a slice; 0 of what is no kind
+unfoldable pub startIn : List ℕ → ℕ → ℕ → ℕ
+startIn starts kinds k = cond (ltb k kinds) (getD starts k 0) 0
+
+unfoldable pub usedIn : List ℕ → ℕ → ℕ → ℕ
+usedIn starts kinds k = cond (ltb k kinds) (getD starts (k + 1) 0 - getD starts k 0) 0
 
 -- the rows stand kind by kind
 abbrev pub InKinds : System → List ℕ → Type 0

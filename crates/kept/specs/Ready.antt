@@ -7,7 +7,7 @@ use lib.Dec.{T, ltb}
 use lib.ListN.{length, take, getD}
 use Rattle.lists.specs.Lists.{all, Apart}
 use Rattle.rows.specs.Systems.{System, systemIn}
-use Rattle.rows.specs.Chains.{Chained}
+use Rattle.rows.specs.Ranges.{Ranged}
 use Rattle.rows.specs.Charts.{Charted}
 use Rattle.rows.specs.Lawful.{Lawful}
 use Rattle.kept.specs.Normal.{ofKind}
@@ -16,7 +16,7 @@ use Rattle.rows.specs.declared.Dims.{Dims}
 -- rows in the work slice, all else in the chart
 pub record Ready (d : Dims) (work chart : List ℕ) : Type 0 where
   pub lawful : Lawful (systemIn d work chart)
-  pub chained : Chained work chart (d .rows)
+  pub ranged : Ranged work chart (d .rows)
   pub charted : Charted chart
   pub rowsFit : 8 * d .rows ≤ length work
   pub fewMaps : d .turns + d .mirrorings ≤ 48

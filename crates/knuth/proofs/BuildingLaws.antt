@@ -27,10 +27,10 @@ use Rattle.links.specs.Links.{copiesOf, atColumn, atFirst, atEnd, atCopies, atR
 use Rattle.links.specs.Search.{Shape, Seek}
 use Rattle.links.specs.Build.{Posed, Stocked, whole, everyColumn}
 use Rattle.links.proofs.Places.{still-behind}
-use Rattle.knuth.specs.Tables.{Node, nodeAt, nodesIn, headNodes, rowNodes, nodesFrom, stockedRows, columns, linkNodes, matrixOf, Laid, StockLaid}
+use Rattle.knuth.specs.Matrix.{Node, nodeAt, nodesIn, headNodes, rowNodes, nodesFrom, stockedRows, columns, linkNodes, matrixOf, Laid, StockLaid}
 use Rattle.knuth.specs.Listing.{Begun}
 use Rattle.knuth.proofs.LaidLaws.{keep-hit, keep-miss, heads-length, same-node, same-nodes, beside-copies, beside-behind, laid-more, laid-none}
-use Rattle.knuth.proofs.TableOfLaws.{noNode, matrix-lawful, matrix-shape, matrix-rows, row-lawful}
+use Rattle.knuth.proofs.MatrixLaws.{noNode, matrix-lawful, matrix-shape, matrix-rows, row-lawful}
 use Rattle.kept.proofs.ReadyLaws.{few-cells, few-kinds, row-kind, kinds-many, rows-many, row-is, row-in}
 
 -- ---- the nodes of rows
@@ -103,7 +103,7 @@ module _ (d : Dims) (work chart : List ℕ) where
   abbrev S : System
   S = systemIn d work chart
 
-  pub columns-are : columns S ≡ d .cells + d .kinds
+  pub columns-are : columns S ≡ d .size + d .kinds
   unfolding columns systemIn systemOver
   columns-are = let e = kinds-many d work chart in omega arith
 
@@ -114,11 +114,11 @@ module _ (d : Dims) (work chart : List ℕ) where
     kind-is : rowOf S r .kind ≡ rowAt work r .kind
     kind-is = ap (λ (q : Placement). q .kind) (row-is d work chart r h)
 
-    cells-are : rowOf S r .cells ≡ keep inMask (below (d .cells))
+    cells-are : rowOf S r .cells ≡ keep inMask (below (d .size))
     unfolding systemIn systemOver rowAt cellsOf
     cells-are =
         ap (λ (q : Placement). q .cells) (row-is d work chart r h)
-        ∙ keep-below inMask (d .cells) 128 (few-cells d work chart (ready .lawful))
+        ∙ keep-below inMask (d .size) 128 (few-cells d work chart (ready .lawful))
         (λ c m. ready .lawful .row (rowAt work r) (row-in d work chart r h) .onBoard c m)
 
     stock-is : getD (kindsPart chart) (3 * rowAt work r .kind) 0 ≡ getD (S .copies) (rowOf S r .kind) 0
@@ -136,31 +136,31 @@ module _ (d : Dims) (work chart : List ℕ) where
       pub stocked-no : getD (kindsPart chart) (3 * kind) 0 ≤ 0 → hasStock S r ≡ false
       stocked-no l = let e = stock-at in le-ltb 0 (getD (S .copies) (rowOf S r .kind) 0) (omega arith)
 
-    node-list : (x : ℕ) → rowAtNode S x r ≡ rowNodes (d .cells) x r (rowAt work r .kind) (keep inMask (below (d .cells)))
+    node-list : (x : ℕ) → rowAtNode S x r ≡ rowNodes (d .size) x r (rowAt work r .kind) (keep inMask (below (d .size)))
     unfolding systemIn systemOver
-    node-list x = ap (λ (k : ℕ). rowNodes (d .cells) x r k (rowOf S r .cells)) kind-is ∙ ap (rowNodes (d .cells) x r (rowAt work r .kind)) cells-are
+    node-list x = ap (λ (k : ℕ). rowNodes (d .size) x r k (rowOf S r .cells)) kind-is ∙ ap (rowNodes (d .size) x r (rowAt work r .kind)) cells-are
 
     module _ (yes : hasStock S r ≡ true) where
-      end-next : endTo S (r + 1) ≡ endTo S r + suc (howMany inMask (below (d .cells)))
+      end-next : endTo S (r + 1) ≡ endTo S r + suc (howMany inMask (below (d .size)))
       end-next =
           let a = ap length (to-hit S r yes) in
           let b = length-append (nodesTo S r) (rowAtNode S (endTo S r) r) in
           let c = row-length (S .size) (endTo S r) r (rowOf S r .kind) (rowOf S r .cells) in
           let e = ap length cells-are in
-          let f = howMany-length inMask (below (d .cells)) in
+          let f = howMany-length inMask (below (d .size)) in
           omega arith
 
       module _ (x : ℕ) (is : x ≡ endTo S r) (fits : length (linkNodes S) ≤ 4096) where
-        pub row-room : x + suc (howMany inMask (below (d .cells))) ≤ 4096
+        pub row-room : x + suc (howMany inMask (below (d .size))) ≤ 4096
         row-room =
             let a = end-next in
             let b = to-room S (r + 1) (let e = rows-many d work chart in omega arith) in
             omega arith
 
-        pub row-end : (y : ℕ) → y ≡ x + suc (howMany inMask (below (d .cells))) → y ≡ endTo S (r + 1)
+        pub row-end : (y : ℕ) → y ≡ x + suc (howMany inMask (below (d .size))) → y ≡ endTo S (r + 1)
         row-end y e = let a = end-next in omega arith
 
-        pub row-more : (a b c : List ℕ) → Laid a (columns S) b (nodesTo S r) → Laid b x c (rowNodes (d .cells) x r (rowAt work r .kind) (keep inMask (below (d .cells))))
+        pub row-more : (a b c : List ℕ) → Laid a (columns S) b (nodesTo S r) → Laid b x c (rowNodes (d .size) x r (rowAt work r .kind) (keep inMask (below (d .size))))
             → Laid a (columns S) c (nodesTo S (r + 1))
         row-more a b c p q =
             subst (Laid a (columns S) c) (sym (to-hit S r yes))
@@ -184,17 +184,17 @@ module _ (d : Dims) (work chart : List ℕ) where
   pub rows-laid : (r : ℕ) (a b : List ℕ) → r ≡ d .rows → Laid a (columns S) b (nodesTo S r) → Laid a (columns S) b (nodesFrom S (columns S) (stockedRows S))
   rows-laid r a b e p = subst (Laid a (columns S) b) (to-all S r (let g = rows-many d work chart in omega arith)) p
 
-  pub rows-none : (m : List ℕ) (x : ℕ) → x ≡ d .cells + d .kinds → (x ≡ endTo S 0) × Laid m (columns S) m (nodesTo S 0)
+  pub rows-none : (m : List ℕ) (x : ℕ) → x ≡ d .size + d .kinds → (x ≡ endTo S 0) × Laid m (columns S) m (nodesTo S 0)
   rows-none m x e = (let c = columns-are in omega arith, laid-none m (columns S))
 
   -- ---- what `link_all` asks, and what it makes
   module _ (ready : Ready d work chart) (fits : length (linkNodes S) ≤ 4096) (m0 m1 m2 m3 : List ℕ)
-      (one : Laid m0 0 m1 (headNodes (d .cells + d .kinds))) (two : StockLaid m1 m2 (d .cells) (d .kinds) chart)
+      (one : Laid m0 0 m1 (headNodes (d .size + d .kinds))) (two : StockLaid m1 m2 (d .size) (d .kinds) chart)
       (three : Laid m2 (columns S) m3 (nodesFrom S (columns S) (stockedRows S))) (long : 32768 ≤ length m3) where
     law : Lawful S
     law = ready .lawful
 
-    few : d .cells + d .kinds ≤ 144
+    few : d .size + d .kinds ≤ 144
     few = let a = few-cells d work chart (ready .lawful) in let b = few-kinds d work chart (ready .lawful) in omega arith
 
     heads-stay : nodesIn m2 0 (columns S) ≡ headNodes (columns S)
@@ -206,7 +206,7 @@ module _ (d : Dims) (work chart : List ℕ) where
         same-node m1 m2 y (two .others (atColumn y) (λ j k e. omega arith)) (two .others (atFirst y) (λ j k e. omega arith)) (two .others (atEnd y) (λ j k e. omega arith))
         (two .others (atRow y) (λ j k e. omega arith)))
         ∙ subst (λ (n : ℕ). nodesIn m1 0 n ≡ headNodes n) (sym columns-are)
-        (ap (nodesIn m1 0) (sym (heads-length (d .cells + d .kinds))) ∙ one .nodes)
+        (ap (nodesIn m1 0) (sym (heads-length (d .size + d .kinds))) ∙ one .nodes)
 
     heads-laid : Laid m2 0 m2 (headNodes (columns S))
     heads-laid =
@@ -242,26 +242,26 @@ module _ (d : Dims) (work chart : List ℕ) where
           row = λ x h. ap (λ (n : Node). n .row) (node-is x h) ∙ sym (List·getD-map (λ (n : Node). n .row) (linkNodes S) x noNode);
         }
 
-    copy-cell : (j : ℕ) → j < d .cells → copiesOf m3 j ≡ 0
+    copy-cell : (j : ℕ) → j < d .size → copiesOf m3 j ≡ 0
     copy-cell j h = three .others (atCopies j) (beside-copies _ _ j) ∙ two .cells j h
 
-    copy-kind : (k : ℕ) → k < d .kinds → copiesOf m3 (d .cells + k) ≡ getD (S .copies) k 0
+    copy-kind : (k : ℕ) → k < d .kinds → copiesOf m3 (d .size + k) ≡ getD (S .copies) k 0
     copy-kind k h =
-        three .others (atCopies (d .cells + k)) (beside-copies _ _ (d .cells + k)) ∙ two .copies k h ∙ copies-at d work chart k h
+        three .others (atCopies (d .size + k)) (beside-copies _ _ (d .size + k)) ∙ two .copies k h ∙ copies-at d work chart k h
 
     few-copies : (j : ℕ) → j < columns S → copiesOf m3 j < 4096
-    few-copies j h = go (decide (ltb j (d .cells)))
+    few-copies j h = go (decide (ltb j (d .size)))
       where
-        go : T (ltb j (d .cells)) ⊎ T (not (ltb j (d .cells))) → copiesOf m3 j < 4096
-        go (inl t) = let e = copy-cell j (ltb→lt j (d .cells) t) in omega arith
+        go : T (ltb j (d .size)) ⊎ T (not (ltb j (d .size))) → copiesOf m3 j < 4096
+        go (inl t) = let e = copy-cell j (ltb→lt j (d .size) t) in omega arith
         go (inr t) =
-            let l = nltb→le j (d .cells) t in
+            let l = nltb→le j (d .size) t in
             let c = columns-are in
-            let e : d .cells + (j - d .cells) ≡ j = omega arith in
-            let a = at-most-sum (S .copies) (j - d .cells) in
+            let e : d .size + (j - d .size) ≡ j = omega arith in
+            let a = at-most-sum (S .copies) (j - d .size) in
             let b = law .fewCopies in
             let f = ap (copiesOf m3) e in
-            omega (arith, copy-kind (j - d .cells) (omega arith))
+            omega (arith, copy-kind (j - d .size) (omega arith))
 
     some-copies : (x : ℕ) → columns S ≤ x → x < matrixOf S .nodes → 1 ≤ copiesOf m3 (matrixOf S .col (matrixOf S .lo x))
     unfolding systemIn systemOver
@@ -277,12 +277,12 @@ module _ (d : Dims) (work chart : List ℕ) where
     unfolding matrixOf
     stocked = record { few = few-copies; some = some-copies }
 
-    shape : Shape (matrixOf S) (d .cells)
+    shape : Shape (matrixOf S) (d .size)
     unfolding systemIn systemOver
     shape = matrix-shape S law
 
     module _ (nodes : ℕ) (n-is : nodes ≡ length (linkNodes S)) where
-      pub posed : Posed m3 (d .cells) (d .cells + d .kinds) nodes
+      pub posed : Posed m3 (d .size) (d .size + d .kinds) nodes
       unfolding matrixOf
       posed =
           record {
@@ -292,8 +292,8 @@ module _ (d : Dims) (work chart : List ℕ) where
           }
 
       pub begun : (m4 : List ℕ)
-          → ((t : Matrix) (l : LawfulMatrix t) → Fields t m3 → Shape t (d .cells) → Stocked t m3 → d .cells + d .kinds ≡ t .cols → nodes ≡ t .nodes
-          → Seek (whole t l) everyColumn (copiesOf m3) (d .cells) (d .cells) m4)
+          → ((t : Matrix) (l : LawfulMatrix t) → Fields t m3 → Shape t (d .size) → Stocked t m3 → d .size + d .kinds ≡ t .cols → nodes ≡ t .nodes
+          → Seek (whole t l) everyColumn (copiesOf m3) (d .size) (d .size) m4)
           → Begun S m4
       unfolding matrixOf systemIn systemOver
       begun m4 f =
@@ -308,6 +308,6 @@ module _ (d : Dims) (work chart : List ℕ) where
     built-behind m4 f i h =
         let l = few in
         let n = links-length S in
-        let k = heads-length (d .cells + d .kinds) in
+        let k = heads-length (d .size + d .kinds) in
         f i (still-behind i h) ∙ three .others i (beside-behind _ _ i (omega arith) h)
         ∙ two .others i (λ j g e. omega arith) ∙ one .others i (beside-behind _ _ i (omega arith) h)

@@ -19,9 +19,9 @@ use Rattle.links.specs.Links.{rowNumber, Matrix}
 use Rattle.links.specs.Cover.{Reduced, reducedTo}
 use Rattle.links.specs.Search.{Seek, apart, firstCovered, select, spend}
 use Rattle.links.proofs.Search.{apart-on, sel-alive}
-use Rattle.knuth.specs.Tables.{columns, matrixOf}
+use Rattle.knuth.specs.Matrix.{columns, matrixOf}
 use Rattle.knuth.specs.Listing.{Chosen}
-use Rattle.knuth.proofs.TableOfLaws.{RowNode, matrix-rows, cols-are, row-lawful, cell-of}
+use Rattle.knuth.proofs.MatrixLaws.{RowNode, matrix-rows, cols-are, row-lawful, cell-of}
 
 -- ---- lists
 keep-end : (p : ℕ → Bool) (xs : List ℕ) (x : ℕ) (b : Bool) → p x ≡ b → length (keep p (xs ++ (x ∷ []))) ≡ length (keep p xs) + cond b 1 0

@@ -16,11 +16,11 @@ use Rattle.kept.specs.Normal.{normal, sortRows}
 use Rattle.kept.specs.Emission.{emitKept, answerOf}
 use Rattle.kept.specs.Ready.{Restored}
 use Rattle.links.specs.Links.{down, firstOf, endOf, sizeOf}
-use Rattle.links.specs.Cover.{Reduced, reducedTo, aliveRun}
-use Rattle.links.specs.Search.{Seek, At, select, selected, spend, firstCovered, pivot}
+use Rattle.links.specs.Cover.{tally, Reduced, reducedTo, aliveRun}
+use Rattle.links.specs.Search.{Seek, At, select, selected, spend, firstCovered, hasRow, pivot}
 use Rattle.links.specs.Packings.{exactCovers, rowsFrom}
-use Rattle.links.proofs.Search.{choose-zero, choose-none, choose-rows, sel-uncovered, try-live, try-sub, try-seek, try-packings, try-rows-next, try-head}
-use Rattle.knuth.specs.Tables.{matrixOf}
+use Rattle.links.proofs.Search.{choose-zero, choose-none, choose-rows, few-open, sel-uncovered, try-live, try-sub, try-seek, try-packings, try-rows-next, try-head}
+use Rattle.knuth.specs.Matrix.{matrixOf}
 use Rattle.knuth.specs.Listing.{emitAll, foundRows, knuthBelow, knuthRows}
 
 -- ---- lists
@@ -83,6 +83,11 @@ module _ (s : System) (i : Identify) (capacity : ℕ) {w : Reduced} {uncovered :
   pub none : (left ≡ 0 → ⊥) → (c : ℕ) → c ≡ pivot (sizeOf m) (s .size) → c ≡ 4096 → (g : ℕ) → left < g → (e : Emitted) → e ≡ emitAll s i capacity (knuthBelow s rs g w copies left) e
   unfolding emitAll knuthBelow foundRows
   none nz c ec cf g h e = rw (choose-none seek nz c ec cf g h)
+
+  -- fewer cells can be covered than are uncovered
+  pub few : tally (hasRow m) (s .size) < left → (g : ℕ) → (e : Emitted) → e ≡ emitAll s i capacity (knuthBelow s rs g w copies left) e
+  unfolding emitAll knuthBelow foundRows
+  few h g e = rw (few-open seek h g)
 
   -- the rows of column c
   pub below-rows : (nz : left ≡ 0 → ⊥) (c : ℕ) (ec : c ≡ pivot (sizeOf m) (s .size)) (cf : c ≡ 4096 → ⊥) (k : ℕ) (ek : k ≡ down m c) (g : ℕ) → left < suc g

@@ -22,36 +22,36 @@ use Rattle.kept.specs.Normal.{rowOf}
 use Rattle.kept.specs.Ready.{Fillable, OfRows, Restored}
 use Rattle.kept.proofs.ReadyLaws.{rows-many, row-is as row-stands, row-in as row-here, row-cells, few-cells}
 use Rattle.links.specs.Links.{down, firstOf, endOf, sizeOf, rowNumber}
-use Rattle.links.specs.Cover.{Reduced, reducedTo}
-use Rattle.links.specs.Search.{Seek, At, selected, spend, firstCovered, pivot}
+use Rattle.links.specs.Cover.{tally, Reduced, reducedTo}
+use Rattle.links.specs.Search.{Seek, At, selected, spend, firstCovered, hasRow, pivot}
 use Rattle.links.proofs.Search.{choose-at, sel-uncovered, try-live, try-sub, try-seek, try-at}
-use Rattle.knuth.specs.Tables.{matrixOf}
+use Rattle.knuth.specs.Matrix.{matrixOf}
 use Rattle.knuth.specs.Listing.{Chosen, Choosable, Tryable, emitAll, knuthBelow, knuthRows}
 use Rattle.knuth.proofs.ChosenLaws.{all-fill, row-number, row-small, chosen-next, room-next}
-use Rattle.knuth.proofs.CycleLaws.{leaf, none, below-rows, no-rows, stops, goes-on}
+use Rattle.knuth.proofs.CycleLaws.{leaf, few, none, below-rows, no-rows, stops, goes-on}
 use Rattle.knuth.proofs.UnmetLaws.{passed-over}
 
 module _ (d : Dims) (work chart : List ℕ) where
   abbrev S : System
   S = systemIn d work chart
 
-  size-is : S .size ≡ d .cells
+  size-is : S .size ≡ d .size
   unfolding systemIn systemOver
   size-is = refl
 
-  pub to-seek : {w : Reduced} {uncovered : ℕ → Bool} {copies : ℕ → ℕ} {left : ℕ} {m : List ℕ} → Seek w uncovered copies (d .cells) left m → Seek w uncovered copies (S .size) left m
+  pub to-seek : {w : Reduced} {uncovered : ℕ → Bool} {copies : ℕ → ℕ} {left : ℕ} {m : List ℕ} → Seek w uncovered copies (d .size) left m → Seek w uncovered copies (S .size) left m
   unfolding systemIn systemOver
   to-seek q = q
 
-  pub of-seek : {w : Reduced} {uncovered : ℕ → Bool} {copies : ℕ → ℕ} {left : ℕ} {m : List ℕ} → Seek w uncovered copies (S .size) left m → Seek w uncovered copies (d .cells) left m
+  pub of-seek : {w : Reduced} {uncovered : ℕ → Bool} {copies : ℕ → ℕ} {left : ℕ} {m : List ℕ} → Seek w uncovered copies (S .size) left m → Seek w uncovered copies (d .size) left m
   unfolding systemIn systemOver
   of-seek q = q
 
-  to-at : {w : Reduced} {c k : ℕ} → At w (d .cells) c k → At w (S .size) c k
+  to-at : {w : Reduced} {c k : ℕ} → At w (d .size) c k → At w (S .size) c k
   unfolding systemIn systemOver
   to-at q = q
 
-  to-shown : {last shown : List ℕ} → Shown (d .cells) (take (d .places) (scansPart chart)) last shown → Shown (S .size) (S .scans) last shown
+  to-shown : {last shown : List ℕ} → Shown (d .size) (take (d .places) (scansPart chart)) last shown → Shown (S .size) (S .scans) last shown
   unfolding systemIn systemOver
   to-shown q = q
 
@@ -59,17 +59,20 @@ module _ (d : Dims) (work chart : List ℕ) where
   pub leaf-fills : {m : List ℕ} {left : ℕ} {rs : List ℕ} → Choosable S m left rs → Fillable S rs
   leaf-fills p = all-fill S (p .seek) (p .chosen)
 
-  pub column-tryable : {m : List ℕ} {left : ℕ} {rs : List ℕ} → Choosable S m left rs → (left ≡ 0 → ⊥) → (c : ℕ) → c ≡ pivot (sizeOf m) (d .cells) → (c ≡ 4096 → ⊥) → (k : ℕ) → k ≡ down m c
+  pub column-tryable : {m : List ℕ} {left : ℕ} {rs : List ℕ} → Choosable S m left rs → (left ≡ 0 → ⊥) → (c : ℕ) → c ≡ pivot (sizeOf m) (d .size) → (c ≡ 4096 → ⊥) → (k : ℕ) → k ≡ down m c
       → Tryable S m left c k rs
   unfolding systemIn systemOver
   column-tryable p nz c ec cf k ek = record { w = p .w; uncovered = p .uncovered; copies = p .copies; seek = p .seek; stand = choose-at (p .seek) nz c ec cf k ek; chosen = p .chosen }
 
   module _ (i : Identify) (capacity : ℕ) {w : Reduced} {uncovered : ℕ → Bool} {copies : ℕ → ℕ} {left : ℕ} {m : List ℕ}
-      (q : Seek w uncovered copies (d .cells) left m) (rs : List ℕ) (before : Emitted) where
+      (q : Seek w uncovered copies (d .size) left m) (rs : List ℕ) (before : Emitted) where
     pub found-leaf : (after : Emitted) (g : ℕ) → left < g → left ≡ 0 → after ≡ emitKept S i capacity rs before → after ≡ emitAll S i capacity (knuthBelow S rs g w copies left) before
     found-leaf after g h z e = e ∙ leaf S i capacity (to-seek q) rs g h z before
 
-    module _ (nz : left ≡ 0 → ⊥) (c : ℕ) (ec : c ≡ pivot (sizeOf m) (d .cells)) where
+    pub found-few : tally (hasRow m) (d .size) < left → (g : ℕ) → before ≡ emitAll S i capacity (knuthBelow S rs g w copies left) before
+    found-few h g = few S i capacity (to-seek q) rs (subst (λ (n : ℕ). tally (hasRow m) n < left) (sym size-is) h) g before
+
+    module _ (nz : left ≡ 0 → ⊥) (c : ℕ) (ec : c ≡ pivot (sizeOf m) (d .size)) where
       column-is : c ≡ pivot (sizeOf m) (S .size)
       column-is = ec ∙ ap (pivot (sizeOf m)) (sym size-is)
 
@@ -77,7 +80,7 @@ module _ (d : Dims) (work chart : List ℕ) where
       found-none cf g h = none S i capacity (to-seek q) rs nz c column-is cf g h before
 
       pub found-rows : (after : Emitted) → (c ≡ 4096 → ⊥) → (k : ℕ) → k ≡ down m c → w .t ≡ matrixOf S
-          → ((w : Reduced) (uncovered : ℕ → Bool) (copies : ℕ → ℕ) (g : ℕ) → Seek w uncovered copies (d .cells) left m → At w (d .cells) c k → w .t ≡ matrixOf S
+          → ((w : Reduced) (uncovered : ℕ → Bool) (copies : ℕ → ℕ) (g : ℕ) → Seek w uncovered copies (d .size) left m → At w (d .size) c k → w .t ≡ matrixOf S
           → left ≤ g → after ≡ emitAll S i capacity (knuthRows S rs g w copies left c k) before)
           → (g : ℕ) → left < g → after ≡ emitAll S i capacity (knuthBelow S rs g w copies left) before
       found-rows after cf k ek isT f zero h = absurd (omega arith)
@@ -86,7 +89,7 @@ module _ (d : Dims) (work chart : List ℕ) where
           ∙ ap (λ (l : List (List ℕ)). emitAll S i capacity l before) (sym (below-rows S i capacity (to-seek q) rs nz c column-is cf k ek g h))
 
   pub found-head : (i : Identify) (capacity : ℕ) {w : Reduced} {uncovered : ℕ → Bool} {copies : ℕ → ℕ} {left : ℕ} {m : List ℕ}
-      (q : Seek w uncovered copies (d .cells) left m) (rs : List ℕ) (before : Emitted) (c k : ℕ) → k ≡ c → (g : ℕ)
+      (q : Seek w uncovered copies (d .size) left m) (rs : List ℕ) (before : Emitted) (c k : ℕ) → k ≡ c → (g : ℕ)
       → before ≡ emitAll S i capacity (knuthRows S rs g w copies left c k) before
   found-head i capacity q rs before c k kc g = no-rows S i capacity (to-seek q) rs c k kc g before
 
@@ -127,7 +130,7 @@ module _ (d : Dims) (work chart : List ℕ) where
           omega arith
 
       -- the row is passed over: the rest of the column from the next node on
-      module _ (shown : List ℕ) (before : Emitted) (sh : Shown (d .cells) (take (d .places) (scansPart chart)) (before .last) shown) (b : Bool)
+      module _ (shown : List ℕ) (before : Emitted) (sh : Shown (d .size) (take (d .places) (scansPart chart)) (before .last) shown) (b : Bool)
           (is : b ≡ not (before .waiting) || showsRow (ownedIn (piecesPart chart) (d .pieces)) shown (rowAt work r)) (passed : b ≡ false) where
         waits : before .waiting ≡ true
         waits = go (before .waiting) (showsRow (ownedIn (piecesPart chart) (d .pieces)) shown (rowAt work r)) (sym is ∙ passed)
@@ -143,9 +146,9 @@ module _ (d : Dims) (work chart : List ℕ) where
             ∙ ap (showsRow (ownedIn (piecesPart chart) (d .pieces)) shown) (row-stands d work chart r row-below)
             ∙ sym (ap (λ (a : Bool). not a || showsRow (ownedIn (piecesPart chart) (d .pieces)) shown (rowAt work r)) waits) ∙ sym is ∙ passed
 
-        pub found-passed : (i : Identify) (capacity : ℕ) {w : Reduced} {uncovered : ℕ → Bool} {copies : ℕ → ℕ} → Seek w uncovered copies (d .cells) left m
-            → At w (d .cells) c k → w .t ≡ matrixOf S → (k′ : ℕ) → k′ ≡ down m k → (end : Emitted)
-            → ((w : Reduced) (uncovered : ℕ → Bool) (copies : ℕ → ℕ) (g : ℕ) → Seek w uncovered copies (d .cells) left m → At w (d .cells) c k′ → w .t ≡ matrixOf S
+        pub found-passed : (i : Identify) (capacity : ℕ) {w : Reduced} {uncovered : ℕ → Bool} {copies : ℕ → ℕ} → Seek w uncovered copies (d .size) left m
+            → At w (d .size) c k → w .t ≡ matrixOf S → (k′ : ℕ) → k′ ≡ down m k → (end : Emitted)
+            → ((w : Reduced) (uncovered : ℕ → Bool) (copies : ℕ → ℕ) (g : ℕ) → Seek w uncovered copies (d .size) left m → At w (d .size) c k′ → w .t ≡ matrixOf S
             → left ≤ g → end ≡ emitAll S i capacity (knuthRows S (take n path) g w copies left c k′) before)
             → (g : ℕ) → left ≤ g → end ≡ emitAll S i capacity (knuthRows S (take n path) g w copies left c k) before
         found-passed i capacity {w} {uncovered} {copies} q st isT k′ ek end rest g h =
@@ -198,9 +201,9 @@ module _ (d : Dims) (work chart : List ℕ) where
                     (chosen-next S (p .seek) (p .chosen) live law cells (try-sub (p .seek) (p .stand) kc cells en));
               }
 
-          module _ (i : Identify) (capacity : ℕ) {w : Reduced} {uncovered : ℕ → Bool} {copies : ℕ → ℕ} (q : Seek w uncovered copies (d .cells) left m)
-              (st : At w (d .cells) c k) (isT : w .t ≡ matrixOf S) (before after : Emitted)
-              (f : (w : Reduced) (uncovered : ℕ → Bool) (copies : ℕ → ℕ) (g : ℕ) → Seek w uncovered copies (d .cells) (left - cells) m₁ → w .t ≡ matrixOf S → left - cells < g
+          module _ (i : Identify) (capacity : ℕ) {w : Reduced} {uncovered : ℕ → Bool} {copies : ℕ → ℕ} (q : Seek w uncovered copies (d .size) left m)
+              (st : At w (d .size) c k) (isT : w .t ≡ matrixOf S) (before after : Emitted)
+              (f : (w : Reduced) (uncovered : ℕ → Bool) (copies : ℕ → ℕ) (g : ℕ) → Seek w uncovered copies (d .size) (left - cells) m₁ → w .t ≡ matrixOf S → left - cells < g
               → after ≡ emitAll S i capacity (knuthBelow S (take (n + 1) (set path n r)) g w copies (left - cells)) before) (g : ℕ) (h : left ≤ g) where
             pub found-stop : after .further ≡ true → after ≡ emitAll S i capacity (knuthRows S (take n path) g w copies left c k) before
             found-stop done =
@@ -208,13 +211,13 @@ module _ (d : Dims) (work chart : List ℕ) where
                 (λ w uncovered copies g u. f w uncovered copies g (of-seek u)) done g h
 
             pub found-on : (m₃ : List ℕ) → m₃ ≡ m → (k′ : ℕ) → k′ ≡ down m₃ k → (rs : List ℕ) → rs ≡ take n path → (end : Emitted)
-                → ((w : Reduced) (uncovered : ℕ → Bool) (copies : ℕ → ℕ) (g : ℕ) → Seek w uncovered copies (d .cells) left m₃ → At w (d .cells) c k′
+                → ((w : Reduced) (uncovered : ℕ → Bool) (copies : ℕ → ℕ) (g : ℕ) → Seek w uncovered copies (d .size) left m₃ → At w (d .size) c k′
                 → w .t ≡ matrixOf S → left ≤ g → end ≡ emitAll S i capacity (knuthRows S rs g w copies left c k′) after)
                 → end ≡ emitAll S i capacity (knuthRows S (take n path) g w copies left c k) before
             found-on m₃ back k′ ek rs same end rest =
                 goes-on S i capacity (to-seek q) (take n path) (to-at st) kc cells en m₁ g₁ (take (n + 1) (set path n r)) is-longer isT before after
                 (λ w uncovered copies g u. f w uncovered copies g (of-seek u)) m₃ back k′ ek end g h
-                (rest w uncovered copies g (subst (λ (l : List ℕ). Seek w uncovered copies (d .cells) left l) (sym back) q) (try-at q st kc m₃ back k′ ek) isT h
+                (rest w uncovered copies g (subst (λ (l : List ℕ). Seek w uncovered copies (d .size) left l) (sym back) q) (try-at q st kc m₃ back k′ ek) isT h
                 ∙ ap (λ (l : List ℕ). emitAll S i capacity (knuthRows S l g w copies left c k′) after) same)
 
     pub next-tryable : (m₃ : List ℕ) → m₃ ≡ m → (k′ : ℕ) → k′ ≡ down m₃ k → (rs : List ℕ) → rs ≡ take n path → Tryable S m₃ left c k′ rs

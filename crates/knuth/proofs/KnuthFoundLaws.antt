@@ -27,9 +27,9 @@ use Rattle.links.specs.Cover.{tally, here}
 use Rattle.links.specs.Search.{select, spend, pivot}
 use Rattle.links.specs.Packings.{listFrom, rowsFrom, exactCovers}
 use Rattle.links.specs.Build.{every, whole}
-use Rattle.knuth.specs.Tables.{nodesFrom, rowNodes, stockedRows, columns, linkNodes, matrixOf}
+use Rattle.knuth.specs.Matrix.{nodesFrom, rowNodes, stockedRows, columns, linkNodes, matrixOf}
 use Rattle.knuth.specs.Listing.{emitAll, foundRows, knuthBelow, knuthAnswers}
-use Rattle.knuth.proofs.TableOfLaws.{matrix-rows, row-some, same-row}
+use Rattle.knuth.proofs.MatrixLaws.{matrix-rows, row-some, same-row}
 use Rattle.knuth.proofs.KnuthStateLaws.{starts}
 use Rattle.knuth.proofs.KnuthListLaws.{knuth-rows}
 use Rattle.knuth.proofs.ChosenLaws.{was-live, other-row}

@@ -26,8 +26,8 @@ use Rattle.links.specs.Cover.{bit, tally, here}
 use Rattle.links.specs.Search.{select, spend, pivot}
 use Rattle.links.specs.Packings.{listFrom, rowsFrom, exactCovers}
 use Rattle.links.specs.Build.{every}
-use Rattle.knuth.specs.Tables.{columns, matrixOf}
-use Rattle.knuth.proofs.TableOfLaws.{RowNode, matrix-rows, row-later, node-of, in-stock, cell-in, cell-of, row-some, column-once}
+use Rattle.knuth.specs.Matrix.{columns, matrixOf}
+use Rattle.knuth.proofs.MatrixLaws.{RowNode, matrix-rows, row-later, node-of, in-stock, cell-in, cell-of, row-some, column-once}
 use Rattle.knuth.proofs.KnuthPivotLaws.{Least, fewest-is, knuth-none, knuth-some}
 use Rattle.knuth.proofs.KnuthStateLaws.{Represents, starts, chosen, can-left, can-free}
 

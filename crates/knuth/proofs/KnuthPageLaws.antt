@@ -24,7 +24,7 @@ use Rattle.kept.specs.Entries.{startBy}
 use Rattle.kept.proofs.EntryLaws.{entries-same}
 use Rattle.links.specs.Search.{Seek}
 use Rattle.links.specs.Build.{whole, everyColumn}
-use Rattle.knuth.specs.Tables.{linkNodes, matrixOf}
+use Rattle.knuth.specs.Matrix.{linkNodes, matrixOf}
 use Rattle.knuth.specs.Listing.{Choosable, Begun, emitAll, knuthBelow, knuthAnswers}
 use Rattle.knuth.proofs.KnuthFoundLaws.{nodes-many, found-emits}
 
@@ -43,11 +43,11 @@ module _ (d : Dims) (work chart links : List ℕ) (b : Begun (systemIn d work ch
   S = systemIn d work chart
 
   -- the start of a search: every row possible, and none chosen
-  pub begins : Seek (whole (matrixOf (systemIn d work chart)) (b .law)) everyColumn (b .copies) (d .cells) (d .cells) links
+  pub begins : Seek (whole (matrixOf (systemIn d work chart)) (b .law)) everyColumn (b .copies) (d .size) (d .size) links
   unfolding systemIn systemOver
   begins = b .seek
 
-  pub choosable : Choosable (systemIn d work chart) links (d .cells) []
+  pub choosable : Choosable (systemIn d work chart) links (d .size) []
   unfolding systemIn systemOver ofKind
   choosable =
       record {
@@ -69,6 +69,6 @@ module _ (d : Dims) (work chart links : List ℕ) (b : Begun (systemIn d work ch
     found : emitAll S i capacity (knuthBelow S [] (S .size + 1) (whole (matrixOf S) (b .law)) (b .copies) (S .size)) e ≡ emits capacity (knuthAnswers S i) e
     found = found-emits S law (b .law) (b .copies) (b .stock) (S .size + 1) (omega arith) i capacity e
 
-    pub lists : emitAll S i capacity (knuthBelow S [] (d .cells + 1) (whole (matrixOf S) (b .law)) (b .copies) (d .cells)) e
+    pub lists : emitAll S i capacity (knuthBelow S [] (d .size + 1) (whole (matrixOf S) (b .law)) (b .copies) (d .size)) e
         ≡ emits capacity (knuthAnswers S i) e
     lists = unfold systemIn systemOver in found

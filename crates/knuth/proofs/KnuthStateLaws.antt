@@ -21,8 +21,8 @@ use Rattle.kept.specs.Entries.{startBy}
 use Rattle.links.specs.Links.{Matrix}
 use Rattle.links.specs.Search.{free, apart, firstCovered, select, spend}
 use Rattle.links.specs.Build.{every}
-use Rattle.knuth.specs.Tables.{columns, matrixOf}
-use Rattle.knuth.proofs.TableOfLaws.{RowNode, matrix-rows, cols-are, row-lawful, cell-in, cell-of, cell-small}
+use Rattle.knuth.specs.Matrix.{columns, matrixOf}
+use Rattle.knuth.proofs.MatrixLaws.{RowNode, matrix-rows, cols-are, row-lawful, cell-in, cell-of, cell-small}
 
 -- ---- rows that share no column
 module _ (t : Matrix) where

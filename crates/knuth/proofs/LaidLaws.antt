@@ -18,7 +18,7 @@ use Rattle.masks.specs.Masks.{has}
 use Rattle.masks.specs.declared.Mask.{Mask}
 use Rattle.rows.specs.Charts.{kindsPart}
 use Rattle.links.specs.Links.{columnOf, firstOf, endOf, copiesOf, rowNumber, atColumn, atFirst, atEnd, atCopies, atRow}
-use Rattle.knuth.specs.Tables.{Node, nodeAt, nodesIn, headNodes, rowNodes, Beside, Laid, StockLaid}
+use Rattle.knuth.specs.Matrix.{Node, nodeAt, nodesIn, headNodes, rowNodes, Beside, Laid, StockLaid}
 
 -- ---- lists
 -- the entries kept below n, and one more

@@ -1,4 +1,4 @@
-pub mod TableOfLaws
+pub mod MatrixLaws
 pub mod KnuthPivotLaws
 pub mod KnuthStateLaws
 pub mod KnuthListLaws

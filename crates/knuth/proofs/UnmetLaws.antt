@@ -33,9 +33,9 @@ use Rattle.links.specs.Cover.{Reduced, tally, here, aliveRun}
 use Rattle.links.specs.Search.{Seek, At, select, spend, firstCovered, pivot}
 use Rattle.links.specs.Packings.{rowsFrom, exactCovers}
 use Rattle.links.proofs.Search.{sel-alive, sel-seek, try-live}
-use Rattle.knuth.specs.Tables.{columns, matrixOf}
+use Rattle.knuth.specs.Matrix.{columns, matrixOf}
 use Rattle.knuth.specs.Listing.{Chosen, emitAll, foundRows, knuthRows}
-use Rattle.knuth.proofs.TableOfLaws.{cols-are, row-lawful}
+use Rattle.knuth.proofs.MatrixLaws.{cols-are, row-lawful}
 use Rattle.knuth.proofs.ChosenLaws.{node-in, row-node, kind-column, kind-more, spend-kind, spend-other, was-live, select-clear}
 use Rattle.knuth.proofs.KnuthFoundLaws.{cond-at, list-at}
 use Rattle.knuth.proofs.CycleLaws.{put-append, next-rows}

@@ -1,2 +1,2 @@
-pub mod Tables
+pub mod Matrix
 pub mod Listing

@@ -17,7 +17,7 @@ use Rattle.links.specs.Cover.{Reduced}
 use Rattle.links.specs.Search.{Seek, At}
 use Rattle.links.specs.Packings.{exactCovers, rowsFrom}
 use Rattle.links.specs.Build.{whole, everyColumn}
-use Rattle.knuth.specs.Tables.{matrixOf}
+use Rattle.knuth.specs.Matrix.{matrixOf}
 use lib.Dec.{eqb}
 
 -- packings, each by its rows' numbers, one after the other on the page

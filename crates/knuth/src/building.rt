@@ -9,7 +9,7 @@ ghost use Rattle.rows.specs.Charts.{Charted};
 ghost use Rattle.rows.specs.Rows.{maskAt, rowAt};
 ghost use Rattle.rows.specs.Systems.{systemIn};
 ghost use Rattle.kept.specs.Ready.{Ready};
-ghost use Rattle.knuth.specs.Tables.{Laid, StockLaid, columns, headNodes, linkNodes, nodesFrom, rowNodes, stockedRows};
+ghost use Rattle.knuth.specs.Matrix.{Laid, StockLaid, columns, headNodes, linkNodes, nodesFrom, rowNodes, stockedRows};
 ghost use Rattle.knuth.specs.Listing.{Begun};
 use links::COLUMN;
 use links::COPIES;
@@ -19,7 +19,7 @@ use links::ROW;
 use masks::Mask;
 use rows::Dims;
 use rows::chart;
-use rows::table;
+use rows::row;
 
 // The fields of node x that stay as they are.
 fn put_node(links: &mut [u16], x: usize, column: usize, first: usize, end: usize, row: usize)
@@ -88,33 +88,33 @@ fn put_cells(
 
 // The nodes of row r from node x on; and the node behind them.
 fn put_row(d: Dims, work: &[u64], links: &mut [u16], x: usize, r: usize) -> usize
-    requires { ⌜ (32768 ≤ length (now links)) × (8 * r + 8 ≤ length (now work)) × (r < 4096) × (d .cells ≤ 128)
-        × (d .cells + rowAt (now work) r .kind < 4096) × (x + suc (howMany (has (maskAt (now work) r)) (below (d .cells))) ≤ 4096) ⌝ }
+    requires { ⌜ (32768 ≤ length (now links)) × (8 * r + 8 ≤ length (now work)) × (r < 4096) × (d .size ≤ 128)
+        × (d .size + rowAt (now work) r .kind < 4096) × (x + suc (howMany (has (maskAt (now work) r)) (below (d .size))) ≤ 4096) ⌝ }
     ensures { λ y. do
       let inside = has (maskAt (now (work .entry)) r)
       let kind = rowAt (now (work .entry)) r .kind
-      ⌜ (y ≡ x + suc (howMany inside (below (d .cells))))
-          × Laid (now (links .entry)) x (now (links .exit)) (rowNodes (d .cells) x r kind (keep inside (below (d .cells)))) ⌝ }
+      ⌜ (y ≡ x + suc (howMany inside (below (d .size))))
+          × Laid (now (links .entry)) x (now (links .exit)) (rowNodes (d .size) x r kind (keep inside (below (d .size)))) ⌝ }
 {
-    let mask = table::mask_at(work, r);
-    let end = x + 1 + count_cells(mask, d.cells);
-    put_node(links, x, d.cells + table::kind_at(work, r), x, end, r);
-    put_cells(links, mask, d.cells, x + 1, x, end, r);
+    let mask = row::mask_at(work, r);
+    let end = x + 1 + count_cells(mask, d.size);
+    put_node(links, x, d.size + row::kind_at(work, r), x, end, r);
+    put_cells(links, mask, d.size, x + 1, x, end, r);
     end
 }
 
 // The copies of kinds, by their columns; none for the columns of cells.
 fn put_copies(d: Dims, chart: &[u16], links: &mut [u16])
-    requires { ⌜ (32768 ≤ length (now links)) × (d .cells ≤ 128) × (d .kinds ≤ 16) × Charted (now chart) ⌝ }
-    ensures { λ _. ⌜ StockLaid (now (links .entry)) (now (links .exit)) (d .cells) (d .kinds) (now (chart .entry)) ⌝ }
+    requires { ⌜ (32768 ≤ length (now links)) × (d .size ≤ 128) × (d .kinds ≤ 16) × Charted (now chart) ⌝ }
+    ensures { λ _. ⌜ StockLaid (now (links .entry)) (now (links .exit)) (d .size) (d .kinds) (now (chart .entry)) ⌝ }
 {
     let mut j = 0;
-    while j < d.cells + d.kinds {
+    while j < d.size + d.kinds {
         // the copies of the columns below j are written
-        if j < d.cells {
+        if j < d.size {
             links[8 * j + COPIES] = 0;
         } else {
-            links[8 * j + COPIES] = chart::copies_of(chart, j - d.cells) as u16;
+            links[8 * j + COPIES] = chart::copies_of(chart, j - d.size) as u16;
         }
         j += 1;
     }
@@ -129,11 +129,11 @@ fn put_rows(d: Dims, work: &[u64], chart: &[u16], links: &mut [u16]) -> usize
       let S = systemIn d (now (work .entry)) (now (chart .entry))
       ⌜ (n ≡ length (linkNodes S)) × Laid (now (links .entry)) (columns S) (now (links .exit)) (nodesFrom S (columns S) (stockedRows S)) ⌝ }
 {
-    let mut x = d.cells + d.kinds;
+    let mut x = d.size + d.kinds;
     let mut r = 0;
     while r < d.rows {
         // the nodes of the rows below r stand before node x
-        let kind = table::kind_at(work, r);
+        let kind = row::kind_at(work, r);
         if 0 < chart::copies_of(chart, kind) {
             x = put_row(d, work, links, x, r);
         }
@@ -150,8 +150,8 @@ pub fn build_links(d: Dims, work: &[u64], chart: &[u16], links: &mut [u16])
     ensures begun { λ _. ⌜ Begun (systemIn d (now (work .entry)) (now (chart .entry))) (now (links .exit)) ⌝ }
     ensures behind { λ _. ⌜ ((i : ℕ) → 32768 ≤ i → getD (now (links .exit)) i 0 ≡ getD (now (links .entry)) i 0) ⌝ }
 {
-    put_heads(links, d.cells + d.kinds);
+    put_heads(links, d.size + d.kinds);
     put_copies(d, chart, links);
     let nodes = put_rows(d, work, chart, links);
-    links::link_all(links, d.cells, d.cells + d.kinds, nodes);
+    links::link_all(links, d.size, d.size + d.kinds, nodes);
 }

@@ -6,7 +6,7 @@ ghost use Rattle.definitions.specs.Emission.{emits};
 ghost use Rattle.rows.specs.Systems.{systemIn};
 ghost use Rattle.kept.specs.Emission.{emittedOf, identified};
 ghost use Rattle.kept.specs.Ready.{Ready};
-ghost use Rattle.knuth.specs.Tables.{linkNodes};
+ghost use Rattle.knuth.specs.Matrix.{linkNodes};
 ghost use Rattle.knuth.specs.Listing.{knuthAnswers};
 use super::building;
 use super::search;
@@ -47,7 +47,7 @@ pub fn list(
         chart,
         wanted,
         links,
-        d.cells,
+        d.size,
         &mut path,
         0,
         last,

@@ -10,7 +10,7 @@ ghost use Rattle.kept.specs.Emission.{emittedOf, identified};
 ghost use Rattle.kept.specs.Ready.{OfRows, Ready, Restored};
 ghost use Rattle.links.specs.Cover.{Reduced};
 ghost use Rattle.links.specs.Search.{At, Seek};
-ghost use Rattle.knuth.specs.Tables.{matrixOf};
+ghost use Rattle.knuth.specs.Matrix.{matrixOf};
 ghost use Rattle.knuth.specs.Listing.{Choosable, Tryable, emitAll, knuthBelow, knuthRows};
 use kept::emission;
 use kept::emission::Emission;
@@ -41,20 +41,23 @@ pub fn choose(
     e: Emission,
 ) -> Emission
     requires { ⌜ Ready d (now work) (now chart) × OfRows d (now path) n × (length (now path) ≡ 128) × (length (now shown) ≡ 256)
-        × Shown (d .cells) (take (d .places) (scansPart (now chart))) (now last) (now shown) × (wanted .capacity * (2 * d .places) ≤ length (now answers)) ⌝ }
+        × Shown (d .size) (take (d .places) (scansPart (now chart))) (now last) (now shown) × (wanted .capacity * (2 * d .places) ≤ length (now answers)) ⌝ }
     requires { ⌜ Choosable (systemIn d (now work) (now chart)) (now links) left (take n (now path)) ⌝ }
     ensures same { λ _. ⌜ (now (links .exit) ≡ now (links .entry)) × Restored n (now (path .entry)) (now (path .exit)) ⌝ }
     ensures found { λ r. do
       let S = systemIn d (now (work .entry)) (now (chart .entry))
       let old = emittedOf e (now (last .entry)) (now (answers .entry))
       let new = emittedOf r (now (last .entry)) (now (answers .exit))
-      ⌜ ((w : Reduced) (uncovered : ℕ → Bool) (copies : ℕ → ℕ) (g : ℕ) → Seek w uncovered copies (d .cells) left (now (links .entry))
+      ⌜ ((w : Reduced) (uncovered : ℕ → Bool) (copies : ℕ → ℕ) (g : ℕ) → Seek w uncovered copies (d .size) left (now (links .entry))
           → w .t ≡ matrixOf S → left < g → new ≡ emitAll S (identified wanted) (wanted .capacity) (knuthBelow S (take n (now (path .entry))) g w copies left) old) ⌝ }
 {
     if left == 0 {
         return emission::emit_kept(d, work, chart, wanted, path, n, last, answers, e);
     }
-    let c = links::choose_column(links, d.cells);
+    if links::open_columns(links, d.size) < left {
+        return e;
+    }
+    let c = links::choose_column(links, d.size);
     if c == 4096 {
         return e;
     }
@@ -92,7 +95,7 @@ fn try_rows(
     e: Emission,
 ) -> Emission
     requires { ⌜ Ready d (now work) (now chart) × OfRows d (now path) (at .n) × (length (now path) ≡ 128) × (length (now shown) ≡ 256)
-        × Shown (d .cells) (take (d .places) (scansPart (now chart))) (now last) (now shown) × (wanted .capacity * (2 * d .places) ≤ length (now answers)) ⌝ }
+        × Shown (d .size) (take (d .places) (scansPart (now chart))) (now last) (now shown) × (wanted .capacity * (2 * d .places) ≤ length (now answers)) ⌝ }
     requires { ⌜ Tryable (systemIn d (now work) (now chart)) (now links) (at .left) (at .cell) k (take (at .n) (now path)) ⌝ }
     ensures same { λ _. ⌜ (now (links .exit) ≡ now (links .entry)) × Restored (at .n) (now (path .entry)) (now (path .exit)) ⌝ }
     ensures found { λ r. do
@@ -100,8 +103,8 @@ fn try_rows(
       let old = emittedOf e (now (last .entry)) (now (answers .entry))
       let new = emittedOf r (now (last .entry)) (now (answers .exit))
       let rs = take (at .n) (now (path .entry))
-      ⌜ ((w : Reduced) (uncovered : ℕ → Bool) (copies : ℕ → ℕ) (g : ℕ) → Seek w uncovered copies (d .cells) (at .left) (now (links .entry))
-          → At w (d .cells) (at .cell) k → w .t ≡ matrixOf S → at .left ≤ g
+      ⌜ ((w : Reduced) (uncovered : ℕ → Bool) (copies : ℕ → ℕ) (g : ℕ) → Seek w uncovered copies (d .size) (at .left) (now (links .entry))
+          → At w (d .size) (at .cell) k → w .t ≡ matrixOf S → at .left ≤ g
           → new ≡ emitAll S (identified wanted) (wanted .capacity) (knuthRows S rs g w copies (at .left) (at .cell) k) old) ⌝ }
 {
     if k == at.cell {

@@ -6,12 +6,13 @@ use mathlib.Core.List.{List, [], _∷_, _++_, map}
 use mathlib.Core.Bool.{Bool, true, false, false≢true, cond}
 use lib.ListN.{length}
 use lib.Dec.{eqb}
-use Rattle.lists.proofs.TestLaws.{by-eq, by-order, by-find, not-true, cond-true, cond-false, cond-same, cond-other, at-cond, both, both-left, both-right, true-together}
+use borrow.Author.Tests.{eqb-true, eq-eqb, lt-ltb}
+use Rattle.lists.proofs.TestLaws.{by-bool, by-eq, by-order, by-find, not-true, cond-true, cond-false, cond-same, cond-other, at-cond, both, both-left, both-right, true-together}
 use Rattle.links.specs.Links.{down, columnOf, firstOf, endOf, sizeOf, copiesOf, atColumn, atCopies, Matrix, Fields, without}
 use Rattle.links.specs.Cover.{tally, here, Reduced, Holds, Open, Run, Runnable, Ran, reducedTo, aliveRun, runTo}
-use Rattle.links.specs.Search.{free, apart, firstCovered, select, spend, spent, regained, Takes, Gives, Sized, Selectable, Selected, selected, pivot, Seek, At}
+use Rattle.links.specs.Search.{free, apart, firstCovered, select, spend, spent, regained, Takes, Gives, Sized, Selectable, Selected, selected, pivot, hasRow, Seek, At}
 use Rattle.links.specs.Packings.{listFrom, rowsFrom, exactCovers}
-use Rattle.links.proofs.Tally.{tally-same, tally-less, tally-none}
+use Rattle.links.proofs.Tally.{tally-same, tally-less, tally-some, tally-none, tally-more}
 use Rattle.links.proofs.Places.{still-copies}
 use Rattle.links.proofs.Rings.{in-without, without-other, without-ne}
 use Rattle.links.proofs.Hide.{here-alive, here-col, in-here, one-in-row}
@@ -581,3 +582,59 @@ try-head {k} {c} e l = cond-same k c [] l e
 
 pub try-below : (left k c : ℕ) → 8192 * left + cond (eqb k c) 0 (4096 - k) < 8192 * left + 8191
 try-below left k c = at-cond (λ (n : ℕ). 8192 * left + n < 8192 * left + 8191) k c 0 (4096 - k) (λ e. omega arith) (λ e. omega arith)
+
+-- ---- a cell that no row covers any more
+
+list-empty : (f : ℕ → List (List ℕ)) (p : ℕ → Bool) → ((k : ℕ) → p k ≡ true → f k ≡ []) → (n i : ℕ) → listFrom f p n i ≡ []
+unfolding listFrom
+list-empty f p h zero i = refl
+list-empty f p h (suc n) i =
+    by-bool (p i)
+    (λ e. ap (λ (l : List (List ℕ)). l ++ listFrom f p n (suc i)) (cond-true (p i) (f i) [] e ∙ h i e) ∙ list-empty f p h n (suc i))
+    (λ e. ap (λ (l : List (List ℕ)). l ++ listFrom f p n (suc i)) (cond-false (p i) (f i) [] e) ∙ list-empty f p h n (suc i))
+
+-- whatever is chosen, it stays uncovered
+dead-none : (g : ℕ) {w : Reduced} {uncovered : ℕ → Bool} {copies : ℕ → ℕ} {cells left : ℕ} {m : List ℕ} → Seek w uncovered copies cells left m
+    → (j : ℕ) → j < cells → uncovered j ≡ true → ((x : ℕ) → w .alive x ≡ true → w .t .col x ≡ j → ⊥) → exactCovers (w .t) cells g (w .alive) copies left ≡ []
+unfolding exactCovers rowsFrom sel-uncovered
+dead-none zero s j jl u none = refl
+dead-none (suc g) {w} {uncovered} {copies} {cells} {left} {m} s j jl u none =
+    let t = w .t in
+    let c = pivot (λ i. tally (here t (w .alive) i) (t .nodes)) cells in
+    let rows = rowsFrom t (exactCovers t cells g) (w .alive) copies left c 0 in
+    let below : (k : ℕ) → w .alive k ≡ true → exactCovers t cells g (select t (w .alive) copies k) (spend t copies k) (left - (t .hi k - t .lo k - 1)) ≡ []
+    = λ k lk.
+    let a = firstCovered t copies k in
+    ap (λ (l : ℕ → Bool). exactCovers t cells g l (spend t copies k) (left - (t .hi k - t .lo k - 1))) (sym (sel-alive s k lk))
+    ∙ dead-none g (sel-seek s k lk) j jl
+    (in-uncoveredRun t uncovered a (t .hi k - a) j u
+    (λ y p q e. none y (s .holds .whole k y lk (omega (arith, a-first s k lk)) (omega (arith, a-first s k lk, x-size s k lk))) (sym e)))
+    (λ x h e. none x (full s k lk m (s .holds) .was x h) e) in
+    cond-other left 0 ([] ∷ []) (cond (eqb c 4096) [] rows) (λ e. omega (arith, s .rest, tally-some uncovered j cells jl u))
+    ∙ at-cond (λ (l : List (List ℕ)). l ≡ []) c 4096 [] rows (λ e. refl)
+    (λ e. list-empty (λ k. map (λ ks. k ∷ ks) (exactCovers t cells g (select t (w .alive) copies k) (spend t copies k) (left - (t .hi k - t .lo k - 1))))
+    (here t (w .alive) c) (λ k p. ap (map (λ ks. k ∷ ks)) (below k (here-alive t (w .alive) c k p))) (t .nodes - 0) 0)
+
+-- fewer columns have a row than cells are uncovered: one of these has none, and nothing is found
+pub few-open : {w : Reduced} {uncovered : ℕ → Bool} {copies : ℕ → ℕ} {cells left : ℕ} {m : List ℕ} → Seek w uncovered copies cells left m → tally (hasRow m) cells < left → (g : ℕ)
+    → exactCovers (w .t) cells g (w .alive) copies left ≡ []
+few-open {w} {uncovered} {copies} {cells} {left} {m} s few g =
+    by-find (λ j. cond (uncovered j) (eqb (sizeOf m j) 0) false) 0 cells
+    (λ j l h e.
+    dead-none g s j (omega arith) (both-left (uncovered j) (eqb (sizeOf m j) 0) e)
+    (λ x lx q.
+    omega (
+      arith,
+      eqb-true (sizeOf m j) 0 (both-right (uncovered j) (eqb (sizeOf m j) 0) e),
+      s .holds .count j (omega (arith, h, s .shape .few)),
+      tally-some (here (w .t) (w .alive) j) x (w .t .nodes) (s .holds .node x lx .1) (in-here (w .t) (w .alive) j x lx q),
+    )))
+    (λ none. absurd (omega (
+      arith,
+      few,
+      s .rest,
+      tally-more uncovered (hasRow m) cells (λ j l u. lt-ltb 0 (sizeOf m j)
+          (by-eq (sizeOf m j) 0
+          (λ z. absurd (none j (omega arith) (omega arith) (both (uncovered j) (eqb (sizeOf m j) 0) u (eq-eqb (sizeOf m j) 0 z))))
+          (λ z. omega arith))),
+    )))

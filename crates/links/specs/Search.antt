@@ -6,7 +6,7 @@ use mathlib.Core.List.{List}
 use mathlib.Core.Bool.{Bool, true, false, cond}
 use lib.ListN.{length, getD, set}
 use lib.Dec.{eqb, ltb}
-use Rattle.links.specs.Links.{columnOf, firstOf, endOf, copiesOf, atCopies, Matrix}
+use Rattle.links.specs.Links.{columnOf, firstOf, endOf, sizeOf, copiesOf, atCopies, Matrix}
 use Rattle.links.specs.Cover.{tally, here, Reduced, Holds, Open, runTo}
 
 -- none of the n nodes from a on is in column j
@@ -43,6 +43,10 @@ least f (suc n) = cond (better (f n) (least f n)) (f n) (least f n)
 unfoldable pub pivot : (ℕ → ℕ) → ℕ → ℕ
 pivot f zero = 4096
 pivot f (suc n) = cond (better (f n) (least f n)) n (pivot f n)
+
+-- column j has a row that is still possible
+abbrev pub hasRow : List ℕ → ℕ → Bool
+hasRow m j = ltb 0 (sizeOf m j)
 
 -- a row's first node is its kind's, the others are its cells'
 pub record Shape (t : Matrix) (cells : ℕ) : Type 0 where

@@ -5,10 +5,10 @@ ghost use mathlib.Core.List.{List};
 ghost use Prim.Native.Nat.{ℕ, _+_, _-_, _≤_, _<_};
 ghost use lib.ListN.{length, getD};
 ghost use lib.Dec.{eqb};
-ghost use Rattle.links.specs.Search.{better, pivot, Seek, Shape, spent, regained, Takes, Gives, Sized, Selectable, Selected, selected, firstCovered};
+ghost use Rattle.links.specs.Search.{better, hasRow, pivot, Seek, Shape, spent, regained, Takes, Gives, Sized, Selectable, Selected, selected, firstCovered};
 ghost use Rattle.links.specs.Links.{down, columnOf, firstOf, endOf, sizeOf, copiesOf, rowNumber, Still, unlink as unlinked, relink as relinked, Matrix, LawfulMatrix, Fields};
 ghost use Rattle.links.specs.Build.{headed, inserted, linkLast, Joinable, Headed, Partial, Linkable, Posed, Stocked, whole, everyColumn};
-ghost use Rattle.links.specs.Cover.{Linked, dec, inc, One, Back, hideOne, showOne, Reduced, Holds, Hidable, Hidden, hide, Coverable, Covered, Open, cover, Run, Runnable, Ran, runTo};
+ghost use Rattle.links.specs.Cover.{Linked, dec, inc, One, Back, hideOne, showOne, Reduced, Holds, Hidable, Hidden, hide, Coverable, Covered, Open, cover, Run, Runnable, Ran, runTo, tally};
 
 // The node above a node in its column's ring.
 pub const UP: usize = 0;
@@ -220,6 +220,25 @@ pub fn choose_column(links: &[u16], cells: usize) -> usize
         i += 1;
     }
     at
+}
+
+// How many of the columns below `cells` have a possible row.
+pub fn open_columns(links: &[u16], cells: usize) -> usize
+    requires { ⌜ 32768 ≤ length (now links) ⌝ }
+    requires { ⌜ cells ≤ 4096 ⌝ }
+    ensures { λ r. ⌜ r ≡ tally (hasRow (now (links .entry))) cells ⌝ }
+{
+    let mut count = 0;
+    let mut i = 0;
+    while i < cells {
+        // `count` of the columns below i have a row
+        let n = wide(links[8 * i + SIZE]);
+        if 0 < n {
+            count += 1;
+        }
+        i += 1;
+    }
+    count
 }
 
 // Takes a copy of the kind whose column the node x, the first of a row, is in. The result is the

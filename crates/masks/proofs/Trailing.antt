@@ -1,15 +1,15 @@
 -- The first number that a mask leaves open, by a count of trailing zeros. Assumes nothing.
 use mathlib.Core.Path.{_≡_, refl, sym, ap, _∙_}
-use mathlib.Core.Bool.{Bool, true, false, not}
+use mathlib.Core.Bool.{Bool, true, false, not, true≢false}
 use mathlib.Core.Logic.{_⊎_, inl, inr, ⊎-elim}
 use Prim.Native.Nat.{ℕ, zero, suc, _+_, _-_, _*_, _/_, _%_, _^_, _≤_, _<_}
-use native.Mathlib.Nat.{div-one, pow-suc, add-mul, one-mul, mod-lt}
+use native.Mathlib.Nat.{zero-div, div-one, div-eq-of-lt, pow-suc, add-mul, one-mul, mod-lt, lt-of-lt-of-le}
 use native.Mathlib.Omega.{arith}
 use lib.Count.{under, trailingZeros, trailing-le}
-use lib.Pow.{pow-pos, pow-add, shr-shr, shr-lt, split, high}
+use lib.Pow.{pow-pos, pow-add, pow-mono, shr-shr, shr-le, shr-lt, split, high}
 use Rattle.lists.proofs.TestLaws.{lt-or-ge}
 use Rattle.masks.specs.Masks.{hit, hit2, FirstOpen, FirstIn}
-use Rattle.masks.proofs.MaskLaws.{hit-no, hit-yes, hit2-low, hit2-high}
+use Rattle.masks.proofs.MaskLaws.{hit-no, hit-yes, hit-zero, hit2-low, hit2-high, same-word}
 
 -- ---- the digits below the lowest set digit, and that digit
 next-bit : (x i : ℕ) → x / 2 / 2 ^ i ≡ x / 2 ^ suc i
@@ -155,3 +155,38 @@ first-in a b n r low high f =
       passed = λ k g l. not-back _ _ (hit2-flipped a b k low high (omega (arith, f .upTo))) true (f .passed k g l);
       stops = λ l. not-back _ _ (hit2-flipped a b r low high l) false (f .stops l);
     }
+
+-- ---- the numbers of a word one after the other: what is left of it from i on, shifted down, counts up to the next
+module _ (word i : ℕ) (small : word < 2 ^ 64) where
+  shifted : (j : ℕ) → i ≤ j → word / 2 ^ i / 2 ^ (j - i) ≡ word / 2 ^ j
+  shifted j h = let e : i + (j - i) ≡ j = omega arith in rw e at (shr-shr word i (j - i))
+
+  pub word-passed : (j : ℕ) → i ≤ j → j < i + trailingZeros 64 (word / 2 ^ i) → hit word j ≡ false
+  word-passed j h l = hit-no word j (rw (← shifted j h) (below-trailing 64 (word / 2 ^ i) (j - i) (omega arith)))
+
+  pub word-done : word / 2 ^ i ≡ 0 → (j : ℕ) → i ≤ j → hit word j ≡ false
+  word-done e j h = hit-no word j (rw (← shifted j h, e, zero-div (2 ^ (j - i))))
+
+  module _ (some : word / 2 ^ i ≡ 0 → ⊥) where
+    pub word-some : trailingZeros 64 (word / 2 ^ i) < 64
+    word-some = ⊎-elim (λ (l : trailingZeros 64 (word / 2 ^ i) < 64). l) (λ (l : 64 ≤ trailingZeros 64 (word / 2 ^ i)). absurd (some (empty l))) (lt-or-ge (trailingZeros 64 (word / 2 ^ i)) 64)
+      where
+        empty : 64 ≤ trailingZeros 64 (word / 2 ^ i) → word / 2 ^ i ≡ 0
+        empty l =
+            same-word 64 (word / 2 ^ i) 0 (let h = shr-le word i in omega arith) (pow-pos 64)
+            (λ k u. hit-no (word / 2 ^ i) k (below-trailing 64 (word / 2 ^ i) k (omega arith)) ∙ sym (hit-zero k))
+
+    pub word-hit : hit word (i + trailingZeros 64 (word / 2 ^ i)) ≡ true
+    word-hit =
+        let b = at-trailing 64 (word / 2 ^ i) word-some in
+        let e = shr-shr word i (trailingZeros 64 (word / 2 ^ i)) in
+        hit-yes word (i + trailingZeros 64 (word / 2 ^ i)) (λ z. let y : _≡_ {A = ℕ} 0 1 = sym z ∙ ap (λ (x : ℕ). x % 2) (sym e) ∙ b in omega arith)
+
+    pub word-within : i + trailingZeros 64 (word / 2 ^ i) < 64
+    word-within = ⊎-elim (λ (l : i + trailingZeros 64 (word / 2 ^ i) < 64). l) (λ (l : 64 ≤ i + trailingZeros 64 (word / 2 ^ i)). absurd (true≢false (sym word-hit ∙ past l))) (lt-or-ge (i + trailingZeros 64 (word / 2 ^ i)) 64)
+      where
+        past : 64 ≤ i + trailingZeros 64 (word / 2 ^ i) → hit word (i + trailingZeros 64 (word / 2 ^ i)) ≡ false
+        past l = hit-no word (i + trailingZeros 64 (word / 2 ^ i)) (rw (div-eq-of-lt (lt-of-lt-of-le small (pow-mono {i = 64} {j = i + trailingZeros 64 (word / 2 ^ i)} l))))
+
+  pub word-next : (t : ℕ) → word / 2 ^ i / 2 ^ t / 2 ^ 1 ≡ word / 2 ^ (i + t + 1)
+  word-next t = ap (λ (x : ℕ). x / 2 ^ 1) (shr-shr word i t) ∙ shr-shr word (i + t) 1

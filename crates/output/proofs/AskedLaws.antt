@@ -9,8 +9,8 @@ use Rattle.definitions.specs.Placements.{compile}
 use Rattle.definitions.specs.Refusals.{Call, Row, firstThatApplies, refusal}
 use Rattle.definitions.specs.declared.Config.{Config}
 use Rattle.definitions.specs.declared.Record.{Record}
-use Rattle.placements.specs.declared.Table.{Table}
-use Rattle.placements.specs.Tables.{recordsOf, trayIn, tableOf}
+use Rattle.placements.specs.declared.Pieces.{Pieces}
+use Rattle.placements.specs.Pieces.{recordsOf, trayIn, piecesOf}
 use Rattle.placements.specs.Stages.{lentRows, configRows, sliceRows, countRows}
 use Rattle.placements.proofs.StageLaws.{refusal-stages}
 use Rattle.definitions.specs.Starts.{outcomeFrom}
@@ -22,11 +22,11 @@ use Rattle.solver.proofs.RecordLaws.{outcome-same}
 abbrev pub callFor : List ℕ → List ℕ → List ℕ → List ℕ → Call
 callFor text answers work links = callWith (callIn text 0 0 .pieces) (callIn text 0 0 .board) (callIn text 0 0 .bytes) (callIn text 0 0 .config) answers work links
 
-module _ (text bytes : List ℕ) (t : Table) (board : Record) (config : Config)
-    (pieces-said : t ≡ tableOf (callIn text 0 0 .pieces)) (board-said : board ≡ callIn text 0 0 .board) (config-said : config ≡ callIn text 0 0 .config)
+module _ (text bytes : List ℕ) (t : Pieces) (board : Record) (config : Config)
+    (pieces-said : t ≡ piecesOf (callIn text 0 0 .pieces)) (board-said : board ≡ callIn text 0 0 .board) (config-said : config ≡ callIn text 0 0 .config)
     (lent : bytes ≡ callIn text 0 0 .bytes) (answers work links : List ℕ) where
   call-said : callWith (recordsOf t) board bytes config answers work links
-      ≡ callWith (recordsOf (tableOf (callIn text 0 0 .pieces))) (callIn text 0 0 .board) (callIn text 0 0 .bytes) (callIn text 0 0 .config) answers work links
+      ≡ callWith (recordsOf (piecesOf (callIn text 0 0 .pieces))) (callIn text 0 0 .board) (callIn text 0 0 .bytes) (callIn text 0 0 .config) answers work links
   call-said = (λ i. callWith (recordsOf (pieces-said i)) (board-said i) (lent i) (config-said i) answers work links)
 
   pub asked-outcome : (start : Start) (last : List ℕ)

@@ -20,7 +20,7 @@ use Rattle.definitions.specs.declared.Record.{Record}
 use Rattle.definitions.specs.declared.Listing.the-variants as listing
 use Rattle.definitions.specs.declared.Refusal.{Refusal}
 use Rattle.definitions.proofs.RefusalLaws.{board-sides, outcome-refused}
-use Rattle.placements.specs.Tables.{recordsOf}
+use Rattle.placements.specs.Pieces.{recordsOf}
 use Rattle.placements.proofs.CountingLaws.{refused-some}
 use Rattle.solver.specs.Lent.{callWith}
 use Rattle.definitions.specs.Starts.{outcomeFrom}

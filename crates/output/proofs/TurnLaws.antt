@@ -13,7 +13,7 @@ use Rattle.definitions.specs.Outcomes.{answerSize, outcome, outcomeOf}
 use Rattle.definitions.specs.Refusals.{Call, refusal, sidesOf, lentOf, trayOf}
 use Rattle.definitions.specs.declared.Listing.the-variants as listing
 use Rattle.definitions.specs.declared.Refusal.{Refusal}
-use Rattle.placements.specs.Tables.{recordsOf}
+use Rattle.placements.specs.Pieces.{recordsOf}
 use Rattle.solver.specs.Lent.{callWith}
 use Rattle.definitions.specs.Starts.{outcomeFrom, skipping}
 use Rattle.definitions.specs.declared.Start.the-variants.{Behind}

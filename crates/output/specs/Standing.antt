@@ -1,10 +1,10 @@
 -- How far a listing is, and what stands in the lent slices then.
-use Prim.Native.Nat.{ℕ, _+_, _*_, _<_, _≤_}
+use Prim.Native.Nat.{ℕ, _+_, _*_, _/_, _<_, _≤_, min}
 use mathlib.Core.Bool.{true, cond}
 use mathlib.Core.List.{List, _++_}
 use mathlib.Core.Logic.{_⊎_}
 use mathlib.Core.Path.{_≡_}
-use lib.Dec.{leb, ltb}
+use lib.Dec.{ltb}
 use lib.ListN.{length, take, drop}
 use Rattle.definitions.specs.Files.{callIn}
 use Rattle.definitions.specs.Grid.{volume}
@@ -13,8 +13,8 @@ use Rattle.definitions.specs.Refusals.{identifyOf, refusal, sidesFit, sidesOf, 
 use Rattle.definitions.specs.declared.Config.{Config}
 use Rattle.definitions.specs.declared.Record.{Record}
 use Rattle.definitions.specs.declared.Listing.{Listing}
-use Rattle.placements.specs.declared.Table.{Table}
-use Rattle.placements.specs.Tables.{recordsOf, tableOf}
+use Rattle.placements.specs.declared.Pieces.{Pieces}
+use Rattle.placements.specs.Pieces.{recordsOf, piecesOf}
 use Rattle.solver.specs.Lent.{callWith}
 use Rattle.definitions.specs.Starts.{outcomeFrom}
 use Rattle.definitions.specs.declared.Start.the-variants.{Entry, Behind}
@@ -24,7 +24,7 @@ use Rattle.output.specs.declared.Progress.{Progress}
 
 -- what a text asks for was read of it, its cells stand at the start of a slice, and the work words and links are as many as document 01 has them
 pub record IsRead (text : List ℕ) (asked : Asked) (cells work links : List ℕ) : Type 0 where
-  pub piecesAre : asked .pieces ≡ tableOf (callIn text 0 0 .pieces)
+  pub piecesAre : asked .pieces ≡ piecesOf (callIn text 0 0 .pieces)
   pub boardIs : asked .board ≡ callIn text 0 0 .board
   pub configIs : asked .config ≡ callIn text 0 0 .config
   pub usedFew : asked .used ≤ length cells
@@ -58,16 +58,16 @@ pub record Scratch (work links work' links' : List ℕ) : Type 0 where
   pub workThen : (work' ≡ work) ⊎ (work' ≡ cleared 8192 work)
   pub linksThen : (links' ≡ links) ⊎ (links' ≡ cleared 32768 links)
 
--- room for twice as many entries of a size, where they fit a buffer
+-- room for eight times as many entries of a size, or for as many as fit a buffer
 abbrev pub grownRoom : ℕ → ℕ → ℕ → ℕ
-grownRoom room size len = cond (leb (2 * room * size) len) (2 * room) room
+grownRoom room size len = min (8 * room) (len / size)
 
 -- how many cells a board's box has, and 0 where a side is out of range
 unfoldable pub placesOf : Record → ℕ
 placesOf board = cond (sidesFit board) (volume (sidesOf board)) 0
 
 -- the page call behind the last of the answers that stand in a buffer, over the start of that buffer
-pub record PageAfter (t : Table) (board : Record) (bytes : List ℕ) (config : Config) (size written room : ℕ) (answers work links : List ℕ)
+pub record PageAfter (t : Pieces) (board : Record) (bytes : List ℕ) (config : Config) (size written room : ℕ) (answers work links : List ℕ)
     (r : Listing) (answers' work' links' : List ℕ) : Type 0 where
   pub page : List ℕ
   pub outcomeIs : outcomeOf r page work' links'

@@ -1,5 +1,5 @@
 // The pages of a listing: each begins behind the last entry of the one before it, so that nothing is searched twice, and has room for
-// twice as many entries, up to what fits the buffer.
+// eight times as many entries, or for as many as fit the buffer.
 ghost use mathlib.Core.Path.{_≡_};
 ghost use mathlib.Core.Bool.{true};
 ghost use Prim.Native.Nat.{_+_, _*_, _≤_, _<_};
@@ -13,22 +13,22 @@ use definitions::Record;
 use definitions::Start;
 use definitions::refusal_number;
 use files::reading::Asked;
-use placements::Table;
+use placements::Pieces;
 use placements::records;
 use solver::pages;
 
-// Room for twice as many entries, where they fit.
+// Room for eight times as many entries, or for as many as fit.
 fn grown(room: usize, size: usize, len: usize) -> usize
     requires { ⌜ (1 ≤ size) × (room * size ≤ len) × (len < 4611686018427387904) ⌝ }
     ensures { λ r. ⌜ (r ≡ grownRoom room size len) × (room ≤ r) × (r * size ≤ len) ⌝ }
 {
-    let twice = 2 * room * size;
-    if twice <= len { 2 * room } else { room }
+    let fit = len / size;
+    if room <= fit / 8 { 8 * room } else { fit }
 }
 
 // The page behind the answer in a place of the answer buffer, over the start of that buffer.
 fn page_after(
-    t: Table,
+    t: Pieces,
     board: Record,
     bytes: &[u8],
     config: Config,

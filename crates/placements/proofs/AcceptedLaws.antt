@@ -12,8 +12,8 @@ use Rattle.definitions.specs.Refusals.{Row, placementCount, firstThatApplies}
 use Rattle.definitions.specs.declared.Record.{Record}
 use Rattle.definitions.specs.declared.Config.{Config}
 use Rattle.definitions.proofs.RefusalLaws.{none-first, none-applies}
-use Rattle.placements.specs.declared.Table.{Table}
-use Rattle.placements.specs.Tables.{recordsOf, trayIn}
+use Rattle.placements.specs.declared.Pieces.{Pieces}
+use Rattle.placements.specs.Pieces.{recordsOf, trayIn}
 use Rattle.placements.specs.Stages.{lentRows, gridRows, configRows, sliceRows, countRowsBy, countRows}
 use Rattle.placements.specs.Counting.{Accepted9}
 
@@ -35,7 +35,7 @@ pub placements-few : (c : Compiled) (config : Config) → firstThatApplies (coun
 unfolding countRows countRowsBy
 placements-few c config e = ltb-false 1024 (placementCount c) (none-applies (countRows c config) tt e 14)
 
-module _ (t : Table) (board : Record) (bytes : List ℕ) (config : Config) (work links : ℕ) where
+module _ (t : Pieces) (board : Record) (bytes : List ℕ) (config : Config) (work links : ℕ) where
   abbrev lent : List Row
   lent = lentRows (recordsOf t) board bytes
 

@@ -43,10 +43,10 @@ use Rattle.shape.specs.Places.{cellAt}
 use Rattle.shape.specs.Variants.{turnedBy, Numbers}
 use Rattle.shape.proofs.PlaceLaws.{place-lt, place-of-cell, volume-small}
 use Rattle.shape.proofs.VariantLaws.{variant-filled, scan-from}
-use Rattle.placements.specs.declared.Table.{Table}
+use Rattle.placements.specs.declared.Pieces.{Pieces}
 use Rattle.placements.specs.declared.Verdict.{Verdict}
 use Rattle.placements.specs.declared.Verdict.the-variants.{Refused}
-use Rattle.placements.specs.Tables.{noRecord, listed, recordsOf, lentIn, trayIn}
+use Rattle.placements.specs.Pieces.{noRecord, lentRecords, recordsOf, lentIn, trayIn}
 use Rattle.placements.specs.Stages.{verdictNumber, lentRows, gridRows, configRows, sliceRows, countRowsBy, countRows}
 use Rattle.placements.specs.Merging.{Sound, gridAt, shapeAt, formAt, formsOf, AreKinds, copiesAt}
 use Rattle.placements.specs.Counting.{fitsIn, placementsIn, OnBoard, Accepted9, CountsOf, VariantsAt, PutVariants, Counted}
@@ -226,7 +226,7 @@ pub refused-not : (v : Verdict) {why : Refusal} → v ≡ Refused why → verdic
 refused-not v {why} r e = refused-some why (sym (ap verdictNumber r) ∙ e)
 
 -- the table in its four parts: the first part of which a row applies decides, among the three that are told without counting, and then the counts
-module _ (t : Table) (board : Record) (bytes : List ℕ) (config : Config) (work links : ℕ) where
+module _ (t : Pieces) (board : Record) (bytes : List ℕ) (config : Config) (work links : ℕ) where
   abbrev lent : List Row
   lent = lentRows (recordsOf t) board bytes
 
@@ -278,20 +278,20 @@ pub count-rows : {c : Compiled} {r : Counts} (config : Config) → CountsOf c r 
 unfolding countRows
 count-rows config h = ap₂ (λ (a b : ℕ). countRowsBy a b config) (h .placements) (h .links)
 
--- ---- what rows 2 to 9 leave: their bounds, and so few records that the table lists them all
-pub record Lent (t : Table) (board : Record) (bytes : List ℕ) : Type 0 where
-  pub few : t .n ≤ 16
+-- ---- what rows 2 to 9 leave: their bounds, and so few records that the pieces have them all
+pub record Lent (t : Pieces) (board : Record) (bytes : List ℕ) : Type 0 where
+  pub few : t .count ≤ 16
   pub passed : PassedLent (recordsOf t) board bytes (lentIn (recordsOf t) board bytes)
 
-few-records : (t : Table) → length (recordsOf t) ≤ 16 → t .n ≤ 16
+few-records : (t : Pieces) → length (recordsOf t) ≤ 16 → t .count ≤ 16
 unfolding recordsOf
-few-records t = go (leb (t .n) 16) refl
+few-records t = go (leb (t .count) 16) refl
   where
-    go : (b : Bool) → leb (t .n) 16 ≡ b → length (listed b t) ≤ 16 → t .n ≤ 16
-    go true e h = leb-true (t .n) 16 e
-    go false e h = let k = length-replicate (t .n) noRecord in omega arith
+    go : (b : Bool) → leb (t .count) 16 ≡ b → length (lentRecords b t) ≤ 16 → t .count ≤ 16
+    go true e h = leb-true (t .count) 16 e
+    go false e h = let k = length-replicate (t .count) noRecord in omega arith
 
-pub lent-passes : (t : Table) (board : Record) (bytes : List ℕ) → Accepted9 t board bytes → Lent t board bytes
+pub lent-passes : (t : Pieces) (board : Record) (bytes : List ℕ) → Accepted9 t board bytes → Lent t board bytes
 unfolding Accepted9 lentRows gridRows
 lent-passes t board bytes ok =
     let rs = recordsOf t in
@@ -301,13 +301,13 @@ lent-passes t board bytes ok =
 
 -- ---- a tray's counts by a piece of each kind
 -- the placements of piece i on a board, and the links of their rows
-abbrev pub placementsAtPiece : List ℕ → Grid → Table → List ℕ → ℕ → ℕ
+abbrev pub placementsAtPiece : List ℕ → Grid → Pieces → List ℕ → ℕ → ℕ
 placementsAtPiece order g t bytes i = placementsIn order g (gridAt t bytes i)
 
-abbrev pub linksAtPiece : List ℕ → Grid → Table → List ℕ → ℕ → ℕ
+abbrev pub linksAtPiece : List ℕ → Grid → Pieces → List ℕ → ℕ → ℕ
 linksAtPiece order g t bytes i = cond (ltb 0 (copiesAt t bytes i)) (placementsAtPiece order g t bytes i * (1 + howMany (eqb 1) (gridAt t bytes i .cells))) 0
 
-module _ (t : Table) (board : Record) (bytes : List ℕ) (l : Lent t board bytes) where
+module _ (t : Pieces) (board : Record) (bytes : List ℕ) (l : Lent t board bytes) where
   pub sound : Sound t bytes
   sound =
       record {
@@ -337,32 +337,32 @@ module _ (t : Table) (board : Record) (bytes : List ℕ) (l : Lent t board bytes
   abbrev order : List ℕ
   order = axes (gridOf bytes board .sides)
 
-  module _ (long : length (t .rows) ≡ 16) where
-    piece-size : (i : ℕ) → i < t .n → length (gridAt t bytes i .cells) ≡ volume (gridAt t bytes i .sides)
+  module _ (long : length (t .records) ≡ 16) where
+    piece-size : (i : ℕ) → i < t .count → length (gridAt t bytes i .cells) ≡ volume (gridAt t bytes i .sides)
     unfolding gridAt
-    piece-size i h = grid-size (getD (t .rows) i noRecord) (record-passes t (l .few) long i h (cellsLie bytes) (sound .lie))
+    piece-size i h = grid-size (getD (t .records) i noRecord) (record-passes t (l .few) long i h (cellsLie bytes) (sound .lie))
 
-    placements-at : (i : ℕ) → i < t .n → placementsBy tray (shapeAt t bytes i) ≡ placementsAtPiece order (gridOf bytes board) t bytes i
+    placements-at : (i : ℕ) → i < t .count → placementsBy tray (shapeAt t bytes i) ≡ placementsAtPiece order (gridOf bytes board) t bytes i
     unfolding placementsIn shapeAt
     placements-at i h = ap (fitsIn order (gridOf bytes board)) (variants-smallest (gridAt t bytes i) (piece-size i h))
 
-    placements-by : (i : ℕ) → i < t .n → placementsBy tray (formAt t bytes i .grid) ≡ placementsAtPiece order (gridOf bytes board) t bytes i
+    placements-by : (i : ℕ) → i < t .count → placementsBy tray (formAt t bytes i .grid) ≡ placementsAtPiece order (gridOf bytes board) t bytes i
     unfolding formAt
     placements-by i h = placements-at i h
 
-    links-at : (i : ℕ) → i < t .n → linksBy tray (formAt t bytes i) ≡ linksAtPiece order (gridOf bytes board) t bytes i
+    links-at : (i : ℕ) → i < t .count → linksBy tray (formAt t bytes i) ≡ linksAtPiece order (gridOf bytes board) t bytes i
     unfolding copiesAt sorted formAt shapeAt
     links-at i h =
         ap₂ {C = ℕ} (λ (a b : ℕ). cond (ltb 0 (copiesAt t bytes i)) (a * b) 0) (placements-at i h)
         (let e = filled-smallest (gridAt t bytes i) in let f = filled-bytes (gridAt t bytes i) (piece-size i h) in omega arith)
 
     module _ (first : List ℕ) (n : ℕ) (are : AreKinds t bytes first n) where
-      sum-kinds : (f : Form → ℕ) (g : ℕ → ℕ) → ((i : ℕ) → i < t .n → f (formAt t bytes i) ≡ g i) → sum (map f (forms (sorted tray))) ≡ sum (map g (take n first))
+      sum-kinds : (f : Form → ℕ) (g : ℕ → ℕ) → ((i : ℕ) → i < t .count → f (formAt t bytes i) ≡ g i) → sum (map f (forms (sorted tray))) ≡ sum (map g (take n first))
       unfolding formsOf sorted
       sum-kinds f g e =
           ap (λ (fs : List Form). sum (map f fs)) (sym (are .formsAre))
           ∙ ap sum (map-map f (formAt t bytes) (take n first) ∙ map-same (λ i. f (formAt t bytes i)) g (take n first)
-          (λ i m. e i (ltb→lt i (t .n) (all-at (λ (j : ℕ). ltb j (t .n)) (take n first) (are .ordered .pieces) m))))
+          (λ i m. e i (ltb→lt i (t .count) (all-at (λ (j : ℕ). ltb j (t .count)) (take n first) (are .ordered .pieces) m))))
 
       pub placements-by-pieces : placementCount (compile (lentIn (recordsOf t) board bytes))
           ≡ sum (map (placementsAtPiece (axes (gridOf bytes board .sides)) (gridOf bytes board) t bytes) (take n first))
@@ -378,7 +378,7 @@ module _ (t : Table) (board : Record) (bytes : List ℕ) (l : Lent t board bytes
           (sum-kinds (linksBy tray) (linksAtPiece order (gridOf bytes board) t bytes) links-at)
 
 -- the kinds of a tray, given by a piece of each: their shapes are the pieces' smallest turned grids, and they are as many
-module _ (t : Table) (board : Record) (bytes first : List ℕ) (n : ℕ) (are : AreKinds t bytes first n) where
+module _ (t : Pieces) (board : Record) (bytes first : List ℕ) (n : ℕ) (are : AreKinds t bytes first n) where
   pub kinds-shapes : map (λ d. d .shape) (kindsOf (lentIn (recordsOf t) board bytes)) ≡ map (shapeAt t bytes) (take n first)
   unfolding kindsOf sorted formsOf formAt
   kinds-shapes =
@@ -390,7 +390,7 @@ module _ (t : Table) (board : Record) (bytes first : List ℕ) (n : ℕ) (are : 
       sym (length-map (kindsOf (lentIn (recordsOf t) board bytes)) (λ d. d .shape)) ∙ ap length kinds-shapes ∙ length-map (take n first) (shapeAt t bytes) ∙ length-take-le n first h
 
 -- the links of piece i as the code counts them
-module _ (order : List ℕ) (g : Grid) (t : Table) (bytes : List ℕ) (i rows copies : ℕ) (r : rows ≡ placementsAtPiece order g t bytes i) (m : copies ≡ copiesAt t bytes i) where
+module _ (order : List ℕ) (g : Grid) (t : Pieces) (bytes : List ℕ) (i rows copies : ℕ) (r : rows ≡ placementsAtPiece order g t bytes i) (m : copies ≡ copiesAt t bytes i) where
   pub links-some : (f : ℕ) → f ≡ howMany (eqb 1) (gridAt t bytes i .cells) → 0 < copies → linksAtPiece order g t bytes i ≡ rows * (1 + f)
   links-some f e h =
       ap {B = ℕ} (λ (b : Bool). cond b (placementsAtPiece order g t bytes i * (1 + howMany (eqb 1) (gridAt t bytes i .cells))) 0)
@@ -507,7 +507,7 @@ module _ (order : List ℕ) (g : Grid) (places : List ℕ) (n : ℕ) (is : axes 
           subst (λ (k : ℕ). k < volume (g .sides)) (place-of-cell (g .sides) i) (place-lt (g .sides) (cellAt (g .sides) i) b)
 
 -- the counts of a tray from what the code adds up, a piece of each kind
-module _ (t : Table) (board : Record) (bytes : List ℕ) (l : Lent t board bytes) (long : length (t .rows) ≡ 16) (first : List ℕ) (kinds : ℕ) (are : AreKinds t bytes first kinds)
+module _ (t : Pieces) (board : Record) (bytes : List ℕ) (l : Lent t board bytes) (long : length (t .records) ≡ 16) (first : List ℕ) (kinds : ℕ) (are : AreKinds t bytes first kinds)
     (h : kinds ≤ length first) (order places : List ℕ) (n : ℕ) (on : OnBoard order (gridOf bytes board) places n) (g : Grid) (is : g ≡ gridOf bytes board) where
   pub placements-counted : sum (map (placementsAtPiece order g t bytes) (take kinds first)) ≡ placementCount (compile (lentIn (recordsOf t) board bytes))
   placements-counted =
@@ -528,8 +528,8 @@ counts-unframed t {s} {r} e h =
     record { placements = k .placements; links = k .links }
 
 -- so what is counted of a stripped tray are the counts of the tray that is listed
-pub counts-stripped : (t : Table) (board : Record) (bytes : List ℕ) {s : StrippedRecords} {cells places first numbers : List ℕ} {r : Counts}
-    → StripsTray t board bytes s cells → Counted (s .table) (s .board) cells places first numbers r → CountsOf (compile (trayIn (recordsOf t) board bytes)) r
+pub counts-stripped : (t : Pieces) (board : Record) (bytes : List ℕ) {s : StrippedRecords} {cells places first turnings : List ℕ} {r : Counts}
+    → StripsTray t board bytes s cells → Counted (s .pieces) (s .board) cells places first turnings r → CountsOf (compile (trayIn (recordsOf t) board bytes)) r
 counts-stripped t board bytes s c = counts-unframed (trayIn (recordsOf t) board bytes) (s .tray) (c .counts)
 
 -- ---- variants put into a slice

@@ -1,33 +1,33 @@
--- Numbering the places of a box, and the fit test place by place. Assumes nothing.
-use Prim.Native.Nat.{ℕ, suc, _+_, _-_, _≤_, _<_}
-use mathlib.Core.Bool.{Bool, true, false, cond, _&&_}
+-- Numbering the places of a box, and the fit test cell by cell. Assumes nothing.
+use Prim.Native.Nat.{ℕ, suc, _+_, _*_, _-_, _≤_, _<_}
+use mathlib.Core.Bool.{Bool, true, false, cond, not, _&&_}
 use mathlib.Core.List.{List, [], _∷_, map, List·Memᴰ, Memᴰ·cast}
 use mathlib.Core.Path.{_≡_, refl, sym, ap, ap₂, _∙_, subst}
 use native.Mathlib.Nat.{zero-add}
-use native.Mathlib.Numerals.{add-one}
 use native.Mathlib.Omega.{arith}
 use borrow.Author.Tests.{eqb-true, eqb-false, ltb-true, ltb-false}
 use lib.Dec.{T, eqb, ltb, leb, eqb→eq, ltb→lt, leb→le}
 use lib.ListN.{length, getD, take, drop, set, replicate, length-set, length-map, length-replicate, getD-replicate, drop-of-length-le}
 use lib.Seq.{drop-cons, length-take-le, getD-take, getD-set-same, getD-set-other, ext-getD}
-use Rattle.lists.specs.Lists.{consIf, keep, all, any, howMany, before, from, below}
+use Rattle.lists.specs.Lists.{all, any, sort, before, from, below}
 use Rattle.lists.proofs.TestLaws.{tests-same, and-left, and-right, is-false, eqb-of}
-use Rattle.lists.proofs.ListLaws.{all-at, all-of, any-at, any-of, all-getD, getD-map}
-use Rattle.lists.proofs.RangeLaws.{length-below, getD-number}
-use Rattle.definitions.specs.Grid.{Sides, Cell, Grid, InBox, volume, placeOf, byteAt, sameCell, filledCells}
-use Rattle.definitions.specs.Maps.{mapOf, mapGrid}
-use Rattle.definitions.specs.Scan.{scan, scanNumber}
+use Rattle.lists.proofs.ListLaws.{all-at, all-of, all-map, any-at, any-of, all-getD, getD-map}
+use Rattle.lists.proofs.RangeLaws.{length-below, getD-number, from-start}
+use Rattle.lists.proofs.SortLaws.{sort-at, sort-of}
+use Rattle.definitions.specs.Grid.{Sides, Cell, Grid, InBox, placeOf, byteAt, sameCell, filledCells}
+use Rattle.definitions.specs.Scan.{cellAhead, scan, scanNumber}
 use Rattle.definitions.specs.Placements.{origin, lies, reaches, fits}
 use Rattle.definitions.proofs.MapLaws.{filled-at, filled-of}
+use Rattle.definitions.proofs.ShapeLaws.{cells-tied}
 use Rattle.definitions.proofs.WellMadeLaws.{sameCell→eq, sameCell-refl}
 use Rattle.shape.specs.Places.{cellAt}
 use Rattle.shape.specs.Grids.{Decided}
 use Rattle.shape.specs.Scans.{IsOrder}
-use Rattle.shape.specs.Variants.{turnedBy}
 use Rattle.shape.proofs.PlaceLaws.{cell-at-place, place-of-cell}
-use Rattle.shape.proofs.GridLaws.{box-places}
 use Rattle.shape.proofs.VariantLaws.{scan-has, scan-from}
-use Rattle.placements.specs.Fitting.{fitsGrid}
+use Rattle.placements.specs.Poses.{cellOf, cellsIn, originIn, variantIn, Poses}
+use Rattle.placements.specs.Fitting.{fitsOn, fitsPose}
+use Rattle.placements.proofs.PoseLaws.{cells-numbered}
 
 -- ---- a box's cells
 pub box-test : (s : Sides) (u : Cell) → u .x < s .a → u .y < s .b → Decided (ltb (u .z) (s .c)) (InBox s u)
@@ -123,73 +123,58 @@ filled-out g u b = sym (is-false (any (sameCell u) (filledCells g)) (λ t. b (fi
 abbrev pub lands : Grid → Cell → Cell → Cell → Bool
 lands g v o u = any (sameCell (lies v o u)) (filledCells g)
 
-pub lands-as : (g : Grid) (v o : Cell) (r : Bool) (w u : Cell) (s t : Sides) (j : ℕ) → r ≡ any (sameCell w) (filledCells g) → w ≡ lies v o u → u ≡ cellAt s j → s ≡ t
-    → lands g v o (cellAt t j) ≡ r
-lands-as g v o r w u s t j d e f i = sym (d ∙ ap (λ (x : Cell). any (sameCell x) (filledCells g)) (e ∙ ap (lies v o) (f ∙ ap (λ (x : Sides). cellAt x j) i)))
+pub lands-as : (g : Grid) (v o : Cell) {p w u : Cell} (x : Cell) (r : Bool) → r ≡ any (sameCell w) (filledCells g) → w ≡ lies v p u → p ≡ o → u ≡ x → lands g v o x ≡ r
+lands-as g v o {p} x r d e f i = sym (d ∙ ap (λ (y : Cell). any (sameCell y) (filledCells g)) (e ∙ ap₂ (lies v) f i))
 
--- a test of the filled cells from place j on, n of them
-module _ (h : Grid) (p : Cell → Bool) where
-  abbrev pub passFrom : ℕ → ℕ → Bool
-  passFrom j n = all p (keep (λ u. eqb (byteAt h u) 1) (map (cellAt (h .sides)) (from j n)))
+-- the cells of a pose by their numbers: the test of cell k, and the fit test from cell k on
+abbrev pub landsAt : Grid → Cell → List ℕ → ℕ → ℕ → Bool
+landsAt g v poses i k = lands g v (originIn poses i) (cellOf (getD poses (512 * i + k) 0))
 
-  pub pass-all : all p (filledCells h) ≡ passFrom 0 (volume (h .sides))
-  unfolding filledCells
-  pass-all = ap (λ (l : List Cell). all p (keep (λ u. eqb (byteAt h u) 1) l)) (box-places (h .sides))
-
-  module _ (j v : ℕ) where
-    pub pass-end : v ≤ j → passFrom j (v - j) ≡ true
-    pass-end l = let e : v - j ≡ 0 = omega arith in rw e
-
-    pass-more : j < v
-        → passFrom j (v - j) ≡ all p (consIf (eqb (getD (h .cells) j 0) 1) (cellAt (h .sides) j) (keep (λ u. eqb (byteAt h u) 1) (map (cellAt (h .sides)) (from (j + 1) (v - (j + 1))))))
-    unfolding byteAt
-    pass-more l =
-        let e : v - j ≡ suc (v - (j + 1)) = omega arith in
-        rw (e, add-one j, place-of-cell (h .sides) j)
-
-    pub pass-fail : j < v → getD (h .cells) j 0 ≡ 1 → p (cellAt (h .sides) j) ≡ false → passFrom j (v - j) ≡ false
-    pass-fail l e f = pass-more l ∙ rw (e, f)
-
-    pub pass-on : j < v → (getD (h .cells) j 0 ≡ 1 → p (cellAt (h .sides) j) ≡ true) → passFrom j (v - j) ≡ passFrom (j + 1) (v - (j + 1))
-    pass-on l f = pass-more l ∙ go (eqb (getD (h .cells) j 0) 1) refl
-      where
-        go : (b : Bool) → eqb (getD (h .cells) j 0) 1 ≡ b
-            → all p (consIf b (cellAt (h .sides) j) (keep (λ u. eqb (byteAt h u) 1) (map (cellAt (h .sides)) (from (j + 1) (v - (j + 1)))))) ≡ passFrom (j + 1) (v - (j + 1))
-        go true e = rw (f (eqb-true (getD (h .cells) j 0) 1 e))
-        go false e = refl
-
-module _ (g h : Grid) (v o : Cell) where
-  pub fits-not : reaches v o ≡ false → false ≡ fitsGrid g v o h
-  unfolding fitsGrid
+module _ (g : Grid) (v : Cell) (poses : List ℕ) (size i : ℕ) where
+  pub fits-not : reaches v (originIn poses i) ≡ false → false ≡ fitsPose g v poses size i
+  unfolding fitsPose fitsOn
   fits-not e = rw e
 
-  pub fits-start : (n : ℕ) → reaches v o ≡ true → n ≡ volume (h .sides) → fitsGrid g v o h ≡ passFrom h (lands g v o) 0 n
-  unfolding fitsGrid
-  fits-start n e f = rw (e, f) (pass-all h (lands g v o))
+  pub fits-start : reaches v (originIn poses i) ≡ true → 512 * i + size ≤ length poses → fitsPose g v poses size i ≡ all (landsAt g v poses i) (from 0 (size - 0))
+  unfolding fitsPose fitsOn
+  fits-start e room =
+      rw e
+      (ap (all (lands g v (originIn poses i))) (cells-numbered poses size i room)
+      ∙ all-map (λ (k : ℕ). cellOf (getD poses (512 * i + k) 0)) (lands g v (originIn poses i)) (below size)
+      ∙ ap (all (landsAt g v poses i)) (sym (from-start size)))
 
--- the cells in scan order or place by place
-pub fits-scan : (order : List ℕ) → IsOrder order → (g h : Grid) (v : Cell) → fits (scan order g) v (scan order h) ≡ fitsGrid g v (origin (scan order h)) h
-unfolding fits fitsGrid
-fits-scan order o g h v =
-    ap (λ (b : Bool). reaches v (origin (scan order h)) && b)
-    (tests-same (all p (scan order h)) (all q (filledCells h))
-    (λ t. all-of q (filledCells h) (λ u m. subst T (same u) (all-at p (scan order h) t (scan-has order o h u m))))
-    (λ t. all-of p (scan order h) (λ u m. subst T (sym (same u)) (all-at q (filledCells h) t (scan-from order o h u m)))))
-  where
-    to : Cell → Cell
-    to u = lies v (origin (scan order h)) u
+-- cells in scan order or as they come
+module _ (order : List ℕ) (o : IsOrder order) where
+  pub tied : (u w : Cell) → T (not (cellAhead order u w)) → T (not (cellAhead order w u)) → u ≡ w
+  tied = subst (λ (l : List ℕ). (u w : Cell) → T (not (cellAhead l u w)) → T (not (cellAhead l w u)) → u ≡ w) (o .isIts) (cells-tied (o .box))
 
-    p : Cell → Bool
-    p u = any (sameCell (to u)) (scan order g)
+  module _ (g : Grid) (v : Cell) where
+    fits-cells : (us : List Cell) → fits (scan order g) v (sort (cellAhead order) us) ≡ fitsOn g v (origin (sort (cellAhead order) us)) us
+    unfolding fits fitsOn
+    fits-cells us =
+        ap (λ (b : Bool). reaches v (origin (sort (cellAhead order) us)) && b)
+        (tests-same (all p (sort (cellAhead order) us)) (all q us)
+        (λ t. all-of q us (λ u m. subst T (same u) (all-at p (sort (cellAhead order) us) t (sort-of (cellAhead order) tied us m))))
+        (λ t. all-of p (sort (cellAhead order) us) (λ u m. subst T (sym (same u)) (all-at q us t (sort-at (cellAhead order) us m)))))
+      where
+        to : Cell → Cell
+        to u = lies v (origin (sort (cellAhead order) us)) u
 
-    q : Cell → Bool
-    q u = any (sameCell (to u)) (filledCells g)
+        p : Cell → Bool
+        p u = any (sameCell (to u)) (scan order g)
 
-    same : (u : Cell) → p u ≡ q u
-    same u =
-        tests-same (p u) (q u)
-        (λ t. let r = any-at (sameCell (to u)) (scan order g) t in any-of (sameCell (to u)) (filledCells g) (scan-from order o g (r .0) (r .1)) (r .2))
-        (λ t. let r = any-at (sameCell (to u)) (filledCells g) t in any-of (sameCell (to u)) (scan order g) (scan-has order o g (r .0) (r .1)) (r .2))
+        q : Cell → Bool
+        q u = any (sameCell (to u)) (filledCells g)
+
+        same : (u : Cell) → p u ≡ q u
+        same u =
+            tests-same (p u) (q u)
+            (λ t. let r = any-at (sameCell (to u)) (scan order g) t in any-of (sameCell (to u)) (filledCells g) (scan-from order o g (r .0) (r .1)) (r .2))
+            (λ t. let r = any-at (sameCell (to u)) (filledCells g) t in any-of (sameCell (to u)) (scan order g) (scan-has order o g (r .0) (r .1)) (r .2))
+
+    pub fits-variant : (poses : List ℕ) (size n : ℕ) → Poses order poses size n → (i : ℕ) → i < n → fits (scan order g) v (variantIn order poses size i) ≡ fitsPose g v poses size i
+    unfolding fitsPose variantIn
+    fits-variant poses size n p i h = fits-cells (cellsIn poses size i) ∙ ap (λ (u : Cell). fitsOn g v u (cellsIn poses size i)) (sym (p .origins i h))
 
 pub scan-number-place : (s : Sides) (ps : List ℕ) (u : Cell) → InBox s u → scanNumber (map (cellAt s) ps) u ≡ before (eqb (placeOf s u)) ps
 unfolding scanNumber
@@ -199,17 +184,3 @@ scan-number-place s (p ∷ ps) u b =
     (tests-same (sameCell u (cellAt s p)) (eqb (placeOf s u) p) (λ t. eqb-of (ap (placeOf s) (sameCell→eq u (cellAt s p) t) ∙ place-of-cell s p))
     (λ t. subst (λ (w : Cell). T (sameCell u w)) (sym (cell-at-place s u b) ∙ ap (cellAt s) (eqb→eq (placeOf s u) p t)) (sameCell-refl u)))
     (scan-number-place s ps u b)
-
--- ---- how many turned grids fit
-abbrev pub fitsBy : List ℕ → Grid → Cell → Grid → ℕ → Bool
-fitsBy order g v h n = fits (scan order g) v (scan order (mapGrid (mapOf n) h))
-
-pub fits-by : (order : List ℕ) → IsOrder order → (g : Grid) (v : Cell) (h : Grid) (n : ℕ) (o : Cell) (r : Bool) → r ≡ fitsGrid g v o (mapGrid (mapOf n) h)
-    → o ≡ origin (scan order (mapGrid (mapOf n) h)) → fitsBy order g v h n ≡ r
-fits-by order i g v h n o r d e = fits-scan order i g (mapGrid (mapOf n) h) v ∙ sym (d ∙ ap (λ (u : Cell). fitsGrid g v u (mapGrid (mapOf n) h)) e)
-
-pub count-turned : (order : List ℕ) (g : Grid) (v : Cell) (h : Grid) (ns : List ℕ)
-    → howMany (fits (scan order g) v) (map (scan order) (turnedBy h ns)) ≡ howMany (fitsBy order g v h) ns
-unfolding turnedBy
-count-turned order g v h [] = refl
-count-turned order g v h (n ∷ ns) = ap (λ (k : ℕ). cond (fitsBy order g v h n) 1 0 + k) (count-turned order g v h ns)

@@ -1,4 +1,4 @@
--- Records and refusals: what fitting sides and cells that lie in the bytes tell, the records of a table by their places, and the rows of the table of
+-- Records and refusals: what fitting sides and cells that lie in the bytes tell, the records of pieces by their places, and the rows of the table of
 -- refusals as the code tests them. Assumes nothing.
 use Prim.Native.Nat.{ℕ, zero, suc, _+_, _-_, _≤_, _<_}
 use mathlib.Core.Bool.{Bool, true, false, cond, not, _&&_}
@@ -22,11 +22,11 @@ use Rattle.definitions.specs.declared.Record.{Record}
 use Rattle.shape.specs.Coords.{asSides, Fit}
 use Rattle.shape.specs.Grids.{asGrid, Whole}
 use Rattle.shape.specs.declared.Coord.{Coord}
-use Rattle.placements.specs.Tables.{noRecord, listed, recordsOf}
+use Rattle.placements.specs.Pieces.{noRecord, lentRecords, recordsOf}
 use Rattle.placements.specs.Stages.{gridRows}
-use Rattle.placements.specs.declared.Table.{Table}
-use Rattle.placements.proofs.Table as B
-use Rattle.placements.proofs.Table.Laws as B′
+use Rattle.placements.specs.declared.Pieces.{Pieces}
+use Rattle.placements.proofs.Pieces as B
+use Rattle.placements.proofs.Pieces.Laws as B′
 
 -- ---- a record's sides and cells
 side-small : (n : ℕ) → T (isSide n) → n ≤ 8
@@ -128,64 +128,64 @@ module _ (bytes : List ℕ) (r : Record) (cells : List ℕ) (e : cells ≡ gridO
   unfolding areBits
   cells-count n h b = sum-bits (gridOf bytes r .cells) (holds (all (λ n. leb n 1) (gridOf bytes r .cells)) b) ∙ ap (howMany (eqb 1)) (sym e) ∙ sym h
 
--- ---- the records of a table by their places. What owning the struct tells: its rows are 16.
-pub rows-long : (t : Table) → Is B.the-row t (LL.vals B.the-type B′.the-laws t) → length (t .rows) ≡ 16
-rows-long t g = sym (length-map (t .rows) _) ∙ LL.owed B.the-type B′.the-laws t _ g .0 .1 .0 .1
+-- ---- the records of pieces by their places. What owning the struct tells: its records are 16.
+pub records-long : (t : Pieces) → Is B.the-row t (LL.vals B.the-type B′.the-laws t) → length (t .records) ≡ 16
+records-long t g = sym (length-map (t .records) _) ∙ LL.owed B.the-type B′.the-laws t _ g .0 .1 .0 .1
 
-pub records-few : (t : Table) → t .n ≤ 16 → recordsOf t ≡ take (t .n) (t .rows)
+pub records-few : (t : Pieces) → t .count ≤ 16 → recordsOf t ≡ take (t .count) (t .records)
 unfolding recordsOf
-records-few t few = rw (le-leb (t .n) 16 few)
+records-few t few = rw (le-leb (t .count) 16 few)
 
-pub records-count : (t : Table) → length (t .rows) ≡ 16 → length (recordsOf t) ≡ t .n
+pub records-count : (t : Pieces) → length (t .records) ≡ 16 → length (recordsOf t) ≡ t .count
 unfolding recordsOf
-records-count t long = go (leb (t .n) 16) refl
+records-count t long = go (leb (t .count) 16) refl
   where
-    go : (b : Bool) → leb (t .n) 16 ≡ b → length (listed b t) ≡ t .n
-    go true e = let l = leb-true (t .n) 16 e in length-take-le (t .n) (t .rows) (omega arith)
-    go false e = length-replicate (t .n) noRecord
+    go : (b : Bool) → leb (t .count) 16 ≡ b → length (lentRecords b t) ≡ t .count
+    go true e = let l = leb-true (t .count) 16 e in length-take-le (t .count) (t .records) (omega arith)
+    go false e = length-replicate (t .count) noRecord
 
 -- record i, read in the rows
-module _ (t : Table) (few : t .n ≤ 16) (long : length (t .rows) ≡ 16) (i : ℕ) (h : i < t .n) where
+module _ (t : Pieces) (few : t .count ≤ 16) (long : length (t .records) ≡ 16) (i : ℕ) (h : i < t .count) where
   in-records : i < length (recordsOf t)
   in-records = let e = records-count t long in omega arith
 
-  record-at : getD (recordsOf t) i noRecord ≡ getD (t .rows) i noRecord
-  record-at = rw (records-few t few) (getD-take (t .n) (t .rows) i noRecord h)
+  record-at : getD (recordsOf t) i noRecord ≡ getD (t .records) i noRecord
+  record-at = rw (records-few t few) (getD-take (t .count) (t .records) i noRecord h)
 
-  pub records-from : drop i (recordsOf t) ≡ getD (t .rows) i noRecord ∷ drop (i + 1) (recordsOf t)
+  pub records-from : drop i (recordsOf t) ≡ getD (t .records) i noRecord ∷ drop (i + 1) (recordsOf t)
   records-from = rw (add-one, drop-cons (recordsOf t) i noRecord in-records, record-at)
 
-  pub record-passes : (p : Record → Bool) → T (all p (recordsOf t)) → T (p (getD (t .rows) i noRecord))
+  pub record-passes : (p : Record → Bool) → T (all p (recordsOf t)) → T (p (getD (t .records) i noRecord))
   record-passes p a = rw record-at at (all-getD p noRecord (recordsOf t) a i in-records)
 
 -- A loop over the records returns at the first that fails a test: those that are left decide.
-abbrev pub Left : (Record → Bool) → Table → ℕ → Type 0
-Left p t i = (i ≤ t .n) × (all p (drop i (recordsOf t)) ≡ all p (recordsOf t))
+abbrev pub Left : (Record → Bool) → Pieces → ℕ → Type 0
+Left p t i = (i ≤ t .count) × (all p (drop i (recordsOf t)) ≡ all p (recordsOf t))
 
-module _ (p : Record → Bool) (t : Table) (few : t .n ≤ 16) (long : length (t .rows) ≡ 16) (i : ℕ) (l : Left p t i) where
-  left-told : i < t .n → (b : Bool) → p (getD (t .rows) i noRecord) ≡ b → b && all p (drop (i + 1) (recordsOf t)) ≡ all p (recordsOf t)
+module _ (p : Record → Bool) (t : Pieces) (few : t .count ≤ 16) (long : length (t .records) ≡ 16) (i : ℕ) (l : Left p t i) where
+  left-told : i < t .count → (b : Bool) → p (getD (t .records) i noRecord) ≡ b → b && all p (drop (i + 1) (recordsOf t)) ≡ all p (recordsOf t)
   left-told h b e = ap (λ (x : Bool). x && all p (drop (i + 1) (recordsOf t))) (sym e) ∙ ap (all p) (sym (records-from t few long i h)) ∙ l .1
 
-  pub left-fails : i < t .n → p (getD (t .rows) i noRecord) ≡ false → false ≡ all p (recordsOf t)
+  pub left-fails : i < t .count → p (getD (t .records) i noRecord) ≡ false → false ≡ all p (recordsOf t)
   left-fails h e = left-told h false e
 
-  pub left-passes : i < t .n → p (getD (t .rows) i noRecord) ≡ true → Left p t (i + 1)
+  pub left-passes : i < t .count → p (getD (t .records) i noRecord) ≡ true → Left p t (i + 1)
   left-passes h e = (omega arith, left-told h true e)
 
-  pub left-ends : t .n ≤ i → true ≡ all p (recordsOf t)
+  pub left-ends : t .count ≤ i → true ≡ all p (recordsOf t)
   left-ends h =
       let e : length (recordsOf t) ≤ i = let n = records-count t long in omega arith in
       sym (ap (all p) (drop-of-length-le (recordsOf t) e)) ∙ l .1
 
 -- the copies of the records passed, and of those that are left
-abbrev pub copiesFrom : Table → ℕ → ℕ
+abbrev pub copiesFrom : Pieces → ℕ → ℕ
 copiesFrom t i = sum (map (λ q. q .count) (drop i (recordsOf t)))
 
-module _ (t : Table) (long : length (t .rows) ≡ 16) (i : ℕ) where
-  pub copies-next : t .n ≤ 16 → i < t .n → copiesFrom t i ≡ getD (t .rows) i noRecord .count + copiesFrom t (i + 1)
+module _ (t : Pieces) (long : length (t .records) ≡ 16) (i : ℕ) where
+  pub copies-next : t .count ≤ 16 → i < t .count → copiesFrom t i ≡ getD (t .records) i noRecord .count + copiesFrom t (i + 1)
   copies-next few h = rw (records-from t few long i h)
 
-  pub copies-end : t .n ≤ i → copiesFrom t i ≡ 0
+  pub copies-end : t .count ≤ i → copiesFrom t i ≡ 0
   copies-end h =
       let e : length (recordsOf t) ≤ i = let n = records-count t long in omega arith in
       ap (λ (l : List Record). sum (map (λ q. q .count) l)) (drop-of-length-le (recordsOf t) e)

@@ -4,7 +4,7 @@ use mathlib.Core.Path.{_≡_, refl, ap}
 use lib.ListN.{length}
 use Rattle.definitions.specs.Placements.{compile}
 use Rattle.definitions.specs.Refusals.{Call, lentOf, trayOf, table, refusal, firstThatApplies}
-use Rattle.placements.specs.Tables.{trayIn}
+use Rattle.placements.specs.Pieces.{trayIn}
 use Rattle.placements.specs.Stages.{gridRows, lentRows, configRows, sliceRows, countRowsBy, countRows}
 
 pub stages : (l : Call)

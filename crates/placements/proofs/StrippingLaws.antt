@@ -27,13 +27,13 @@ use Rattle.shape.specs.Coords.{asSides, asCell}
 use Rattle.shape.specs.Stripping.{StripsInto}
 use Rattle.shape.specs.declared.stripping.Window.{Window}
 use Rattle.shape.proofs.StrippingLaws.{strip-volume}
-use Rattle.placements.specs.declared.Table.{Table}
+use Rattle.placements.specs.declared.Pieces.{Pieces}
 use Rattle.placements.specs.declared.stripping.StrippedRecord.{StrippedRecord}
 use Rattle.placements.specs.declared.stripping.StrippedRecords.{StrippedRecords}
-use Rattle.placements.specs.Tables.{noRecord, recordsOf, framedIn, lentIn, trayIn}
+use Rattle.placements.specs.Pieces.{noRecord, recordsOf, framedIn, lentIn, trayIn}
 use Rattle.placements.specs.Stages.{gridRows, lentRows}
 use Rattle.placements.specs.Counting.{Accepted9}
-use Rattle.placements.specs.Stripping.{endOf, Before, StripsRecord, StripsPieces, StripsTray}
+use Rattle.placements.specs.Stripping.{endOf, Before, StripsRecord, StripsPieces, StripsTray, withGrid, withGrids}
 use Rattle.placements.proofs.RefusalLaws.{records-few, records-count}
 use Rattle.placements.proofs.FittingLaws.{place-in}
 use Rattle.placements.proofs.CountingLaws.{Lent, board-fits, grid-size, board-size}
@@ -82,18 +82,28 @@ module _ (old xs : List ℕ) (start : ℕ) (fits : start + length xs ≤ length 
       ap (λ (n : ℕ). take n (drop start new)) (sym e) ∙ sym (drop-take start (start + length xs) new)
       ∙ ap (drop start) front ∙ drop-at (take start old) (take (length xs) xs) start start-long ∙ take-length xs
 
+-- grids written one after the other, and one more
+grids-more : (qs : List Piece) (q : Piece) (old : List ℕ) (start : ℕ)
+    → withGrids old start (qs ++ (q ∷ [])) ≡ withGrid (withGrids old start qs) (start + 512 * length qs) (q .grid)
+unfolding withGrids
+grids-more [] q old start = let e : start ≡ start + 512 * 0 = omega arith in ap (λ (n : ℕ). withGrid old n (q .grid)) e
+grids-more (r ∷ qs) q old start =
+    let e : start + 512 + 512 * length qs ≡ start + 512 * suc (length qs) = omega arith in
+    grids-more qs q (withGrid old start (r .grid)) (start + 512) ∙ ap (λ (n : ℕ). withGrid (withGrids (withGrid old start (r .grid)) (start + 512) qs) n (q .grid)) e
+
 -- ---- one record
 module _ (bytes : List ℕ) (r : Record) (g : Grid) (is : g ≡ gridOf bytes r) (whole : length (g .cells) ≡ volume (g .sides)) (fit : T (sidesFit r)) where
   pub strips-record : (w : Window) (old new : List ℕ) (start : ℕ) → StripsInto g w old start new → start + 512 ≤ length old
       → StripsRecord bytes r
       (record { row = record { a = w .sides .0; b = w .sides .1; c = w .sides .2; count = r .count; wood = r .wood; start = start }; at = w .at }) old start new
-  unfolding gridOf sidesOf
+  unfolding gridOf sidesOf withGrid
   strips-record w old new start into room =
       record {
         piece = ap₂ {C = Piece} (λ (s : _) (cells : List ℕ). record { grid = record { sides = s; cells = cells }; count = r .count; wood = r .wood }) same-sides part;
         at = into .at ∙ ap corner is;
         ends = let e = ap volume (into .sides) in omega (arith, small);
         before = subst (Before start old) (sym (into .cells)) (paste-before old (strip g .cells) start fits);
+        filled = into .cells ∙ ap (λ (h : Grid). paste old start (strip h .cells) (length (strip h .cells))) is;
       }
     where
       same-sides : asSides (w .sides) ≡ strip (gridOf bytes r) .sides
@@ -114,76 +124,96 @@ module _ (bytes : List ℕ) (r : Record) (g : Grid) (is : g ≡ gridOf bytes r) 
           ∙ paste-part old (strip g .cells) start fits ∙ ap (λ (h : Grid). strip h .cells) is
 
 -- ---- the pieces, one after the other
-pub record StrippedTo (t : Table) (bytes old : List ℕ) (i : ℕ) (table : Table) (out : List ℕ) : Type 0 where
-  pub within : i ≤ t .n
-  pub asMany : table .n ≡ t .n
-  pub many : length (table .rows) ≡ 16
-  pub pieces : map (pieceOf out) (take i (table .rows)) ≡ map (λ r. stripPiece (pieceOf bytes r)) (take i (t .rows))
-  pub ends : T (all (λ q. leb (endOf q) (512 * i + 512)) (take i (table .rows)))
+pub record StrippedTo (t : Pieces) (bytes old : List ℕ) (i : ℕ) (made : Pieces) (out : List ℕ) : Type 0 where
+  pub within : i ≤ t .count
+  pub asMany : made .count ≡ t .count
+  pub many : length (made .records) ≡ 16
+  pub pieces : map (pieceOf out) (take i (made .records)) ≡ map (λ r. stripPiece (pieceOf bytes r)) (take i (t .records))
+  pub ends : T (all (λ q. leb (endOf q) (512 * i + 512)) (take i (made .records)))
   pub before : Before 512 old out
+  pub filled : out ≡ withGrids old 512 (map (pieceOf bytes) (take i (t .records)))
 
-module _ (t : Table) (bytes old : List ℕ) (long : length (t .rows) ≡ 16) where
+module _ (t : Pieces) (bytes old : List ℕ) (long : length (t .records) ≡ 16) where
   pub stripped-none : StrippedTo t bytes old 0 t old
-  stripped-none = record { within = omega arith; asMany = refl; many = long; pieces = refl; ends = tt; before = record { kept = refl; long = refl } }
+  unfolding withGrids
+  stripped-none = record { within = omega arith; asMany = refl; many = long; pieces = refl; ends = tt; before = record { kept = refl; long = refl }; filled = refl }
 
   -- one record more
-  module _ (i : ℕ) (table : Table) (out : List ℕ) (s : StrippedTo t bytes old i table out) (few : t .n ≤ 16) (h : i < t .n) where
+  module _ (i : ℕ) (made : Pieces) (out : List ℕ) (s : StrippedTo t bytes old i made out) (few : t .count ≤ 16) (h : i < t .count) where
     start : ℕ
     start = 512 * i + 512
 
-    ends-before : (q : Record) → List·Memᴰ q (take i (table .rows)) → endOf q ≤ 512 * i + 512
-    ends-before q m = leb→le (endOf q) (512 * i + 512) (all-at (λ (r : Record). leb (endOf r) (512 * i + 512)) (take i (table .rows)) (s .ends) m)
+    ends-before : (q : Record) → List·Memᴰ q (take i (made .records)) → endOf q ≤ 512 * i + 512
+    ends-before q m = leb→le (endOf q) (512 * i + 512) (all-at (λ (r : Record). leb (endOf r) (512 * i + 512)) (take i (made .records)) (s .ends) m)
 
-    pub stripped-next : (p : Record) → p ≡ getD (t .rows) i noRecord → (r : StrippedRecord) (new : List ℕ) → StripsRecord bytes p r out (512 * i + 512) new
-        → (last : Table) → last ≡ record { rows = set (table .rows) i (r .row); n = table .n } → StrippedTo t bytes old (i + 1) last new
+    pub stripped-next : (p : Record) → p ≡ getD (t .records) i noRecord → (r : StrippedRecord) (new : List ℕ) → StripsRecord bytes p r out (512 * i + 512) new
+        → (last : Pieces) → last ≡ record { records = set (made .records) i (r .row); count = made .count } → StrippedTo t bytes old (i + 1) last new
     stripped-next p is r new one last e =
-        subst (λ (x : Table). StrippedTo t bytes old (i + 1) x new) (sym e)
+        subst (λ (x : Pieces). StrippedTo t bytes old (i + 1) x new) (sym e)
         (record {
           within = omega arith;
           asMany = s .asMany;
-          many = length-set (table .rows) i (r .row) ∙ s .many;
-          pieces = ap (map (pieceOf new)) rows-now ∙ map-append (pieceOf new) (take i (table .rows)) (r .row ∷ [])
+          many = length-set (made .records) i (r .row) ∙ s .many;
+          pieces = ap (map (pieceOf new)) rows-now ∙ map-append (pieceOf new) (take i (made .records)) (r .row ∷ [])
               ∙ ap₂ (λ (xs ys : List Piece). xs ++ ys)
-              (map-same (pieceOf new) (pieceOf out) (take i (table .rows)) (λ q m. piece-kept (one .before) q (ends-before q m)) ∙ s .pieces)
+              (map-same (pieceOf new) (pieceOf out) (take i (made .records)) (λ q m. piece-kept (one .before) q (ends-before q m)) ∙ s .pieces)
               (ap (λ (q : Piece). q ∷ []) (one .piece ∙ ap (λ (q : Record). stripPiece (pieceOf bytes q)) is))
-              ∙ sym (ap (map f) lent-now ∙ map-append f (take i (t .rows)) (getD (t .rows) i noRecord ∷ []));
+              ∙ sym (ap (map f) lent-now ∙ map-append f (take i (t .records)) (getD (t .records) i noRecord ∷ []));
           ends = subst (λ (rs : List Record). T (all (λ q. leb (endOf q) (512 * (i + 1) + 512)) rs)) (sym rows-now)
-              (all-of (λ q. leb (endOf q) (512 * (i + 1) + 512)) (take i (table .rows) ++ (r .row ∷ [])) (λ q m. le→leb (endOf q) (512 * (i + 1) + 512) (ends-now q (List·Memᴰ·append-cases (take i (table .rows)) m))));
+              (all-of (λ q. leb (endOf q) (512 * (i + 1) + 512)) (take i (made .records) ++ (r .row ∷ [])) (λ q m. le→leb (endOf q) (512 * (i + 1) + 512) (ends-now q (List·Memᴰ·append-cases (take i (made .records)) m))));
           before = before-twice (s .before) (before-all (one .before) 512 (omega arith));
+          filled = filled-now;
         })
       where
         f : Record → Piece
         f q = stripPiece (pieceOf bytes q)
 
-        rows-now : take (i + 1) (set (table .rows) i (r .row)) ≡ take i (table .rows) ++ (r .row ∷ [])
-        rows-now = let m = s .many in ap (λ (n : ℕ). take n (set (table .rows) i (r .row))) (add-one i) ∙ take-suc-set (table .rows) i (r .row) (omega arith)
+        rows-now : take (i + 1) (set (made .records) i (r .row)) ≡ take i (made .records) ++ (r .row ∷ [])
+        rows-now = let m = s .many in ap (λ (n : ℕ). take n (set (made .records) i (r .row))) (add-one i) ∙ take-suc-set (made .records) i (r .row) (omega arith)
 
-        lent-now : take (i + 1) (t .rows) ≡ take i (t .rows) ++ (getD (t .rows) i noRecord ∷ [])
-        lent-now = ap (λ (n : ℕ). take n (t .rows)) (add-one i) ∙ take-suc (t .rows) i noRecord (omega arith)
+        lent-now : take (i + 1) (t .records) ≡ take i (t .records) ++ (getD (t .records) i noRecord ∷ [])
+        lent-now = ap (λ (n : ℕ). take n (t .records)) (add-one i) ∙ take-suc (t .records) i noRecord (omega arith)
 
-        ends-now : (q : Record) → List·Memᴰ q (take i (table .rows)) ⊎ List·Memᴰ q (r .row ∷ []) → endOf q ≤ 512 * (i + 1) + 512
+        passed : List Piece
+        passed = map (pieceOf bytes) (take i (t .records))
+
+        passed-long : length passed ≡ i
+        passed-long = length-map (take i (t .records)) (pieceOf bytes) ∙ length-take-le i (t .records) (omega arith)
+
+        at-start : 512 * i + 512 ≡ 512 + 512 * length passed
+        at-start = omega (arith, passed-long)
+
+        filled-now : new ≡ withGrids old 512 (map (pieceOf bytes) (take (i + 1) (t .records)))
+        filled-now =
+            one .filled ∙ ap₂ (λ (l : List ℕ) (n : ℕ). withGrid l n (gridOf bytes p)) (s .filled) at-start
+            ∙ ap (λ (q : Record). withGrid (withGrids old 512 passed) (512 + 512 * length passed) (pieceOf bytes q .grid)) is
+            ∙ sym (grids-more passed (pieceOf bytes (getD (t .records) i noRecord)) old 512)
+            ∙ ap (withGrids old 512) (sym (ap (map (pieceOf bytes)) lent-now ∙ map-append (pieceOf bytes) (take i (t .records)) (getD (t .records) i noRecord ∷ [])))
+
+        ends-now : (q : Record) → List·Memᴰ q (take i (made .records)) ⊎ List·Memᴰ q (r .row ∷ []) → endOf q ≤ 512 * (i + 1) + 512
         ends-now q (inl m) = let a = ends-before q m in omega arith
         ends-now q (inr m) = let e = ap endOf (List·Memᴰ·eq-of-singleton m) in let a = one .ends in omega arith
 
-  pub stripped-all : (i : ℕ) (table : Table) (out : List ℕ) → StrippedTo t bytes old i table out → t .n ≤ 16 → t .n ≤ i → StripsPieces t bytes table old out
-  stripped-all i table out s few h =
+  pub stripped-all : (i : ℕ) (made : Pieces) (out : List ℕ) → StrippedTo t bytes old i made out → t .count ≤ 16 → t .count ≤ i → StripsPieces t bytes made old out
+  stripped-all i made out s few h =
       record {
         asMany = s .asMany;
-        rows = s .many;
-        pieces = ap (map (pieceOf out)) records ∙ s .pieces ∙ sym (ap (λ (rs : List Record). map stripPiece (map (pieceOf bytes) rs)) lent ∙ map-map stripPiece (pieceOf bytes) (take i (t .rows)));
+        many = s .many;
+        pieces = ap (map (pieceOf out)) records ∙ s .pieces ∙ sym (ap (λ (rs : List Record). map stripPiece (map (pieceOf bytes) rs)) lent ∙ map-map stripPiece (pieceOf bytes) (take i (t .records)));
         ends = subst (λ (rs : List Record). T (all (λ q. leb (endOf q) 8704) rs)) (sym records)
-            (all-of (λ q. leb (endOf q) 8704) (take i (table .rows)) (λ q m. le→leb (endOf q) 8704 (let a = leb→le (endOf q) (512 * i + 512) (all-at (λ (r : Record). leb (endOf r) (512 * i + 512)) (take i (table .rows)) (s .ends) m) in omega (arith, s .within))));
+            (all-of (λ q. leb (endOf q) 8704) (take i (made .records)) (λ q m. le→leb (endOf q) 8704 (let a = leb→le (endOf q) (512 * i + 512) (all-at (λ (r : Record). leb (endOf r) (512 * i + 512)) (take i (made .records)) (s .ends) m) in omega (arith, s .within))));
         before = s .before;
+        filled = s .filled ∙ ap (λ (rs : List Record). withGrids old 512 (map (pieceOf bytes) rs)) (sym lent);
       }
     where
-      same : i ≡ t .n
+      same : i ≡ t .count
       same = let w = s .within in omega arith
 
-      records : recordsOf table ≡ take i (table .rows)
-      records = records-few table (let m = s .asMany in omega arith) ∙ ap (λ (n : ℕ). take n (table .rows)) (s .asMany ∙ sym same)
+      records : recordsOf made ≡ take i (made .records)
+      records = records-few made (let m = s .asMany in omega arith) ∙ ap (λ (n : ℕ). take n (made .records)) (s .asMany ∙ sym same)
 
-      lent : recordsOf t ≡ take i (t .rows)
-      lent = records-few t few ∙ ap (λ (n : ℕ). take n (t .rows)) (sym same)
+      lent : recordsOf t ≡ take i (t .records)
+      lent = records-few t few ∙ ap (λ (n : ℕ). take n (t .records)) (sym same)
 
 -- ---- rows 2 to 9 let a stripped tray pass
 -- where each fact holds no row applies
@@ -271,7 +301,7 @@ fit-all bytes new (q ∷ qs) (r ∷ rs) e h =
     grid-sides = unfold gridOf in refl
 
 -- what is tested of the lent tray holds of the stripped one
-module _ (t : Table) (board : Record) (bytes : List ℕ) (lent : Lent t board bytes) (long : length (t .rows) ≡ 16) where
+module _ (t : Pieces) (board : Record) (bytes : List ℕ) (lent : Lent t board bytes) (long : length (t .records) ≡ 16) where
   abbrev tray : Tray
   tray = lentIn (recordsOf t) board bytes
 
@@ -287,26 +317,26 @@ module _ (t : Table) (board : Record) (bytes : List ℕ) (lent : Lent t board by
   all-stripped : (f : Grid → Bool) → ((q : Piece) → List·Memᴰ q (tray .pieces) → T (f (strip (q .grid)))) → T (all (λ q. f (q .grid)) (map stripPiece (tray .pieces)))
   all-stripped f h = rw (all-map stripPiece (λ (q : Piece). f (q .grid)) (tray .pieces)) (all-of (λ q. f (strip (q .grid))) (tray .pieces) h)
 
-  module _ (table : Table) (first : Record) (cells : List ℕ) (board-is : pieceOf cells first ≡ stripPiece (pieceOf bytes board)) (board-ends : endOf first ≤ length cells)
-      (as-many : table .n ≡ t .n) (many : length (table .rows) ≡ 16) (pieces-are : map (pieceOf cells) (recordsOf table) ≡ map stripPiece (map (pieceOf bytes) (recordsOf t)))
-      (ends : T (all (λ q. leb (endOf q) (length cells)) (recordsOf table))) where
+  module _ (made : Pieces) (first : Record) (cells : List ℕ) (board-is : pieceOf cells first ≡ stripPiece (pieceOf bytes board)) (board-ends : endOf first ≤ length cells)
+      (as-many : made .count ≡ t .count) (many : length (made .records) ≡ 16) (pieces-are : map (pieceOf cells) (recordsOf made) ≡ map stripPiece (map (pieceOf bytes) (recordsOf t)))
+      (ends : T (all (λ q. leb (endOf q) (length cells)) (recordsOf made))) where
     grid-is : gridOf cells first ≡ strip (gridOf bytes board)
     grid-is = ap (λ (q : Piece). q .grid) board-is
 
     -- the records lend the stripped tray
-    pub tray-is : lentIn (recordsOf table) first cells ≡ unframed (trayIn (recordsOf t) board bytes)
+    pub tray-is : lentIn (recordsOf made) first cells ≡ unframed (trayIn (recordsOf t) board bytes)
     unfolding unframed stripTray
     tray-is = λ i. record { board = grid-is i; pieces = pieces-are i; frame = ownFrame (grid-is i) }
 
-    passed : PassedLent (recordsOf table) first cells (unframed (trayIn (recordsOf t) board bytes))
+    passed : PassedLent (recordsOf made) first cells (unframed (trayIn (recordsOf t) board bytes))
     unfolding unframed stripTray copyCount boardCellCount cellsLie
     passed =
         record {
-          fewPieces = let a = records-count table many in let b = lent .few in omega arith;
-          sides = and-both (sidesFit first) (all sidesFit (recordsOf table))
+          fewPieces = let a = records-count made many in let b = lent .few in omega arith;
+          sides = and-both (sidesFit first) (all sidesFit (recordsOf made))
               (sides-stay (gridOf bytes board) board first (unfold gridOf in refl) (piece-sides bytes cells first board board-is) (board-fits t board bytes lent .0))
-              (fit-all bytes cells (recordsOf table) (recordsOf t) pieces-are (and-right (sidesFit board) (all sidesFit (recordsOf t)) (p .sides)));
-          lie = and-both (leb (endOf first) (length cells)) (all (cellsLie cells) (recordsOf table)) (le→leb (endOf first) (length cells) board-ends) ends;
+              (fit-all bytes cells (recordsOf made) (recordsOf t) pieces-are (and-right (sidesFit board) (all sidesFit (recordsOf t)) (p .sides)));
+          lie = and-both (leb (endOf first) (length cells)) (all (cellsLie cells) (recordsOf made)) (le→leb (endOf first) (length cells) board-ends) ends;
           boardBits = strip-bits (gridOf bytes board) (p .boardBits);
           bits = all-stripped areBits (λ q m. strip-bits (q .grid) (all-at (λ (x : Piece). areBits (x .grid)) (tray .pieces) (p .bits) m));
           filled = all-stripped someFilled (λ q m. strip-filled (q .grid) (all-at (λ (x : Piece). areBits (x .grid)) (tray .pieces) (p .bits) m) (piece-whole q m)
@@ -315,19 +345,19 @@ module _ (t : Table) (board : Record) (bytes : List ℕ) (lent : Lent t board by
           fewCells = let e = strip-sum (gridOf bytes board) (p .boardBits) (board-size t board bytes lent) in let h = p .fewCells in omega arith;
         }
 
-    pub stripped-accepted : Accepted9 table first cells
+    pub stripped-accepted : Accepted9 made first cells
     unfolding Accepted9
     stripped-accepted =
-        passes-lent (recordsOf table) first cells (subst (PassedLent (recordsOf table) first cells) (sym tray-is) passed)
+        passes-lent (recordsOf made) first cells (subst (PassedLent (recordsOf made) first cells) (sym tray-is) passed)
 
   -- the board first, then the pieces
-  pub strips-tray : (b : StrippedRecord) (table : Table) (old mid cells : List ℕ) → StripsRecord bytes board b old 0 mid → StripsPieces t bytes table mid cells → 8704 ≤ length old
-      → StripsTray t board bytes (record { table = table; board = b .row; at = b .at }) cells
+  pub strips-tray : (b : StrippedRecord) (made : Pieces) (old mid cells : List ℕ) → StripsRecord bytes board b old 0 mid → StripsPieces t bytes made mid cells → 8704 ≤ length old
+      → StripsTray t board bytes (record { pieces = made; board = b .row; at = b .at }) cells
   unfolding stripTray frameOf
-  strips-tray b table old mid cells one rest room =
+  strips-tray b made old mid cells one rest room =
       record {
-        tray = tray-is table (b .row) cells board-is board-ends (rest .asMany) (rest .rows) (rest .pieces) ends;
-        accepted = stripped-accepted table (b .row) cells board-is board-ends (rest .asMany) (rest .rows) (rest .pieces) ends;
+        tray = tray-is made (b .row) cells board-is board-ends (rest .asMany) (rest .many) (rest .pieces) ends;
+        accepted = stripped-accepted made (b .row) cells board-is board-ends (rest .asMany) (rest .many) (rest .pieces) ends;
         at = one .at;
       }
     where
@@ -340,10 +370,17 @@ module _ (t : Table) (board : Record) (bytes : List ℕ) (lent : Lent t board by
       board-ends : endOf (b .row) ≤ length cells
       board-ends = omega (arith, one .ends, long-enough)
 
-      ends : T (all (λ q. leb (endOf q) (length cells)) (recordsOf table))
+      ends : T (all (λ q. leb (endOf q) (length cells)) (recordsOf made))
       ends =
-          all-of (λ q. leb (endOf q) (length cells)) (recordsOf table)
-          (λ q m. le→leb (endOf q) (length cells) (omega (arith, long-enough, leb→le (endOf q) 8704 (all-at (λ (r : Record). leb (endOf r) 8704) (recordsOf table) (rest .ends) m))))
+          all-of (λ q. leb (endOf q) (length cells)) (recordsOf made)
+          (λ q m. le→leb (endOf q) (length cells) (omega (arith, long-enough, leb→le (endOf q) 8704 (all-at (λ (r : Record). leb (endOf r) 8704) (recordsOf made) (rest .ends) m))))
+
+-- the board's grid and those of the pieces, one after the other
+pub grids-written : (t : Pieces) (board : Record) (bytes : List ℕ) (b : StrippedRecord) (made : Pieces) (old mid cells : List ℕ)
+    → StripsRecord bytes board b old 0 mid → StripsPieces t bytes made mid cells → cells ≡ withGrids old 0 (map (pieceOf bytes) (board ∷ recordsOf t))
+unfolding withGrids
+grids-written t board bytes b made old mid cells one rest =
+    rest .filled ∙ ap (λ (l : List ℕ). withGrids l 512 (map (pieceOf bytes) (recordsOf t))) (one .filled)
 
 -- ---- places put back into the lent box, one after the other
 module _ (f : ℕ → ℕ) (xs : List ℕ) where
@@ -374,7 +411,7 @@ each-below bound n xs t i h l =
     subst (λ (j : ℕ). getD xs j 0 < bound) e (place-in xs n bound l t (i + 1) (omega arith) (omega arith))
 
 -- ---- the stripped records, framed as their board lies in the lent box, are the tray that is listed
-pub framed-stripped : (t : Table) (board : Record) (bytes : List ℕ) {r : StrippedRecords} {cells : List ℕ} → StripsTray t board bytes r cells → (lent : Sides) → lent ≡ sidesOf board
-    → framedIn (recordsOf (r .table)) (r .board) cells (record { lent = lent; at = asCell (r .at) }) ≡ trayIn (recordsOf t) board bytes
+pub framed-stripped : (t : Pieces) (board : Record) (bytes : List ℕ) {r : StrippedRecords} {cells : List ℕ} → StripsTray t board bytes r cells → (lent : Sides) → lent ≡ sidesOf board
+    → framedIn (recordsOf (r .pieces)) (r .board) cells (record { lent = lent; at = asCell (r .at) }) ≡ trayIn (recordsOf t) board bytes
 unfolding unframed stripTray frameOf gridOf
 framed-stripped t board bytes s lent e = λ i. record { board = s .tray i .board; pieces = s .tray i .pieces; frame = record { lent = e i; at = s .at i } }

@@ -13,9 +13,9 @@ use Rattle.definitions.specs.Refusals.{gridOf, sidesOf, placementCount, linkCou
 use Rattle.definitions.specs.declared.Record.{Record}
 use Rattle.shape.specs.Places.{cellAt}
 use Rattle.shape.specs.Variants.{Numbers}
-use Rattle.placements.specs.declared.Table.{Table}
+use Rattle.placements.specs.declared.Pieces.{Pieces}
 use Rattle.placements.specs.declared.counting.Counts.{Counts}
-use Rattle.placements.specs.Tables.{recordsOf, lentIn}
+use Rattle.placements.specs.Pieces.{recordsOf, lentIn}
 use Rattle.placements.specs.Merging.{gridAt, AreKinds}
 use Rattle.placements.specs.Stages.{lentRows}
 
@@ -41,7 +41,7 @@ pub record CountsOf (c : Compiled) (r : Counts) : Type 0 where
 
 -- the variants of a grid stand in a slice: how many they are at a place, and behind it their map numbers
 unfoldable pub VariantsAt : Grid → List ℕ → ℕ → Type 0
-VariantsAt g numbers at = Numbers g (variants g) (drop (at + 1) numbers) (getD numbers at 0)
+VariantsAt g turnings at = Numbers g (variants g) (drop (at + 1) turnings) (getD turnings at 0)
 
 -- they have been put into a slice, of which nothing before the place is changed
 pub record PutVariants (g : Grid) (at : ℕ) (old new : List ℕ) : Type 0 where
@@ -49,12 +49,12 @@ pub record PutVariants (g : Grid) (at : ℕ) (old new : List ℕ) : Type 0 where
   pub before : take at new ≡ take at old
 
 -- what counting leaves of a tray: the places of the board's filled cells, a piece of each kind, each kind's variants, 25 numbers for each, and the counts
-pub record Counted (t : Table) (board : Record) (bytes places first numbers : List ℕ) (r : Counts) : Type 0 where
-  pub onBoard : OnBoard (axes (sidesOf board)) (gridOf bytes board) places (r .cells)
+pub record Counted (t : Pieces) (board : Record) (bytes places first turnings : List ℕ) (r : Counts) : Type 0 where
+  pub onBoard : OnBoard (axes (sidesOf board)) (gridOf bytes board) places (r .size)
   pub areKinds : AreKinds t bytes first (r .kinds)
-  pub eachKind : (k : ℕ) → k < r .kinds → VariantsAt (gridAt t bytes (getD first k 0)) numbers (25 * k)
+  pub eachKind : (k : ℕ) → k < r .kinds → VariantsAt (gridAt t bytes (getD first k 0)) turnings (25 * k)
   pub counts : CountsOf (compile (lentIn (recordsOf t) board bytes)) r
 
 -- rows 2 to 9 let a tray pass
-unfoldable pub Accepted9 : Table → Record → List ℕ → Type 0
+unfoldable pub Accepted9 : Pieces → Record → List ℕ → Type 0
 Accepted9 t board bytes = firstThatApplies (lentRows (recordsOf t) board bytes) ≡ 0

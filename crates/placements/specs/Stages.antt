@@ -12,7 +12,7 @@ use Rattle.definitions.specs.declared.Record.{Record}
 use Rattle.definitions.specs.declared.Config.{Config}
 use Rattle.placements.specs.declared.Verdict.{Verdict}
 use Rattle.placements.specs.declared.Verdict.the-variants.{Accepted, Refused}
-use Rattle.placements.specs.Tables.{lentIn}
+use Rattle.placements.specs.Pieces.{lentIn}
 
 abbrev pub verdictNumber : Verdict → ℕ
 verdictNumber Accepted = 0

@@ -13,28 +13,28 @@ use shape::Coord;
 use shape::cells;
 
 // Each number becomes n.
-fn fill(numbers: &mut [u8], n: u8)
-    ensures { λ _. ⌜ now (numbers .exit) ≡ replicate (length (now (numbers .entry))) n ⌝ }
+fn fill(scans: &mut [u8], n: u8)
+    ensures { λ _. ⌜ now (scans .exit) ≡ replicate (length (now (scans .entry))) n ⌝ }
 {
     let mut i = 0;
-    while i < numbers.len() {
-        numbers[i] = n;
+    while i < scans.len() {
+        scans[i] = n;
         i += 1;
     }
 }
 
 // For each place of a box how many of the first n places stand before it: its scan number, and n where its cell is not among them.
-pub fn number_places(places: &[u16], n: usize, numbers: &mut [u8])
-    requires { ⌜ (n ≤ 128) × (n ≤ length (now places)) × T (all (λ i. ltb i (length (now numbers))) (take n (now places))) ⌝ }
-    ensures { λ _. ⌜ now (numbers .exit) ≡ map (λ i. before (eqb i) (take n (now (places .entry)))) (below (length (now (numbers .entry)))) ⌝ }
+pub fn number_places(places: &[u16], n: usize, scans: &mut [u8])
+    requires { ⌜ (n ≤ 128) × (n ≤ length (now places)) × T (all (λ i. ltb i (length (now scans))) (take n (now places))) ⌝ }
+    ensures { λ _. ⌜ now (scans .exit) ≡ map (λ i. before (eqb i) (take n (now (places .entry)))) (below (length (now (scans .entry)))) ⌝ }
 {
-    fill(numbers, n as u8);
+    fill(scans, n as u8);
     let mut k = n;
     // the places from number k on have theirs; of two equal places the first wins
     while 0 < k {
         k -= 1;
         let i = places[k] as usize;
-        numbers[i] = k as u8;
+        scans[i] = k as u8;
     }
 }
 

@@ -7,12 +7,13 @@ ghost use Rattle.shape.specs.Grids.{asGrid, Whole};
 ghost use Rattle.shape.specs.Variants.{turnedBy};
 ghost use Rattle.shape.specs.Scans.{asOrder};
 ghost use Rattle.placements.specs.Stages.{verdictNumber, countRowsBy};
-ghost use Rattle.placements.specs.Merging.{AreKinds};
+ghost use Rattle.placements.specs.Merging.{Smallest, AreKinds};
 ghost use Rattle.placements.specs.Counting.{fitsIn, placementsIn, OnBoard, Accepted9, Counted, PutVariants};
-use super::Table;
+use super::Pieces;
 use super::Verdict;
 use super::fitting;
 use super::merging;
+use super::poses;
 use super::records;
 use definitions::Config;
 use definitions::Record;
@@ -28,7 +29,7 @@ use shape::variants;
 
 // What counting works out of a tray and building goes on from: filled board cells, kinds, and placements and links as 14 and 15 count them.
 pub struct Counts {
-    pub cells: usize,
+    pub size: usize,
     pub kinds: usize,
     pub placements: usize,
     pub links: usize,
@@ -40,24 +41,26 @@ fn count_cells(
     b: Coord,
     cells: &[u8],
     s: Coord,
-    numbers: &[u8],
+    turnings: &[u8],
     k: usize,
     order: AxisOrder,
     places: &[u16],
     n: usize,
 ) -> usize
     requires { ⌜ Whole b (now board) × Whole s (now cells) × OnBoard (asOrder order) (asGrid b (now board)) (now places) n
-        × (k ≤ length (now numbers)) × (k ≤ 24) ⌝ }
+        × (k ≤ length (now turnings)) × (k ≤ 24) ⌝ }
     ensures { λ r. do
-      let grids = turnedBy (asGrid s (now (cells .entry))) (take k (now (numbers .entry)))
+      let grids = turnedBy (asGrid s (now (cells .entry))) (take k (now (turnings .entry)))
       ⌜ (r ≡ fitsIn (asOrder order) (asGrid b (now (board .entry))) grids) × (r ≤ k * n) ⌝ }
 {
+    let mut poses = [0u16; poses::LENGTH];
+    let size = poses::pose_all(cells, s, turnings, k, order, &mut poses);
     let mut count = 0;
     let mut p = 0;
     // what is counted and what fits at the places from p on make all
     while p < n {
         let at = cells::cell_at(b, places[p] as usize);
-        count += fitting::count_at(board, b, cells, s, numbers, k, order, at);
+        count += fitting::count_at(board, b, &poses, k, size, at);
         p += 1;
     }
     count
@@ -72,26 +75,28 @@ fn count_piece(
     order: AxisOrder,
     places: &[u16],
     n: usize,
-    numbers: &mut [u8],
+    turnings: &mut [u8],
     at: usize,
 ) -> usize
     requires { ⌜ Whole b (now board) × Whole s (now cells) × OnBoard (asOrder order) (asGrid b (now board)) (now places) n
-        × (at + 25 ≤ length (now numbers)) ⌝ }
+        × (at + 25 ≤ length (now turnings)) ⌝ }
     ensures { λ r. do
       let g = asGrid s (now (cells .entry))
       ⌜ (r ≡ placementsIn (asOrder order) (asGrid b (now (board .entry))) g) × (r ≤ 24 * n)
-          × PutVariants g at (now (numbers .entry)) (now (numbers .exit)) ⌝ }
+          × PutVariants g at (now (turnings .entry)) (now (turnings .exit)) ⌝ }
 {
     let start = at + 1;
     let end = at + 25;
-    let k = variants::variants_of(cells, s, Map(0), &mut numbers[start..end]);
-    numbers[at] = k as u8;
+    let mut turned = [0u8; 12288];
+    variants::turn_all(cells, s, &mut turned);
+    let k = variants::variants_of(cells, s, &turned, &mut turnings[start..end]);
+    turnings[at] = k as u8;
     count_cells(
         board,
         b,
         cells,
         s,
-        &numbers[start..end],
+        &turnings[start..end],
         k,
         order,
         places,
@@ -101,19 +106,20 @@ fn count_piece(
 
 // The same of a piece of each kind, and the counts of them all.
 fn count_kinds(
-    t: Table,
+    t: Pieces,
     board: Record,
     bytes: &[u8],
     order: AxisOrder,
     places: &[u16],
     n: usize,
+    small: &[u8],
     first: &[u8],
     kinds: usize,
-    numbers: &mut [u8],
+    turnings: &mut [u8],
 ) -> Counts
     requires { ⌜ Accepted9 t board (now bytes) × OnBoard (asOrder order) (gridOf (now bytes) board) (now places) n
-        × AreKinds t (now bytes) (now first) kinds × (kinds ≤ length (now first)) × (length (now numbers) ≡ 400) ⌝ }
-    ensures { λ r. ⌜ Counted t board (now (bytes .entry)) (now (places .entry)) (now (first .entry)) (now (numbers .exit)) r ⌝ }
+        × Smallest t (now bytes) (now small) × AreKinds t (now bytes) (now first) kinds × (kinds ≤ length (now first)) × (length (now turnings) ≡ 400) ⌝ }
+    ensures { λ r. ⌜ Counted t board (now (bytes .entry)) (now (places .entry)) (now (first .entry)) (now (turnings .exit)) r ⌝ }
 {
     let b = records::sides_of(board);
     let grid = records::cells_of(bytes, board);
@@ -123,7 +129,7 @@ fn count_kinds(
     // the variants of the kinds before k stand there; what is counted and the counts of the kinds from k on make all
     while k < kinds {
         let i = first[k] as usize;
-        let p = t.rows[i];
+        let p = t.records[i];
         let cells = records::cells_of(bytes, p);
         let rows = count_piece(
             grid,
@@ -133,41 +139,56 @@ fn count_kinds(
             order,
             places,
             n,
-            numbers,
+            turnings,
             25 * k,
         );
         placements += rows;
-        if 0 < merging::copies_of(t, bytes, i) {
+        if 0 < merging::copies_of(t, bytes, small, i) {
             links += rows * (1 + grids::count_filled(cells));
         }
         k += 1;
     }
     Counts {
-        cells: n,
+        size: n,
         kinds,
         placements,
         links,
     }
 }
 
-// What is counted of grids as they are lent. The places of the board's filled cells, one piece of each kind, and for each kind k how many variants
-// it has (at 25·k) and their map numbers (behind it) go into the three slices; what else stands in them is free.
+// What is counted of grids as they are lent. The places of the board's filled cells, each piece's smallest map, one piece of each kind, and for each kind k
+// how many variants it has (at 25·k) and their map numbers (behind it) go into the four slices; what else stands in them is free.
 pub fn count_tray(
-    t: Table,
+    t: Pieces,
     board: Record,
     bytes: &[u8],
     places: &mut [u16],
+    small: &mut [u8],
     first: &mut [u8],
-    numbers: &mut [u8],
+    turnings: &mut [u8],
 ) -> Counts
-    requires { ⌜ Accepted9 t board (now bytes) × (length (now places) ≡ 512) × (length (now first) ≡ 16) × (length (now numbers) ≡ 400) ⌝ }
-    ensures { λ r. ⌜ Counted t board (now (bytes .entry)) (now (places .exit)) (now (first .exit)) (now (numbers .exit)) r ⌝ }
+    requires { ⌜ Accepted9 t board (now bytes) × (length (now places) ≡ 512) × (length (now small) ≡ 16) × (length (now first) ≡ 16)
+        × (length (now turnings) ≡ 400) ⌝ }
+    ensures { λ r. ⌜ Counted t board (now (bytes .entry)) (now (places .exit)) (now (first .exit)) (now (turnings .exit)) r
+        × Smallest t (now (bytes .entry)) (now (small .exit)) ⌝ }
 {
     let s = records::sides_of(board);
     let order = scan::plan_axis_order(s);
     let n = scan::plan_coords(records::cells_of(bytes, board), s, order, places);
-    let kinds = merging::merge(t, bytes, first);
-    count_kinds(t, board, bytes, order, places, n, first, kinds, numbers)
+    merging::smallest_maps(t, bytes, small);
+    let kinds = merging::merge(t, bytes, small, first);
+    count_kinds(
+        t,
+        board,
+        bytes,
+        order,
+        places,
+        n,
+        small,
+        first,
+        kinds,
+        turnings,
+    )
 }
 
 // Rows 14 and 15, by the counts.

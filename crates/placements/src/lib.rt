@@ -8,15 +8,16 @@ pub mod board;
 pub mod counting;
 pub mod fitting;
 pub mod merging;
+pub mod poses;
 pub mod records;
 pub mod refusals;
 pub mod stripping;
 
 // The records of the pieces by value, and how many there are.
 #[repr(C)]
-pub struct Table {
-    pub rows: [Record; 16],
-    pub n: usize,
+pub struct Pieces {
+    pub records: [Record; 16],
+    pub count: usize,
 }
 
 // Whether a call is accepted, or why it is refused.

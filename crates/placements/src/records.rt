@@ -1,4 +1,4 @@
-// Records, their sides and their cells; and tables of records by value.
+// Records, their sides and their cells; and pieces, records by value.
 ghost use mathlib.Core.Path.{_≡_};
 ghost use Prim.Native.Nat.{_≤_};
 ghost use lib.Dec.{T};
@@ -6,8 +6,8 @@ ghost use lib.ListN.{length};
 ghost use Rattle.definitions.specs.Refusals.{sidesOf, gridOf, isSide, sidesFit, cellsLie};
 ghost use Rattle.definitions.specs.Grid.{volume};
 ghost use Rattle.shape.specs.Coords.{asSides};
-ghost use Rattle.placements.specs.Tables.{emptyTable, noRecord, putRow};
-use crate::Table;
+ghost use Rattle.placements.specs.Pieces.{emptyPieces, noRecord, putRecord};
+use crate::Pieces;
 use definitions::Record;
 use shape::Coord;
 
@@ -86,21 +86,24 @@ pub fn no_record() -> Record
     }
 }
 
-// The table of n records of zeros.
-pub fn empty_table(n: usize) -> Table
-    ensures { λ r. ⌜ r ≡ emptyTable n ⌝ }
+// Pieces of n records of zeros.
+pub fn empty_pieces(n: usize) -> Pieces
+    ensures { λ r. ⌜ r ≡ emptyPieces n ⌝ }
 {
     let p = no_record();
-    Table { rows: [p; 16], n }
+    Pieces {
+        records: [p; 16],
+        count: n,
+    }
 }
 
-// A table with a record at place i; past 16 there is no place, and it stays as it is.
-pub fn put_row(t: Table, i: usize, p: Record) -> Table
-    ensures { λ r. ⌜ r ≡ putRow t i p ⌝ }
+// Pieces with a record at place i; past 16 there is no place, and they stay as they are.
+pub fn put_record(t: Pieces, i: usize, p: Record) -> Pieces
+    ensures { λ r. ⌜ r ≡ putRecord t i p ⌝ }
 {
     let mut out = t;
     if i < 16 {
-        out.rows[i] = p;
+        out.records[i] = p;
     }
     out
 }

@@ -5,9 +5,9 @@ ghost use Prim.Native.Nat.{_≤_, _<_};
 ghost use lib.Dec.{T};
 ghost use Rattle.lists.specs.Lists.{all, sum};
 ghost use Rattle.definitions.specs.Refusals.{gridOf, sidesFit, cellsLie, areBits, someFilled, firstThatApplies};
-ghost use Rattle.placements.specs.Tables.{recordsOf};
+ghost use Rattle.placements.specs.Pieces.{recordsOf};
 ghost use Rattle.placements.specs.Stages.{verdictNumber, gridRows, lentRows, configRows, sliceRows};
-use super::Table;
+use super::Pieces;
 use super::Verdict;
 use super::records;
 use definitions::Config;
@@ -17,14 +17,14 @@ use definitions::SolverKind;
 use shape::grids;
 
 // 3
-fn all_sides_fit(t: Table) -> bool
-    requires { ⌜ t .n ≤ 16 ⌝ }
+fn all_sides_fit(t: Pieces) -> bool
+    requires { ⌜ t .count ≤ 16 ⌝ }
     ensures { λ r. ⌜ r ≡ all sidesFit (recordsOf t) ⌝ }
 {
-    let n = t.n;
+    let n = t.count;
     let mut i = 0;
     while i < n {
-        let p = t.rows[i];
+        let p = t.records[i];
         if !records::sides_fit(p) {
             return false;
         }
@@ -34,14 +34,14 @@ fn all_sides_fit(t: Table) -> bool
 }
 
 // 4
-fn all_cells_lie(t: Table, bytes: &[u8]) -> bool
-    requires { ⌜ (t .n ≤ 16) × T (all sidesFit (recordsOf t)) ⌝ }
+fn all_cells_lie(t: Pieces, bytes: &[u8]) -> bool
+    requires { ⌜ (t .count ≤ 16) × T (all sidesFit (recordsOf t)) ⌝ }
     ensures { λ r. ⌜ r ≡ all (cellsLie (now (bytes .entry))) (recordsOf t) ⌝ }
 {
-    let n = t.n;
+    let n = t.count;
     let mut i = 0;
     while i < n {
-        let p = t.rows[i];
+        let p = t.records[i];
         if !records::cells_lie(bytes, p) {
             return false;
         }
@@ -51,14 +51,14 @@ fn all_cells_lie(t: Table, bytes: &[u8]) -> bool
 }
 
 // 5
-fn all_bits(t: Table, bytes: &[u8]) -> bool
-    requires { ⌜ (t .n ≤ 16) × T (all sidesFit (recordsOf t)) × T (all (cellsLie (now bytes)) (recordsOf t)) ⌝ }
+fn all_bits(t: Pieces, bytes: &[u8]) -> bool
+    requires { ⌜ (t .count ≤ 16) × T (all sidesFit (recordsOf t)) × T (all (cellsLie (now bytes)) (recordsOf t)) ⌝ }
     ensures { λ r. ⌜ r ≡ all (λ q. areBits (gridOf (now (bytes .entry)) q)) (recordsOf t) ⌝ }
 {
-    let n = t.n;
+    let n = t.count;
     let mut i = 0;
     while i < n {
-        let p = t.rows[i];
+        let p = t.records[i];
         if !grids::are_bits(records::cells_of(bytes, p)) {
             return false;
         }
@@ -68,14 +68,14 @@ fn all_bits(t: Table, bytes: &[u8]) -> bool
 }
 
 // 6
-fn all_filled(t: Table, bytes: &[u8]) -> bool
-    requires { ⌜ (t .n ≤ 16) × T (all sidesFit (recordsOf t)) × T (all (cellsLie (now bytes)) (recordsOf t)) ⌝ }
+fn all_filled(t: Pieces, bytes: &[u8]) -> bool
+    requires { ⌜ (t .count ≤ 16) × T (all sidesFit (recordsOf t)) × T (all (cellsLie (now bytes)) (recordsOf t)) ⌝ }
     ensures { λ r. ⌜ r ≡ all (λ q. someFilled (gridOf (now (bytes .entry)) q)) (recordsOf t) ⌝ }
 {
-    let n = t.n;
+    let n = t.count;
     let mut i = 0;
     while i < n {
-        let p = t.rows[i];
+        let p = t.records[i];
         if grids::count_filled(records::cells_of(bytes, p)) == 0 {
             return false;
         }
@@ -85,15 +85,15 @@ fn all_filled(t: Table, bytes: &[u8]) -> bool
 }
 
 // 8: a sum of 16 numbers of 32 bits.
-fn copies_lent(t: Table) -> u64
-    requires { ⌜ t .n ≤ 16 ⌝ }
+fn copies_lent(t: Pieces) -> u64
+    requires { ⌜ t .count ≤ 16 ⌝ }
     ensures { λ r. ⌜ r ≡ sum (map (λ q. q .count) (recordsOf t)) ⌝ }
 {
-    let n = t.n;
+    let n = t.count;
     let mut copies: u64 = 0;
     let mut i = 0;
     while i < n {
-        let p = t.rows[i];
+        let p = t.records[i];
         copies += p.count as u64;
         i += 1;
     }
@@ -101,10 +101,10 @@ fn copies_lent(t: Table) -> u64
 }
 
 // Rows 2 to 9: what is lent.
-pub fn refusal_of_lent(t: Table, board: Record, bytes: &[u8]) -> Verdict
+pub fn refusal_of_lent(t: Pieces, board: Record, bytes: &[u8]) -> Verdict
     ensures { λ r. ⌜ verdictNumber r ≡ firstThatApplies (lentRows (recordsOf t) board (now (bytes .entry))) ⌝ }
 {
-    if 16 < t.n {
+    if 16 < t.count {
         return Verdict::Refused(Refusal::TooManyPieces);
     }
     if !records::sides_fit(board) {
@@ -123,8 +123,8 @@ pub fn refusal_of_lent(t: Table, board: Record, bytes: &[u8]) -> Verdict
 }
 
 // Rows 5 to 9, of grids that lie in the bytes.
-fn refusal_of_grids(t: Table, board: Record, bytes: &[u8]) -> Verdict
-    requires { ⌜ (t .n ≤ 16) × T (all sidesFit (board ∷ recordsOf t)) × T (all (cellsLie (now bytes)) (board ∷ recordsOf t)) ⌝ }
+fn refusal_of_grids(t: Pieces, board: Record, bytes: &[u8]) -> Verdict
+    requires { ⌜ (t .count ≤ 16) × T (all sidesFit (board ∷ recordsOf t)) × T (all (cellsLie (now bytes)) (board ∷ recordsOf t)) ⌝ }
     ensures { λ r. ⌜ verdictNumber r ≡ firstThatApplies (gridRows (recordsOf t) board (now (bytes .entry))) ⌝ }
 {
     if !grids::are_bits(records::cells_of(bytes, board)) {

@@ -1,12 +1,15 @@
 // Trays without their empty outer layers: new records, whose grids stand in a slice of the caller's, the board's first, 512 bytes for each.
+ghost use mathlib.Core.List.{_∷_, map};
+ghost use mathlib.Core.Path.{_≡_};
 ghost use Prim.Native.Nat.{_+_, _≤_};
 ghost use lib.Dec.{T};
 ghost use lib.ListN.{length};
-ghost use Rattle.definitions.specs.Refusals.{sidesFit, cellsLie};
+ghost use Rattle.definitions.specs.Refusals.{sidesFit, cellsLie, pieceOf};
 ghost use Rattle.placements.specs.Counting.{Accepted9};
 ghost use Rattle.placements.specs.Merging.{Sound};
-ghost use Rattle.placements.specs.Stripping.{StripsRecord, StripsPieces, StripsTray};
-use super::Table;
+ghost use Rattle.placements.specs.Stripping.{StripsRecord, StripsPieces, StripsTray, withGrids};
+ghost use Rattle.placements.specs.Pieces.{recordsOf};
+use super::Pieces;
 use super::records;
 use definitions::Record;
 use shape::Coord;
@@ -23,7 +26,7 @@ struct StrippedRecord {
 
 // The records of a stripped tray, and where the corner of its board lies in the lent box.
 pub struct StrippedRecords {
-    pub table: Table,
+    pub pieces: Pieces,
     pub board: Record,
     pub at: Coord,
 }
@@ -51,32 +54,34 @@ fn strip_record(bytes: &[u8], r: Record, out: &mut [u8], start: usize) -> Stripp
 }
 
 // The grids of the pieces, stripped, behind the first 512 bytes of out.
-fn strip_pieces(t: Table, bytes: &[u8], out: &mut [u8]) -> Table
+fn strip_pieces(t: Pieces, bytes: &[u8], out: &mut [u8]) -> Pieces
     requires { ⌜ Sound t (now bytes) × (8704 ≤ length (now out)) ⌝ }
     ensures { λ r. ⌜ StripsPieces t (now (bytes .entry)) r (now (out .entry)) (now (out .exit)) ⌝ }
 {
-    let n = t.n;
-    let mut table = t;
+    let n = t.count;
+    let mut made = t;
     let mut i = 0;
     // the pieces before i are stripped, each behind those before it
     while i < n {
-        let p = t.rows[i];
+        let p = t.records[i];
         let s = strip_record(bytes, p, out, 512 * i + 512);
         let q = s.row;
-        table.rows[i] = q;
+        made.records[i] = q;
         i += 1;
     }
-    table
+    made
 }
 
-// The records of a tray that rows 2 to 9 let pass, stripped.
-pub fn strip_tray(t: Table, board: Record, bytes: &[u8], out: &mut [u8]) -> StrippedRecords
+// The records of a tray that rows 2 to 9 let pass, stripped; their grids into out, and around them it stays as it is.
+pub fn strip_tray(t: Pieces, board: Record, bytes: &[u8], out: &mut [u8]) -> StrippedRecords
     requires { ⌜ Accepted9 t board (now bytes) × (8704 ≤ length (now out)) ⌝ }
-    ensures { λ r. ⌜ StripsTray t board (now (bytes .entry)) r (now (out .exit)) ⌝ }
+    ensures { λ r. do
+      let lent = map (pieceOf (now (bytes .entry))) (board ∷ recordsOf t)
+      ⌜ StripsTray t board (now (bytes .entry)) r (now (out .exit)) × (now (out .exit) ≡ withGrids (now (out .entry)) 0 lent) ⌝ }
 {
     let b = strip_record(bytes, board, out, 0);
-    let table = strip_pieces(t, bytes, out);
+    let pieces = strip_pieces(t, bytes, out);
     let board = b.row;
     let at = b.at;
-    StrippedRecords { table, board, at }
+    StrippedRecords { pieces, board, at }
 }

@@ -11,10 +11,10 @@ use definitions::SolverKind;
 use definitions::Start;
 use libc::STDIN_FILENO;
 use libc::STDOUT_FILENO;
-use placements::Table;
+use placements::Pieces;
 use rows::Dims;
 use rows::chart;
-use rows::table;
+use rows::row;
 use solver::pages;
 use solver::prepare;
 use solver::prepare::Prepared;
@@ -135,9 +135,9 @@ fn piece(text: &[u8], i: usize, n: usize, k: usize) -> Record {
 }
 
 // The first 16 of n pieces.
-fn pieces(text: &[u8], i: usize, n: usize) -> Table {
-    Table {
-        rows: [
+fn pieces(text: &[u8], i: usize, n: usize) -> Pieces {
+    Pieces {
+        records: [
             piece(text, i, n, 0),
             piece(text, i, n, 1),
             piece(text, i, n, 2),
@@ -155,7 +155,7 @@ fn pieces(text: &[u8], i: usize, n: usize) -> Table {
             piece(text, i, n, 14),
             piece(text, i, n, 15),
         ],
-        n,
+        count: n,
     }
 }
 
@@ -287,7 +287,7 @@ fn show_images(chart: &[u16], size: usize, n: usize, k: usize)
 fn show_cells(work: &[u64], r: usize)
     requires { ⌜ 8 * r + 8 ≤ length (now work) ⌝ }
 {
-    let mask = table::mask_at(work, r);
+    let mask = row::mask_at(work, r);
     let mut c = 0;
     while c < 128 {
         if mask.has_cell(c) {
@@ -306,8 +306,8 @@ fn show_row(work: &[u64], r: usize)
     }
     word(b"row");
     print(r);
-    print(table::kind_at(work, r));
-    print(table::first_at(work, r));
+    print(row::kind_at(work, r));
+    print(row::first_at(work, r));
     print(work[8 * r + 4] as usize);
     show_cells(work, r);
     word(b"\n");
@@ -332,7 +332,7 @@ fn show_rows(work: &[u64], r: usize, n: usize)
 // The sizes of a row system.
 fn show_sizes(d: Dims) {
     word(b"cells");
-    print(d.cells);
+    print(d.size);
     word(b" kinds");
     print(d.kinds);
     word(b" rows");
@@ -352,11 +352,11 @@ fn show_parts(d: Dims, work: &[u64], chart: &[u16])
     word(b"\npieces");
     show_pieces(chart, d.pieces);
     word(b"\n");
-    if d.cells <= 30 {
+    if d.size <= 30 {
         word(b"scan");
         show_scan(chart, d.places);
         word(b"\n");
-        show_images(chart, d.cells, d.turns, d.mirrorings);
+        show_images(chart, d.size, d.turns, d.mirrorings);
     }
     show_rows(work, 0, d.rows);
     if 12 < d.rows {
@@ -365,7 +365,7 @@ fn show_parts(d: Dims, work: &[u64], chart: &[u16])
 }
 
 // The refusal of a call, or its row system. A work slice of more than 8,200 words counts as one of 8,200.
-fn show(t: Table, board: Record, bytes: &[u8], config: Config, words: usize, links: usize) {
+fn show(t: Pieces, board: Record, bytes: &[u8], config: Config, words: usize, links: usize) {
     let mut work = [0u64; 8200];
     let mut chart = [0u16; chart::LENGTH];
     let w = if words < 8200 { words } else { 8200 };
@@ -486,7 +486,7 @@ fn is_left(answers: &[u8], work: &[u64], links: &[u16], n: usize, knuth: bool) -
 }
 
 fn ask(
-    t: Table,
+    t: Pieces,
     board: Record,
     bytes: &[u8],
     config: Config,
@@ -557,7 +557,7 @@ fn asked_config(config: Config, knuth: bool) -> Config {
 
 // A page with room for so many bytes, at most 4,096, in slices of so many words and links, at most 8,200 and 32,776.
 fn one_page(
-    t: Table,
+    t: Pieces,
     board: Record,
     bytes: &[u8],
     config: Config,
@@ -619,7 +619,7 @@ fn show_given(g: Given) {
 }
 
 // Pages of three entries, one behind the other, at most 20 of them.
-fn show_walk(t: Table, board: Record, bytes: &[u8], config: Config, asked: Asked) -> Given {
+fn show_walk(t: Pieces, board: Record, bytes: &[u8], config: Config, asked: Asked) -> Given {
     let size = size_of(board);
     let mut all = Given {
         refused: 0,
@@ -666,7 +666,7 @@ fn show_walk(t: Table, board: Record, bytes: &[u8], config: Config, asked: Asked
 }
 
 // All of these pages of a call, as lines.
-fn show_pages(t: Table, board: Record, bytes: &[u8], config: Config, asked: Asked) {
+fn show_pages(t: Pieces, board: Record, bytes: &[u8], config: Config, asked: Asked) {
     let all = show_walk(t, board, bytes, config, asked);
     if asked.knuth {
         word(b"knuth: ");
@@ -720,7 +720,7 @@ fn show_pages(t: Table, board: Record, bytes: &[u8], config: Config, asked: Aske
 
 // The pages of both engines.
 fn show_engines(
-    t: Table,
+    t: Pieces,
     board: Record,
     bytes: &[u8],
     config: Config,
@@ -762,7 +762,7 @@ fn call(text: &[u8], i: usize, bytes: &mut [u8]) -> usize {
     let paged = number(text, links.next);
     let board = entry(text, paged.next);
     let m = n.value;
-    let table = pieces(text, board.next, m);
+    let lent = pieces(text, board.next, m);
     let cells = digits(
         text,
         behind(text, board.next, if m < 16 { m } else { 16 }),
@@ -777,7 +777,7 @@ fn call(text: &[u8], i: usize, bytes: &mut [u8]) -> usize {
     if k <= bytes.len() {
         if paged.value < 2 {
             show(
-                table,
+                lent,
                 board.record,
                 &bytes[..k],
                 config,
@@ -787,7 +787,7 @@ fn call(text: &[u8], i: usize, bytes: &mut [u8]) -> usize {
         }
         if 0 < paged.value {
             show_engines(
-                table,
+                lent,
                 board.record,
                 &bytes[..k],
                 config,

@@ -24,11 +24,10 @@ use Rattle.definitions.specs.Placements.{Placement}
 use Rattle.definitions.specs.Packing.{ahead, rank, used}
 use Rattle.definitions.specs.Answers.{Taken, takes, copyOn}
 use Rattle.masks.specs.Masks.{has}
-use Rattle.rows.specs.Charts.{piecesPart}
+use Rattle.masks.specs.declared.Mask.{Mask}
 use Rattle.rows.specs.Rows.{rowAt, maskAt, cellsOf}
 use Rattle.rows.specs.Systems.{Owned, ownedIn}
-use Rattle.rows.specs.Answering.{noCopy, copiesIf, copiesBy, pathIn, takenBy, answersOver, asCopy, Held}
-use Rattle.rows.specs.declared.Dims.{Dims}
+use Rattle.rows.specs.Answering.{noCopy, copiesIf, copiesBy, pathIn, takenBy, asCopy}
 use Rattle.rows.specs.declared.answers.Copied.{Copied}
 use Rattle.rows.proofs.PairLaws.{pairs, length-pairs, pair-first, pair-second, pair-stored}
 
@@ -117,16 +116,20 @@ kind-counted work path n kind = go (take n path)
     go [] = refl
     go (x ∷ xs) = ap (λ (m : ℕ). cond (eqb (rowAt work x .kind) kind) 1 0 + m) (go xs)
 
--- a cell below 128 is one of a row's cells where it is in the row's mask
+-- a number below 128 is one of a mask's cells where it is in the mask
+pub in-cells : (m : Mask) (cell : ℕ) → cell < 128 → member cell (cellsOf m) ≡ has m cell
+unfolding cellsOf
+in-cells m cell h =
+    tests-same (member cell (keep (has m) (below 128))) (has m cell)
+    (λ t. keep-at (has m) (below 128) (member-at cell (keep (has m) (below 128)) t) .1)
+    (λ t. member-of (keep (has m) (below 128)) (keep-of (has m) (below 128) (below-of 128 h) t))
+
 pub in-mask : (work : List ℕ) (r cell : ℕ) → cell < 128 → member cell (rowAt work r .cells) ≡ has (maskAt work r) cell
-unfolding rowAt cellsOf
-in-mask work r cell h =
-    tests-same (member cell (keep (has (maskAt work r)) (below 128))) (has (maskAt work r) cell)
-    (λ t. keep-at (has (maskAt work r)) (below 128) (member-at cell (keep (has (maskAt work r)) (below 128)) t) .1)
-    (λ t. member-of (keep (has (maskAt work r)) (below 128)) (keep-of (has (maskAt work r)) (below 128) (below-of 128 h) t))
+unfolding rowAt
+in-mask work r cell h = in-cells (maskAt work r) cell h
 
 -- ---- rows take copies one after the other
-used-more : (P : List Placement) (q : Placement) (k : ℕ) → used (P ++ (q ∷ [])) k ≡ used P k + cond (eqb (q .kind) k) 1 0
+pub used-more : (P : List Placement) (q : Placement) (k : ℕ) → used (P ++ (q ∷ [])) k ≡ used P k + cond (eqb (q .kind) k) 1 0
 unfolding used
 used-more [] q k = omega arith
 used-more (r ∷ P) q k = let e = used-more P q k in omega arith
@@ -144,6 +147,23 @@ ahead-kind q r t =
 takes-none : (ds : List Copy) → takes ds [] ≡ []
 takes-none [] = refl
 takes-none (d ∷ ds) = refl
+
+-- the copy on a cell is that of the first that covers it
+module _ (c : Copy) (cells : List ℕ) (ts : List Taken) (cell : ℕ) where
+  abbrev with : List Taken
+  with = record { copy = c; cells = cells } ∷ ts
+
+  pub copy-here : member cell cells ≡ true → copyOn with cell ≡ c
+  unfolding copyOn
+  copy-here e = rw e
+
+  pub copy-past : member cell cells ≡ false → copyOn with cell ≡ copyOn ts cell
+  unfolding copyOn
+  copy-past e = rw e
+
+copy-nothing : (cell : ℕ) → copyOn [] cell ≡ noCopy
+unfolding copyOn
+copy-nothing cell = refl
 
 module _ (own : List Owned) where
   -- behind rows that have taken theirs
@@ -258,80 +278,26 @@ module _ (own : List Owned) where
         enough = λ k h l. omega (arith, enough k (omega arith));
       })
 
-  -- the copy on a cell: that of the first row that covers it
-  module _ (cell : ℕ) where
-    pub copy-here : (done : List Placement) (q : Placement) (qs : List Placement) → member cell (q .cells) ≡ true
-        → copyOn (takenOn done (q ∷ qs)) cell ≡ getD (copiesBy own (q .kind)) (used done (q .kind)) noCopy
-    unfolding copyOn
-    copy-here done q qs e = rw e
-
-    pub copy-past : (done : List Placement) (q : Placement) (qs : List Placement) → member cell (q .cells) ≡ false
-        → copyOn (takenOn done (q ∷ qs)) cell ≡ copyOn (takenOn (done ++ (q ∷ [])) qs) cell
-    unfolding copyOn
-    copy-past done q qs e = rw e
-
-    copy-nothing : copyOn [] cell ≡ noCopy
-    unfolding copyOn
-    copy-nothing = refl
-
-    pub copy-nowhere : (done qs : List Placement) → ((q : Placement) → List·Memᴰ q qs → member cell (q .cells) ≡ false) → copyOn (takenOn done qs) cell ≡ noCopy
-    copy-nowhere done [] h = copy-nothing
-    copy-nowhere done (q ∷ qs) h = copy-past done q qs (h q (List·Memᴰ·head refl)) ∙ copy-nowhere (done ++ (q ∷ [])) qs (λ r m. h r (List·Memᴰ·tail m))
-
--- ---- the copy on a cell, row by row of a path
-module _ (d : Dims) (work chart path : List ℕ) (n cell : ℕ) (held : Held d work chart path n) where
-  abbrev own : List Owned
-  own = ownedIn (piecesPart chart) (d .pieces)
-
-  -- what the rows from i on lay there
-  abbrev copyFrom : ℕ → Copy
-  copyFrom i = copyOn (takenOn own (pathIn work path i) (rowsLeft work path n i)) cell
-
-  in-path : takenBy own (d .kinds) (pathIn work path n) ≡ takenOn own [] (pathIn work path n)
-  in-path = taken-in-order own (d .kinds) (pathIn work path n) (held .ascend) (held .ofKinds) (held .enough)
-
-  pub path-start : copyFrom 0 ≡ copyOn (takenBy own (d .kinds) (pathIn work path n)) cell
-  unfolding pathIn
-  path-start = sym (ap (λ (ts : List Taken). copyOn ts cell) in-path)
-
-  module _ (i : ℕ) (h : i < n) where
-    abbrev row : Placement
-    row = rowAt work (getD path i 0)
-
-    pub path-here : cell < 128 → has (maskAt work (getD path i 0)) cell ≡ true → copyFrom i ≡ getD (copiesBy own (row .kind)) (used (pathIn work path i) (row .kind)) noCopy
-    path-here few e =
-        ap (λ (qs : List Placement). copyOn (takenOn own (pathIn work path i) qs) cell) (rows-next work path n (held .within) i h)
-        ∙ copy-here own cell (pathIn work path i) row (rowsLeft work path n (i + 1)) (in-mask work (getD path i 0) cell few ∙ e)
-
-    pub path-past : cell < 128 → has (maskAt work (getD path i 0)) cell ≡ false → copyFrom (i + 1) ≡ copyFrom i
-    path-past few e =
-        sym (ap (λ (qs : List Placement). copyOn (takenOn own (pathIn work path i) qs) cell) (rows-next work path n (held .within) i h)
-        ∙ copy-past own cell (pathIn work path i) row (rowsLeft work path n (i + 1)) (in-mask work (getD path i 0) cell few ∙ e)
-        ∙ ap (λ (qs : List Placement). copyOn (takenOn own qs (rowsLeft work path n (i + 1))) cell) (sym (rows-done work path n (held .within) i h)))
-
-  pub path-end : (i : ℕ) → n ≤ i → copyFrom i ≡ noCopy
-  path-end i h =
-      ap (λ (qs : List Placement). copyOn (takenOn own (pathIn work path i) qs) cell) (rows-end work path n (held .within) i h)
-      ∙ copy-nowhere own cell (pathIn work path i) [] (λ q m. absurd (List·Memᴰ·not-nil m))
-
-  -- no row covers a number that is none of a cell
-  pub path-none : d .cells ≤ cell → copyOn (takenBy own (d .kinds) (pathIn work path n)) cell ≡ noCopy
-  path-none h =
-      ap (λ (ts : List Taken). copyOn ts cell) in-path
-      ∙ copy-nowhere own cell [] (pathIn work path n) (λ q m. is-false (member cell (q .cells)) (λ t.
-      let l = ltb→lt cell (d .cells) (all-at (λ (k : ℕ). ltb k (d .cells)) (q .cells)
-      (all-at (λ (r : Placement). all (λ k. ltb k (d .cells)) (r .cells)) (pathIn work path n) (held .onBoard) m) (member-at cell (q .cells) t)) in
-      omega arith))
+  -- no copy lies on a cell that no row covers
+  pub copy-nowhere : (cell : ℕ) (done qs : List Placement) → ((q : Placement) → List·Memᴰ q qs → member cell (q .cells) ≡ false) → copyOn (takenOn done qs) cell ≡ noCopy
+  copy-nowhere cell done [] h = copy-nothing cell
+  copy-nowhere cell done (q ∷ qs) h =
+      copy-past (getD (copiesBy own (q .kind)) (used done (q .kind)) noCopy) (q .cells) (takenOn (done ++ (q ∷ [])) qs) cell (h q (List·Memᴰ·head refl))
+      ∙ copy-nowhere cell (done ++ (q ∷ [])) qs (λ r m. h r (List·Memᴰ·tail m))
 
 -- ---- an answer's bytes, two a turn
-module _ (ts : List Taken) (scans old : List ℕ) (at v : ℕ) (long : v ≤ length scans) (fits : at + 2 * v ≤ length old) where
-  pub answer-stored : (i : ℕ) → i < v → (answers : List ℕ) → answers ≡ paste old at (answersOver ts (take v scans)) (2 * i)
-      → (d : Copied) → asCopy d ≡ copyOn ts (getD scans i 0)
-      → set (set answers (at + 2 * i) (d .piece)) (at + 2 * i + 1) (d .copy) ≡ paste old at (answersOver ts (take v scans)) (2 * (i + 1))
-  unfolding answersOver asCopy
+-- two bytes for each of a list of scan numbers, where the copy on each is given
+abbrev pub bytesOver : (ℕ → Copy) → List ℕ → List ℕ
+bytesOver on scans = pairs (λ n. on n .piece) (λ n. on n .copy) scans
+
+module _ (on : ℕ → Copy) (scans old : List ℕ) (at v : ℕ) (long : v ≤ length scans) (fits : at + 2 * v ≤ length old) where
+  pub answer-stored : (i : ℕ) → i < v → (answers : List ℕ) → answers ≡ paste old at (bytesOver on (take v scans)) (2 * i)
+      → (d : Copied) → asCopy d ≡ on (getD scans i 0)
+      → set (set answers (at + 2 * i) (d .piece)) (at + 2 * i + 1) (d .copy) ≡ paste old at (bytesOver on (take v scans)) (2 * (i + 1))
+  unfolding asCopy
   answer-stored i h answers e d c =
-      let f : ℕ → ℕ = λ n. copyOn ts n .piece in
-      let g : ℕ → ℕ = λ n. copyOn ts n .copy in
+      let f : ℕ → ℕ = λ n. on n .piece in
+      let g : ℕ → ℕ = λ n. on n .copy in
       let xs = take v scans in
       let size = length-take-le v scans long in
       let x : getD xs i 0 ≡ getD scans i 0 = getD-take v scans i 0 h in
@@ -348,30 +314,29 @@ pub record Agreed (told last : List ℕ) (v i : ℕ) : Type 0 where
   pub sized : length last ≡ 2 * v
   pub agree : (k : ℕ) → k < 2 * i → getD last k 0 ≡ getD told k 0
 
-module _ (ts : List Taken) (scans last : List ℕ) (v : ℕ) (long : v ≤ length scans) where
+module _ (on : ℕ → Copy) (scans last : List ℕ) (v : ℕ) (long : v ≤ length scans) where
   abbrev told : List ℕ
-  told = answersOver ts (take v scans)
+  told = bytesOver on (take v scans)
 
   told-length : length told ≡ 2 * v
-  unfolding answersOver
-  told-length = let a = length-pairs (λ n. copyOn ts n .piece) (λ n. copyOn ts n .copy) (take v scans) in let b = length-take-le v scans long in omega arith
+  told-length = let a = length-pairs (λ n. on n .piece) (λ n. on n .copy) (take v scans) in let b = length-take-le v scans long in omega arith
 
-  told-piece : (i : ℕ) → i < v → (d : Copied) → asCopy d ≡ copyOn ts (getD scans i 0) → getD told (2 * i) 0 ≡ d .piece
-  unfolding answersOver asCopy
+  told-piece : (i : ℕ) → i < v → (d : Copied) → asCopy d ≡ on (getD scans i 0) → getD told (2 * i) 0 ≡ d .piece
+  unfolding asCopy
   told-piece i h d c =
-      pair-first (λ n. copyOn ts n .piece) (λ n. copyOn ts n .copy) (take v scans) i 0 (let b = length-take-le v scans long in omega arith)
-      ∙ ap (λ (n : ℕ). copyOn ts n .piece) (getD-take v scans i 0 h) ∙ sym (ap (λ (y : Copy). y .piece) c)
+      pair-first (λ n. on n .piece) (λ n. on n .copy) (take v scans) i 0 (let b = length-take-le v scans long in omega arith)
+      ∙ ap (λ (n : ℕ). on n .piece) (getD-take v scans i 0 h) ∙ sym (ap (λ (y : Copy). y .piece) c)
 
-  told-copy : (i : ℕ) → i < v → (d : Copied) → asCopy d ≡ copyOn ts (getD scans i 0) → getD told (2 * i + 1) 0 ≡ d .copy
-  unfolding answersOver asCopy
+  told-copy : (i : ℕ) → i < v → (d : Copied) → asCopy d ≡ on (getD scans i 0) → getD told (2 * i + 1) 0 ≡ d .copy
+  unfolding asCopy
   told-copy i h d c =
-      pair-second (λ n. copyOn ts n .piece) (λ n. copyOn ts n .copy) (take v scans) i 0 (let b = length-take-le v scans long in omega arith)
-      ∙ ap (λ (n : ℕ). copyOn ts n .copy) (getD-take v scans i 0 h) ∙ sym (ap (λ (y : Copy). y .copy) c)
+      pair-second (λ n. on n .piece) (λ n. on n .copy) (take v scans) i 0 (let b = length-take-le v scans long in omega arith)
+      ∙ ap (λ (n : ℕ). on n .copy) (getD-take v scans i 0 h) ∙ sym (ap (λ (y : Copy). y .copy) c)
 
   pub agreed-none : length last ≡ 2 * v → Agreed told last v 0
   agreed-none e = record { upTo = omega arith; sized = e; agree = λ k h. absurd (omega arith) }
 
-  pub agreed-more : (i : ℕ) → Agreed told last v i → i < v → (d : Copied) → asCopy d ≡ copyOn ts (getD scans i 0)
+  pub agreed-more : (i : ℕ) → Agreed told last v i → i < v → (d : Copied) → asCopy d ≡ on (getD scans i 0)
       → getD last (2 * i) 0 ≡ d .piece → getD last (2 * i + 1) 0 ≡ d .copy → Agreed told last v (i + 1)
   agreed-more i a h d c p q =
       record {
@@ -389,10 +354,10 @@ module _ (ts : List Taken) (scans last : List ℕ) (v : ℕ) (long : v ≤ lengt
   pub sizes-apart : (length last ≡ 2 * v → ⊥) → false ≡ same told last
   sizes-apart f = apart told last (λ e. f (sym (ap length e) ∙ told-length))
 
-  pub pieces-apart : (i : ℕ) → i < v → (d : Copied) → asCopy d ≡ copyOn ts (getD scans i 0) → (getD last (2 * i) 0 ≡ d .piece → ⊥) → false ≡ same told last
+  pub pieces-apart : (i : ℕ) → i < v → (d : Copied) → asCopy d ≡ on (getD scans i 0) → (getD last (2 * i) 0 ≡ d .piece → ⊥) → false ≡ same told last
   pieces-apart i h d c f = apart told last (λ e. f (sym (ap (λ (l : List ℕ). getD l (2 * i) 0) e) ∙ told-piece i h d c))
 
-  pub copies-apart : (i : ℕ) → i < v → (d : Copied) → asCopy d ≡ copyOn ts (getD scans i 0) → (getD last (2 * i + 1) 0 ≡ d .copy → ⊥) → false ≡ same told last
+  pub copies-apart : (i : ℕ) → i < v → (d : Copied) → asCopy d ≡ on (getD scans i 0) → (getD last (2 * i + 1) 0 ≡ d .copy → ⊥) → false ≡ same told last
   copies-apart i h d c f = apart told last (λ e. f (sym (ap (λ (l : List ℕ). getD l (2 * i + 1) 0) e) ∙ told-copy i h d c))
 
   pub agreed-all : (i : ℕ) → Agreed told last v i → v ≤ i → true ≡ same told last

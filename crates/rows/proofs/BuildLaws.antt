@@ -15,8 +15,8 @@ use Rattle.definitions.specs.Kinds.{Kind, kindsOf, variants}
 use Rattle.definitions.specs.Placements.{Placement, placementsAt, placementsOf, compile}
 use Rattle.definitions.specs.Refusals.{gridOf, sidesOf, placementCount}
 use Rattle.definitions.specs.declared.Record.{Record}
-use Rattle.placements.specs.declared.Table.{Table}
-use Rattle.placements.specs.Tables.{noRecord, recordsOf, lentIn}
+use Rattle.placements.specs.declared.Pieces.{Pieces}
+use Rattle.placements.specs.Pieces.{noRecord, recordsOf, lentIn}
 use Rattle.placements.specs.Merging.{gridAt, shapeAt, AreKinds}
 use Rattle.placements.proofs.RefusalLaws.{cells-end}
 use Rattle.placements.proofs.MergingLaws.{record-fits}
@@ -26,14 +26,14 @@ use Rattle.placements.proofs.CountingLaws.{Lent, sound, kinds-shapes, variants-
 abbrev pub placementsBy : List ℕ → Grid → ℕ → List Grid → List Placement
 placementsBy order g k gs = joined (numbered (scan order g) (placementsAt (scan order g) k (map (scan order) gs)))
 
-abbrev pub placementsOfPiece : List ℕ → Grid → Table → List ℕ → ℕ → ℕ → List Placement
+abbrev pub placementsOfPiece : List ℕ → Grid → Pieces → List ℕ → ℕ → ℕ → List Placement
 placementsOfPiece order g t bytes k i = placementsBy order g k (variants (gridAt t bytes i))
 
 -- what is left from kind k on
-abbrev pub leftFrom : List ℕ → Grid → Table → List ℕ → List ℕ → ℕ → ℕ → List Placement
+abbrev pub leftFrom : List ℕ → Grid → Pieces → List ℕ → List ℕ → ℕ → ℕ → List Placement
 leftFrom order g t bytes first kinds k = joined (numberedFrom k (drop k (take kinds first)) (placementsOfPiece order g t bytes))
 
-module _ (order : List ℕ) (g : Grid) (t : Table) (bytes first : List ℕ) (kinds : ℕ) (within : kinds ≤ length first) (k : ℕ) where
+module _ (order : List ℕ) (g : Grid) (t : Pieces) (bytes first : List ℕ) (kinds : ℕ) (within : kinds ≤ length first) (k : ℕ) where
   pub left-kind : (h : Grid) → k < kinds → h ≡ gridAt t bytes (getD first k 0)
       → leftFrom order g t bytes first kinds k ≡ placementsBy order g k (variants h) ++ leftFrom order g t bytes first kinds (k + 1)
   left-kind h l e =
@@ -48,15 +48,15 @@ module _ (order : List ℕ) (g : Grid) (t : Table) (bytes first : List ℕ) (kin
       ap (λ (is : List ℕ). joined (numberedFrom k is (placementsOfPiece order g t bytes))) (drop-of-length-le (take kinds first) {i = k} (omega arith))
 
 -- ---- all placements
-module _ (t : Table) (board : Record) (bytes : List ℕ) (lent : Lent t board bytes) (long : length (t .rows) ≡ 16) where
-  piece-size : (i : ℕ) → i < t .n → length (gridAt t bytes i .cells) ≡ volume (gridAt t bytes i .sides)
+module _ (t : Pieces) (board : Record) (bytes : List ℕ) (lent : Lent t board bytes) (long : length (t .records) ≡ 16) where
+  piece-size : (i : ℕ) → i < t .count → length (gridAt t bytes i .cells) ≡ volume (gridAt t bytes i .sides)
   unfolding gridAt gridOf
   piece-size i h =
-      let r = getD (t .rows) i noRecord in
+      let r = getD (t .records) i noRecord in
       let e = cells-end bytes r (record-fits t bytes (sound t board bytes lent) long i h .1) in
       length-take-le (volume (sidesOf r)) (drop (r .start) bytes) (simp length-drop (omega arith))
 
-  piece-variants : (i : ℕ) → i < t .n → variants (shapeAt t bytes i) ≡ variants (gridAt t bytes i)
+  piece-variants : (i : ℕ) → i < t .count → variants (shapeAt t bytes i) ≡ variants (gridAt t bytes i)
   unfolding shapeAt
   piece-variants i h = variants-smallest (gridAt t bytes i) (piece-size i h)
 
@@ -67,7 +67,7 @@ module _ (t : Table) (board : Record) (bytes : List ℕ) (lent : Lent t board by
         ap₂ (λ (o : List ℕ) (b : Grid). leftFrom o b t bytes first kinds 0) (sym is-order) is
         ∙ ap joined
         (numbered-same (placementsOfPiece ord bd t bytes) (λ k i. by k (shapeAt t bytes i)) 0 (take kinds first)
-        (λ k i m. ap (placementsBy ord bd k) (sym (piece-variants i (ltb→lt i (t .n) (all-at (λ (j : ℕ). ltb j (t .n)) (take kinds first) (are .ordered .pieces) m)))))
+        (λ k i m. ap (placementsBy ord bd k) (sym (piece-variants i (ltb→lt i (t .count) (all-at (λ (j : ℕ). ltb j (t .count)) (take kinds first) (are .ordered .pieces) m)))))
         ∙ sym (numbered-map (shapeAt t bytes) by 0 (take kinds first))
         ∙ ap (λ (gs : List Grid). numberedFrom 0 gs by) (sym (kinds-shapes t board bytes first kinds are))
         ∙ numbered-map (λ (d : Kind). d .shape) by 0 (kindsOf (lentIn (recordsOf t) board bytes)))

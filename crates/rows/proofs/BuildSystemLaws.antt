@@ -33,8 +33,8 @@ use Rattle.shape.specs.Places.{cellAt}
 use Rattle.shape.proofs.PlaceLaws.{cell-in-box, cell-at-place, place-lt, place-of-cell}
 use Rattle.shape.proofs.StrippingLaws.{part-in-box}
 use Rattle.shape.proofs.GridLaws.{box-places}
-use Rattle.placements.specs.declared.Table.{Table}
-use Rattle.placements.specs.Tables.{recordsOf, framedIn, lentIn, trayIn}
+use Rattle.placements.specs.declared.Pieces.{Pieces}
+use Rattle.placements.specs.Pieces.{recordsOf, framedIn, lentIn, trayIn}
 use Rattle.placements.specs.Stages.{lentRows, gridRows, configRows, sliceRows, countRowsBy, countRows}
 use Rattle.placements.specs.Counting.{OnBoard, Accepted9, Counted}
 use Rattle.placements.specs.declared.counting.Counts.{Counts}
@@ -46,11 +46,11 @@ use Rattle.placements.proofs.StageLaws.{refusal-stages}
 use Rattle.rows.specs.Rows.{rowsIn, spread, RowsFit, Appended}
 use Rattle.rows.specs.Boards.{Numbered, Pictured, boardImages}
 use Rattle.rows.specs.declared.Dims.{Dims}
-use Rattle.rows.specs.Chains.{Chained}
+use Rattle.rows.specs.Ranges.{Ranged}
 use Rattle.rows.specs.Built.{BuiltLent}
 use Rattle.rows.specs.Systems.{KindsIn, owned, ownedIn, imagesIn, cellImages, systemOver, systemOf}
-use Rattle.rows.proofs.SystemLaws.{few-cells, spread-placements}
-use Rattle.rows.proofs.TableLaws.{append-first}
+use Rattle.rows.proofs.SystemLaws.{few-cells, few-kinds, spread-placements}
+use Rattle.rows.proofs.RowLaws.{append-first}
 
 -- ---- a call that lends an accepted tray
 -- a call is accepted where its rows 2 to 9, 10 and 11, 12 and 13, and 14 and 15 let it pass
@@ -85,7 +85,7 @@ accepted-call l a b c d =
     slices-numbered : T (all (λ r. ltb 0 (r .number)) (sliceRows (l .config) (length (l .work)) (length (l .links))))
     slices-numbered = unfold sliceRows in tt
 
-module _ (t : Table) (board : Record) (bytes work : List ℕ) where
+module _ (t : Pieces) (board : Record) (bytes work : List ℕ) where
   -- the call for all packings by the engine Fast
   abbrev pub fastCall : Call
   fastCall =
@@ -196,19 +196,19 @@ module _ (t : Tray) (order : List ℕ) (g : Grid) (is : g ≡ t .board) (is-orde
   unfolding boardImages cellImages cellAfter compile
   images-are m = ap₂ (λ (o : List ℕ) (h : Grid). boardImages o h m) (sym is-order) is
 
-  pub all-images : (numbers : List ℕ) (ms : List Map) → map mapOf numbers ≡ ms
-      → map (boardImages order g) (symmetries g (map mapOf numbers)) ≡ map (cellImages (compile t)) (symmetries (compile t .board) ms)
+  pub all-images : (turnings : List ℕ) (ms : List Map) → map mapOf turnings ≡ ms
+      → map (boardImages order g) (symmetries g (map mapOf turnings)) ≡ map (cellImages (compile t)) (symmetries (compile t .board) ms)
   unfolding compile
-  all-images numbers ms e =
-      map-same (boardImages order g) (cellImages (compile t)) (symmetries g (map mapOf numbers)) (λ m k. images-are m)
+  all-images turnings ms e =
+      map-same (boardImages order g) (cellImages (compile t)) (symmetries g (map mapOf turnings)) (λ m k. images-are m)
       ∙ ap₂ (λ (h : Grid) (ns : List Map). map (cellImages (compile t)) (symmetries h ns)) is e
 
 -- ---- the rows of a tray
 -- the placements of an accepted tray fit into rows
-pub rows-fit : (t : Table) (board : Record) (bytes work : List ℕ) → Accepted9 t board bytes → placementCount (compile (trayIn (recordsOf t) board bytes)) ≤ 1024 → 8192 ≤ length work
+pub rows-fit : (t : Pieces) (board : Record) (bytes work : List ℕ) → Accepted9 t board bytes → placementCount (compile (trayIn (recordsOf t) board bytes)) ≤ 1024 → 8192 ≤ length work
     → RowsFit (compile (trayIn (recordsOf t) board bytes))
 unfolding lentOf trayOf
-rows-fit t board bytes work ok few long = record { spreads = spread-placements call passes; first = all-of (λ q. ltb (q .p) 128) (C .placements) (λ q m. lt→ltb (q .p) 128 (first-few q m)) }
+rows-fit t board bytes work ok few long = record { spreads = spread-placements call passes; inRange = all-of (λ q. ltb (128 * q .kind + q .p) 2048) (C .placements) (λ q m. lt→ltb (128 * q .kind + q .p) 2048 (few-ranges q m)) }
   where
     call : Call
     call = fastCall t board bytes work
@@ -219,19 +219,21 @@ rows-fit t board bytes work ok few long = record { spreads = spread-placements c
     passes : refusal (fastCall t board bytes work) ≡ 0
     passes = fast-accepted t board bytes work ok few long
 
-    first-few : (q : Placement) → List·Memᴰ q (compile (trayIn (recordsOf t) board bytes) .placements) → q .p < 128
-    first-few q m =
+    few-ranges : (q : Placement) → List·Memᴰ q (compile (trayIn (recordsOf t) board bytes) .placements) → 128 * q .kind + q .p < 2048
+    few-ranges q m =
         let a = W (fastCall t board bytes work) passes .onBoard q m (q .p) (W (fastCall t board bytes work) passes .coversP q m) in
         let b = few-cells (fastCall t board bytes work) passes in
+        let d = W (fastCall t board bytes work) passes .ofKinds q m in
+        let e = few-kinds (fastCall t board bytes work) passes in
         omega arith
 
 -- (the frame decides no placement)
 pub rows-unframed : (t : Tray) {s : Tray} → s ≡ unframed t → RowsFit (compile t) → RowsFit (compile s)
 unfolding unframed compile kindsOf sorted
-rows-unframed t {s} e h = subst (λ (u : Tray). RowsFit (compile u)) (sym e) (record { spreads = h .spreads; first = h .first })
+rows-unframed t {s} e h = subst (λ (u : Tray). RowsFit (compile u)) (sym e) (record { spreads = h .spreads; inRange = h .inRange })
 
 module _ (c : Compiled) (fit : RowsFit c) (few : placementCount c ≤ 1024) (work new : List ℕ) (r : ℕ) (rows : Appended work 0 new r (map spread (c .placements))) where
-  -- the rows written: as many as placements, and each at one of 128 cells
+  -- the rows written: as many as placements, and each of one of 2,048 ranges
   pub rows-are : rowsIn new r ≡ c .placements
   rows-are = append-first rows ∙ fit .spreads
 
@@ -239,11 +241,11 @@ module _ (c : Compiled) (fit : RowsFit c) (few : placementCount c ≤ 1024) (wor
   unfolding placementCount
   rows-few = let a = rows .count in let b = length-map (c .placements) spread in omega arith
 
-  pub rows-first : T (all (λ q. ltb (q .p) 128) (rowsIn new r))
-  rows-first = subst (λ (qs : List Placement). T (all (λ q. ltb (q .p) 128) qs)) (sym rows-are) (fit .first)
+  pub rows-in-range : T (all (λ q. ltb (128 * q .kind + q .p) 2048) (rowsIn new r))
+  rows-in-range = subst (λ (qs : List Placement). T (all (λ q. ltb (128 * q .kind + q .p) 2048) qs)) (sym rows-are) (fit .inRange)
 
-  pub rows-behind : (last : List ℕ) → drop (8 * r) last ≡ drop (8 * r) new → drop 8192 last ≡ drop 8192 work
-  rows-behind last e = let k = rows-few in drop-later (8 * r) 8192 last work (omega arith) (e ∙ rows .behind)
+  pub rows-behind : drop 8192 new ≡ drop 8192 work
+  rows-behind = let k = rows-few in drop-later (8 * r) 8192 new work (omega arith) (rows .behind)
 
 -- ---- the parts by the board's geometry
 module _ (rs : List Record) (board : Record) (bytes order : List ℕ) (g : Grid) (is : g ≡ gridOf bytes board) (places : List ℕ) (cells : ℕ)
@@ -252,12 +254,12 @@ module _ (rs : List Record) (board : Record) (bytes order : List ℕ) (g : Grid)
   unfolding compile
   cells-are = sym (cells-many order (gridOf bytes board) places cells on) ∙ ap (λ (o : List ℕ). length (scan o (gridOf bytes board))) (sym (on .isOrder))
 
-  pub built-lent : (work after heads old mid images : List ℕ) (r a b : ℕ) → rowsIn after r ≡ compile (lentIn rs board bytes) .placements
+  pub built-lent : (work after starts old mid images : List ℕ) (r a b : ℕ) → rowsIn after r ≡ compile (lentIn rs board bytes) .placements
       → Pictured old 0 mid a cells (map (boardImages order g) (symmetries g (map mapOf (from 0 24))))
       → Pictured mid a images b cells (map (boardImages order g) (symmetries g (map mapOf (from 24 24))))
-      → Chained after heads r → drop 8192 after ≡ drop 8192 work
-      → BuiltLent (compile (lentIn rs board bytes)) cells (record { rows = r; turns = a; mirrorings = b - a }) work after heads images
-  built-lent work after heads old mid images r a b rows p q chained behind =
+      → Ranged after starts r → drop 8192 after ≡ drop 8192 work
+      → BuiltLent (compile (lentIn rs board bytes)) cells (record { rows = r; turns = a; mirrorings = b - a }) work after starts images
+  built-lent work after starts old mid images r a b rows p q ranged behind =
       let both = images-both old mid images a b cells _ _ p q in
       let t = lentIn rs board bytes in
       record {
@@ -266,24 +268,24 @@ module _ (rs : List Record) (board : Record) (bytes order : List ℕ) (g : Grid)
         turned = both .0 ∙ all-images t order g is (on .isOrder) (from 0 24) turns turns-numbered;
         mirrored = both .1 ∙ all-images t order g is (on .isOrder) (from 24 24) mirrorings mirrorings-numbered;
         few = (let e = images-few old mid order g 0 a cells 0 24 p in let f = images-few mid images order g a b cells 24 24 q in omega arith);
-        chained = chained;
+        ranged = ranged;
         behind = behind;
       }
 
 -- ---- the system of a tray in a frame, which decides nothing of it but the scan numbers: those of the lent box
-pub system-framed : (rs : List Record) (board : Record) (bytes : List ℕ) (f : Frame) (d : Dims) (work after heads images kinds pieces scans : List ℕ)
-    → BuiltLent (compile (lentIn rs board bytes)) (d .cells) (record { rows = d .rows; turns = d .turns; mirrorings = d .mirrorings }) work after heads images
+pub system-framed : (rs : List Record) (board : Record) (bytes : List ℕ) (f : Frame) (d : Dims) (work after starts images kinds pieces scans : List ℕ)
+    → BuiltLent (compile (lentIn rs board bytes)) (d .size) (record { rows = d .rows; turns = d .turns; mirrorings = d .mirrorings }) work after starts images
     → KindsIn kinds (d .kinds) (compile (lentIn rs board bytes)) → ownedIn pieces (d .pieces) ≡ owned (lentIn rs board bytes)
     → take (d .places) scans ≡ map (scanNumber (lentCells (compile (framedIn rs board bytes f)))) (box (compile (framedIn rs board bytes f) .frame .lent))
     → systemOver d after images scans kinds pieces ≡ systemOf (framedIn rs board bytes f)
 unfolding systemOver systemOf compile kindsOf sorted limits sizes owned cellImages cellAfter
-system-framed rs board bytes f d work after heads images kinds pieces scans b ks own new =
+system-framed rs board bytes f d work after starts images kinds pieces scans b ks own new =
     (λ i. record {
       size = b .size i;
       rows = b .rows i;
       copies = ks .copies i;
       partners = ks .partners i;
-      sizes = ks .cells i;
+      sizes = ks .sizesAre i;
       turned = b .turned i;
       mirrored = b .mirrored i;
       scans = new i;
@@ -339,7 +341,7 @@ module _ (rs : List Record) (board : Record) (bytes : List ℕ) (f : Frame) (s :
         (ap (map (cellAt (f .lent))) front ∙ put-back-cells s f (take n places) (compile (framedIn rs board bytes f) .cells) fits part-below cells-at) room e
 
 -- ---- a tray whose grids are stripped
-module _ (t : Table) (board : Record) (bytes : List ℕ) {r : StrippedRecords} {cells : List ℕ} (stripped : StripsTray t board bytes r cells) where
+module _ (t : Pieces) (board : Record) (bytes : List ℕ) {r : StrippedRecords} {cells : List ℕ} (stripped : StripsTray t board bytes r cells) where
   part-is : gridOf cells (r .board) ≡ strip (gridOf bytes board)
   unfolding unframed stripTray
   part-is = ap (λ (x : Tray). x .board) (stripped .tray)
@@ -351,8 +353,8 @@ module _ (t : Table) (board : Record) (bytes : List ℕ) {r : StrippedRecords} {
       subst₂ FitsIn (λ i. record { lent = sym e i; at = sym (stripped .at) i }) (ap (λ (g : Grid). g .sides) (sym part-is)) (strip-fits (gridOf bytes board))
 
   -- and its placements fit into rows
-  pub rows-stripped : {places first numbers : List ℕ} {counts : Counts} → Counted (r .table) (r .board) cells places first numbers counts → (work : List ℕ)
-      → Accepted9 t board bytes → counts .placements ≤ 1024 → 8192 ≤ length work → RowsFit (compile (lentIn (recordsOf (r .table)) (r .board) cells))
+  pub rows-stripped : {places first turnings : List ℕ} {counts : Counts} → Counted (r .pieces) (r .board) cells places first turnings counts → (work : List ℕ)
+      → Accepted9 t board bytes → counts .placements ≤ 1024 → 8192 ≤ length work → RowsFit (compile (lentIn (recordsOf (r .pieces)) (r .board) cells))
   rows-stripped counted work ok few long =
       rows-unframed (trayIn (recordsOf t) board bytes) (stripped .tray)
       (rows-fit t board bytes work ok (let e = counts-stripped t board bytes stripped counted .placements in omega arith) long)

@@ -8,7 +8,7 @@ use lib.ListN.{length, getD, drop, length-drop}
 use lib.Seq.{length-take-le, getD-take, getD-drop}
 use Rattle.lists.specs.Lists.{all}
 use Rattle.lists.proofs.ListLaws.{all-getD}
-use Rattle.rows.specs.Charts.{Charted, chartLength, imagesPart, imagesOf, scansPart, piecesPart}
+use Rattle.rows.specs.Charts.{Charted, chartLength, imagesAt, piecesAt, imagesPart, imagesOf, scansPart, piecesPart}
 
 -- there are scan numbers for all places
 pub scans-long : (chart : List ℕ) → length chart ≡ chartLength → (places : ℕ) → places ≤ 512 → places ≤ length (scansPart chart)
@@ -23,7 +23,7 @@ module _ (chart : List ℕ) (size m : ℕ) where
 
   pub images-length : length chart ≡ chartLength → size ≤ 128 → m < 48 → length (imagesOf chart size m) ≡ size
   unfolding imagesOf imagesPart
-  images-length long few h = length-take-le size (drop (128 * m) (drop 128 chart)) (simp length-drop (omega arith))
+  images-length long few h = length-take-le size (drop (128 * m) (drop imagesAt chart)) (simp length-drop (omega arith))
 
   pub image-small : length chart ≡ chartLength → size ≤ 128 → m < 48 → T (all (λ n. ltb n 128) (imagesOf chart size m))
       → (i : ℕ) → i < size → getD (imagesPart chart) (128 * m + i) 0 < 128
@@ -34,4 +34,4 @@ module _ (chart : List ℕ) (size m : ℕ) where
 -- what stands of the pieces is bytes
 pub piece-byte : (chart : List ℕ) → Charted chart → (i : ℕ) → getD (piecesPart chart) i 0 < 256
 unfolding piecesPart
-piece-byte chart c i = rw getD-drop (c .bytes (6832 + i) (omega arith))
+piece-byte chart c i = rw getD-drop (c .bytes (piecesAt + i) (omega arith))

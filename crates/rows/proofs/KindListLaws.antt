@@ -26,19 +26,19 @@ use Rattle.definitions.proofs.MoveLaws.{mirror-in, mapped-whole}
 use Rattle.definitions.proofs.PartnerLaws.{mirror-twice, form-path}
 use Rattle.definitions.proofs.ShapeLaws.{smallest-at, sum-filled}
 use Rattle.shape.proofs.PlaceLaws.{volume-small}
-use Rattle.placements.specs.declared.Table.{Table}
-use Rattle.placements.specs.Tables.{noRecord, recordsOf, lentIn}
+use Rattle.placements.specs.declared.Pieces.{Pieces}
+use Rattle.placements.specs.Pieces.{noRecord, recordsOf, lentIn}
 use Rattle.placements.specs.Merging.{Sound, gridAt, shapeAt, woodAt, formAt, movedForm, formsOf, AreKinds, copiesAt}
 use Rattle.placements.specs.Counting.{Accepted9}
 use Rattle.placements.proofs.RefusalLaws.{sides-small, cells-end, all-grids, records-few, records-count, record-passes}
-use Rattle.placements.proofs.MergingLaws.{record-fits, unmoved-form, formIn, forms-length, piece-at, counted, copies-all}
+use Rattle.placements.proofs.MergingLaws.{record-fits, formIn, forms-length, piece-at, counted, copies-all}
 use Rattle.placements.proofs.CountingLaws.{lent-passes, sound, kinds-many, filled-smallest, filled-bytes}
 use Rattle.rows.specs.Built.{KindsSmall}
 use Rattle.rows.specs.Systems.{Owned, KindsIn, owned, ownedIn}
 use Rattle.rows.proofs.PairLaws.{pairs, first-stored, second-stored, front-next, set3, set3-first, set3-second, set3-third, set3-other}
 
 -- ---- a tray has at most 128 copies
-pub few-copies : (t : Table) (board : Record) (bytes : List ℕ) → Accepted9 t board bytes → copyCount (lentIn (recordsOf t) board bytes) ≤ 128
+pub few-copies : (t : Pieces) (board : Record) (bytes : List ℕ) → Accepted9 t board bytes → copyCount (lentIn (recordsOf t) board bytes) ≤ 128
 few-copies t board bytes ok = lent-passes t board bytes ok .passed .fewCopies
 
 abbrev counts : List ℕ → List Record → ℕ
@@ -83,7 +83,7 @@ pub small-next : (old : List ℕ) (k a b c : ℕ) → 3 * k + 2 < length old →
 small-next old k a b c room small p q =
     record {
       copies = λ j h. at-first j (eqb j k) refl (small .copies j h);
-      cells = λ j h. at-third j (eqb j k) refl (small .cells j h);
+      sizes = λ j h. at-third j (eqb j k) refl (small .sizes j h);
     }
   where
     at-first : (j : ℕ) (same : Bool) → eqb j k ≡ same → getD old (3 * j) 0 < 256 → getD (set3 old k a b c) (3 * j) 0 < 256
@@ -104,41 +104,49 @@ pub zeros-small : KindsSmall (replicate 48 0)
 zeros-small =
     record {
       copies = λ k h. let e = getD-replicate {A = ℕ} 48 (3 * k) 0 0 (omega arith) in omega arith;
-      cells = λ k h. let e = getD-replicate {A = ℕ} 48 (3 * k + 2) 0 0 (omega arith) in omega arith;
+      sizes = λ k h. let e = getD-replicate {A = ℕ} 48 (3 * k + 2) 0 0 (omega arith) in omega arith;
     }
 
--- ---- what is written: of the kind of piece i its copies, its partner and how many cells it has, of piece i its kind and its count
-abbrev pub partnerAt : Table → List ℕ → List ℕ → ℕ → ℕ → ℕ
-partnerAt t bytes first n i = before (sameForm (movedForm (mapOf 26) t bytes i)) (formsOf t bytes (take n first))
+-- ---- the form of piece i's mirrored grid; and that of a map that makes the smallest turned grid of it
+unfoldable pub mirroredAt : Pieces → List ℕ → ℕ → Form
+mirroredAt t bytes i = record { grid = smallest (mapGrid (mapOf 26) (gridAt t bytes i)); wood = woodAt t i }
 
-abbrev pub sizeAt : Table → List ℕ → ℕ → ℕ
+pub mirrored-by : (t : Pieces) (bytes : List ℕ) (i m : ℕ) → mapGrid (mapOf m) (gridAt t bytes i) ≡ smallest (mapGrid (mapOf 26) (gridAt t bytes i)) → movedForm (mapOf m) t bytes i ≡ mirroredAt t bytes i
+unfolding movedForm mirroredAt
+mirrored-by t bytes i m e = form-path e refl
+
+-- ---- what is written: of the kind of piece i its copies, its partner and how many cells it has, of piece i its kind and its count
+abbrev pub partnerAt : Pieces → List ℕ → List ℕ → ℕ → ℕ → ℕ
+partnerAt t bytes first n i = before (sameForm (mirroredAt t bytes i)) (formsOf t bytes (take n first))
+
+abbrev pub sizeAt : Pieces → List ℕ → ℕ → ℕ
 sizeAt t bytes i = howMany (eqb 1) (gridAt t bytes i .cells)
 
-pub record KindAt (t : Table) (bytes first : List ℕ) (n : ℕ) (kinds : List ℕ) (k : ℕ) : Type 0 where
+pub record KindAt (t : Pieces) (bytes first : List ℕ) (n : ℕ) (kinds : List ℕ) (k : ℕ) : Type 0 where
   pub copies : getD kinds (3 * k) 0 ≡ copiesAt t bytes (getD first k 0)
   pub partner : getD kinds (3 * k + 1) 0 ≡ partnerAt t bytes first n (getD first k 0)
-  pub cells : getD kinds (3 * k + 2) 0 ≡ sizeAt t bytes (getD first k 0)
+  pub size : getD kinds (3 * k + 2) 0 ≡ sizeAt t bytes (getD first k 0)
 
-abbrev pub kindAt : Table → List ℕ → List ℕ → ℕ → ℕ → ℕ
+abbrev pub kindAt : Pieces → List ℕ → List ℕ → ℕ → ℕ → ℕ
 kindAt t bytes first n i = before (sameForm (formAt t bytes i)) (formsOf t bytes (take n first))
 
-abbrev pub countAt : Table → ℕ → ℕ
-countAt t i = getD (t .rows) i noRecord .count
+abbrev pub countAt : Pieces → ℕ → ℕ
+countAt t i = getD (t .records) i noRecord .count
 
-module _ (t : Table) (board : Record) (bytes first : List ℕ) (n : ℕ) (long : length (t .rows) ≡ 16) (ok : Accepted9 t board bytes) (are : AreKinds t bytes first n) (h : n ≤ length first) where
+module _ (t : Pieces) (board : Record) (bytes first : List ℕ) (n : ℕ) (long : length (t .records) ≡ 16) (ok : Accepted9 t board bytes) (are : AreKinds t bytes first n) (h : n ≤ length first) where
   pub lent-sound : Sound t bytes
   lent-sound = sound t board bytes (lent-passes t board bytes ok)
 
   all-bits : T (all (λ q. areBits (gridOf bytes q)) (recordsOf t))
   all-bits = subst T (all-grids areBits bytes (recordsOf t)) (lent-passes t board bytes ok .passed .bits)
 
-  pub kind-piece : (k : ℕ) → k < n → getD first k 0 < t .n
+  pub kind-piece : (k : ℕ) → k < n → getD first k 0 < t .count
   kind-piece k l = piece-at t bytes first n h (are .ordered) k l
 
-  whole : (i : ℕ) → i < t .n → length (gridAt t bytes i .cells) ≡ volume (gridAt t bytes i .sides)
+  whole : (i : ℕ) → i < t .count → length (gridAt t bytes i .cells) ≡ volume (gridAt t bytes i .sides)
   unfolding gridAt gridOf
   whole i l =
-      let r = getD (t .rows) i noRecord in
+      let r = getD (t .records) i noRecord in
       let k = cells-end bytes r (record-fits t bytes lent-sound long i l .1) in
       length-take-le (volume (sidesOf r)) (drop (r .start) bytes) (simp length-drop (omega arith))
 
@@ -147,10 +155,10 @@ module _ (t : Table) (board : Record) (bytes first : List ℕ) (n : ℕ) (long :
   unfolding copyCount
   copies-fit i = let a = copies-all t bytes i in let b = counted-few bytes (formAt t bytes i) (recordsOf t) in let d = few-copies t board bytes ok in omega arith
 
-  record-is : (i : ℕ) → i < t .n → getD (recordsOf t) i noRecord ≡ getD (t .rows) i noRecord
-  record-is i l = rw (records-few t (lent-sound .few)) (getD-take (t .n) (t .rows) i noRecord l)
+  record-is : (i : ℕ) → i < t .count → getD (recordsOf t) i noRecord ≡ getD (t .records) i noRecord
+  record-is i l = rw (records-few t (lent-sound .few)) (getD-take (t .count) (t .records) i noRecord l)
 
-  pub count-fits : (i : ℕ) → i < t .n → countAt t i ≤ 128
+  pub count-fits : (i : ℕ) → i < t .count → countAt t i ≤ 128
   unfolding copyCount
   count-fits i l =
       let a = one-few bytes (recordsOf t) i in
@@ -158,9 +166,9 @@ module _ (t : Table) (board : Record) (bytes first : List ℕ) (n : ℕ) (long :
       let e : getD (recordsOf t) i noRecord .count ≡ countAt t i = ap (λ (r : Record). r .count) (record-is i l) in
       omega arith
 
-  pub size-fits : (r : ℕ) (cells : List ℕ) (i : ℕ) → i < t .n → length cells ≡ volume (sidesOf (getD (t .rows) i noRecord)) → r ≤ length cells → r ≤ 512
+  pub size-fits : (r : ℕ) (cells : List ℕ) (i : ℕ) → i < t .count → length cells ≡ volume (sidesOf (getD (t .records) i noRecord)) → r ≤ length cells → r ≤ 512
   size-fits r cells i l e k =
-      let v = volume-small (sidesOf (getD (t .rows) i noRecord)) (sides-small (getD (t .rows) i noRecord) (record-fits t bytes lent-sound long i l .0)) .1 in
+      let v = volume-small (sidesOf (getD (t .records) i noRecord)) (sides-small (getD (t .records) i noRecord) (record-fits t bytes lent-sound long i l .0)) .1 in
       omega arith
 
   pub number-fits : (g : Form) → before (sameForm g) (formsOf t bytes (take n first)) ≤ 16
@@ -189,9 +197,9 @@ module _ (t : Table) (board : Record) (bytes first : List ℕ) (n : ℕ) (long :
       record {
         copies = set3-other old k a b c (3 * j) (λ e. omega arith) (λ e. omega arith) (λ e. omega arith) ∙ at .copies;
         partner = set3-other old k a b c (3 * j + 1) (λ e. omega arith) (λ e. omega arith) (λ e. omega arith) ∙ at .partner;
-        cells = set3-other old k a b c (3 * j + 2) (λ e. omega arith) (λ e. omega arith) (λ e. omega arith) ∙ at .cells;
+        size = set3-other old k a b c (3 * j + 2) (λ e. omega arith) (λ e. omega arith) (λ e. omega arith) ∙ at .size;
       })
-      (record { copies = set3-first old k a b c room ∙ p; partner = set3-second old k a b c room ∙ q; cells = set3-third old k a b c room ∙ r })
+      (record { copies = set3-first old k a b c room ∙ p; partner = set3-second old k a b c room ∙ q; size = set3-third old k a b c room ∙ r })
 
   abbrev tray : Tray
   tray = lentIn (recordsOf t) board bytes
@@ -202,17 +210,17 @@ module _ (t : Table) (board : Record) (bytes first : List ℕ) (n : ℕ) (long :
 
   -- what a function makes of the kinds, by a piece of each
   by-pieces : {B : Type 0} (f : Kind → B) (g : ℕ → B)
-      → ((i : ℕ) → i < t .n → f (kindNamed (sorted tray) (forms (sorted tray)) (formAt t bytes i)) ≡ g i)
+      → ((i : ℕ) → i < t .count → f (kindNamed (sorted tray) (forms (sorted tray)) (formAt t bytes i)) ≡ g i)
       → map f (kindsOf tray) ≡ map g xs
   unfolding kindsOf
   by-pieces f g e =
       let qs = sorted tray in
       let make : Form → Kind = kindNamed qs (forms qs) in
       map-map f make (forms qs) ∙ ap (map (λ (s : Form). f (make s))) forms-are ∙ map-map (λ (s : Form). f (make s)) (formAt t bytes) xs
-      ∙ map-same (λ i. f (make (formAt t bytes i))) g xs (λ i m. e i (ltb→lt i (t .n) (all-at (λ (j : ℕ). ltb j (t .n)) xs (are .ordered .pieces) m)))
+      ∙ map-same (λ i. f (make (formAt t bytes i))) g xs (λ i m. e i (ltb→lt i (t .count) (all-at (λ (j : ℕ). ltb j (t .count)) xs (are .ordered .pieces) m)))
 
-  partner-is : (i : ℕ) → i < t .n → partnerOf (forms (sorted tray)) (formAt t bytes i) ≡ partnerAt t bytes first n i
-  unfolding partnerOf mirroredForm movedForm formAt shapeAt sorted
+  partner-is : (i : ℕ) → i < t .count → partnerOf (forms (sorted tray)) (formAt t bytes i) ≡ partnerAt t bytes first n i
+  unfolding partnerOf mirroredForm mirroredAt formAt shapeAt sorted
   partner-is i l =
       ap₂ (λ (f : Form) (fs : List Form). before (sameForm f) fs)
       (form-path (smallest-mirrored (gridAt t bytes i) (whole i l) ∙ ap (λ (m : Map). smallest (mapGrid m (gridAt t bytes i))) (sym is-mirror)) refl) (sym (are .formsAre))
@@ -224,7 +232,7 @@ module _ (t : Table) (board : Record) (bytes first : List ℕ) (n : ℕ) (long :
   partners-are : map (λ (d : Kind). d .partner) (kindsOf tray) ≡ map (partnerAt t bytes first n) xs
   partners-are = by-pieces (λ (d : Kind). d .partner) (partnerAt t bytes first n) partner-is
 
-  size-is : (i : ℕ) → i < t .n → sum (formAt t bytes i .grid .cells) ≡ sizeAt t bytes i
+  size-is : (i : ℕ) → i < t .count → sum (formAt t bytes i .grid .cells) ≡ sizeAt t bytes i
   unfolding formAt shapeAt gridAt
   size-is i l = smallest-size (gridAt t bytes i) (record-passes t (lent-sound .few) long i l (λ q. areBits (gridOf bytes q)) all-bits) (whole i l)
 
@@ -238,7 +246,7 @@ module _ (t : Table) (board : Record) (bytes first : List ℕ) (n : ℕ) (long :
         count = sym (kinds-many t board bytes first n are h);
         copies = listed (λ k. getD new (3 * k) 0) (copiesAt t bytes) (λ k l. all k l .copies) ∙ sym copies-are;
         partners = listed (λ k. getD new (3 * k + 1) 0) (partnerAt t bytes first n) (λ k l. all k l .partner) ∙ sym partners-are;
-        cells = listed (λ k. getD new (3 * k + 2) 0) (sizeAt t bytes) (λ k l. all k l .cells) ∙ sym sizes-are;
+        sizesAre = listed (λ k. getD new (3 * k + 2) 0) (sizeAt t bytes) (λ k l. all k l .size) ∙ sym sizes-are;
       }
     where
       listed : (f g : ℕ → ℕ) → ((k : ℕ) → k < n → f k ≡ g (getD first k 0)) → map f (below n) ≡ map g xs
@@ -246,30 +254,30 @@ module _ (t : Table) (board : Record) (bytes first : List ℕ) (n : ℕ) (long :
 
   -- ---- pieces
   abbrev is : List ℕ
-  is = below (t .n)
+  is = below (t .count)
 
-  pub piece-next : (old : List ℕ) → 2 * t .n ≤ length old → (i : ℕ) → i < t .n → (new : List ℕ) → new ≡ paste old 0 (pairs (kindAt t bytes first n) (countAt t) (below (t .n))) (2 * i)
-      → (a b : ℕ) → a ≡ before (sameForm (movedForm (mapOf 0) t bytes i)) (formsOf t bytes (take n first)) → b ≡ countAt t i
-      → set (set new (2 * i) a) (2 * i + 1) b ≡ paste old 0 (pairs (kindAt t bytes first n) (countAt t) (below (t .n))) (2 * (i + 1))
+  pub piece-next : (old : List ℕ) → 2 * t .count ≤ length old → (i : ℕ) → i < t .count → (new : List ℕ) → new ≡ paste old 0 (pairs (kindAt t bytes first n) (countAt t) (below (t .count))) (2 * i)
+      → (a b : ℕ) → a ≡ kindAt t bytes first n i → b ≡ countAt t i
+      → set (set new (2 * i) a) (2 * i + 1) b ≡ paste old 0 (pairs (kindAt t bytes first n) (countAt t) (below (t .count))) (2 * (i + 1))
   piece-next old fits i l new e a b p q =
-      let s = length-below (t .n) in
-      let x : i ≡ getD is i 0 = sym (number-at (t .n) i l) in
+      let s = length-below (t .count) in
+      let x : i ≡ getD is i 0 = sym (number-at (t .count) i l) in
       front-next (kindAt t bytes first n) (countAt t) old is 0 (omega arith) i (omega arith) new e a b
-      (p ∙ ap (λ (g : Form). before (sameForm g) (formsOf t bytes (take n first))) (unmoved-form t bytes lent-sound long i l) ∙ ap (kindAt t bytes first n) x) (q ∙ ap (countAt t) x)
+      (p ∙ ap (kindAt t bytes first n) x) (q ∙ ap (countAt t) x)
 
   forms-here : formsOf t bytes (take n first) ≡ forms (sorted (lentIn (recordsOf t) board bytes))
   unfolding sorted
   forms-here = are .formsAre
 
-  form-here : (i : ℕ) → formIn bytes (getD (t .rows) i noRecord) ≡ formAt t bytes i
+  form-here : (i : ℕ) → formIn bytes (getD (t .records) i noRecord) ≡ formAt t bytes i
   unfolding formAt shapeAt woodAt gridAt
   form-here i = refl
 
-  pub pieces-end : (old : List ℕ) → 2 * t .n ≤ length old → (new : List ℕ) → new ≡ paste old 0 (pairs (kindAt t bytes first n) (countAt t) (below (t .n))) (2 * t .n)
-      → ownedIn new (t .n) ≡ owned (lentIn (recordsOf t) board bytes)
+  pub pieces-end : (old : List ℕ) → 2 * t .count ≤ length old → (new : List ℕ) → new ≡ paste old 0 (pairs (kindAt t bytes first n) (countAt t) (below (t .count))) (2 * t .count)
+      → ownedIn new (t .count) ≡ owned (lentIn (recordsOf t) board bytes)
   unfolding ownedIn owned
   pieces-end old fits new e =
-      map-below (λ i. record { kind = getD new (2 * i) 0; count = getD new (2 * i + 1) 0 }) (t .n) (own (pieceOf bytes noRecord)) (map own (map (pieceOf bytes) (recordsOf t)))
+      map-below (λ i. record { kind = getD new (2 * i) 0; count = getD new (2 * i + 1) 0 }) (t .count) (own (pieceOf bytes noRecord)) (map own (map (pieceOf bytes) (recordsOf t)))
       (length-map (map (pieceOf bytes) (recordsOf t)) own ∙ length-map (recordsOf t) (pieceOf bytes) ∙ records-count t long)
       (λ i l. ap₂ (λ (k m : ℕ). record { kind = k; count = m }) (kind-here i l) (count-here i l) ∙ sym (listed i l))
     where
@@ -280,20 +288,20 @@ module _ (t : Table) (board : Record) (bytes first : List ℕ) (n : ℕ) (long :
       own q = record { kind = before (sameForm (pieceForm q)) gs; count = q .count }
 
       at : new ≡ paste old 0 (pairs (kindAt t bytes first n) (countAt t) is) (2 * length is)
-      at = e ∙ ap (λ (k : ℕ). paste old 0 (pairs (kindAt t bytes first n) (countAt t) is) (2 * k)) (sym (length-below (t .n)))
+      at = e ∙ ap (λ (k : ℕ). paste old 0 (pairs (kindAt t bytes first n) (countAt t) is) (2 * k)) (sym (length-below (t .count)))
 
-      kind-here : (i : ℕ) → i < t .n → getD new (2 * i) 0 ≡ before (sameForm (formAt t bytes i)) gs
+      kind-here : (i : ℕ) → i < t .count → getD new (2 * i) 0 ≡ before (sameForm (formAt t bytes i)) gs
       kind-here i l =
-          let s = length-below (t .n) in
+          let s = length-below (t .count) in
           ap (λ (w : List ℕ). getD w (2 * i) 0) at ∙ first-stored (kindAt t bytes first n) (countAt t) old is 0 (omega arith) i (omega arith)
-          ∙ ap (kindAt t bytes first n) (number-at (t .n) i l) ∙ ap (before (sameForm (formAt t bytes i))) forms-here
+          ∙ ap (kindAt t bytes first n) (number-at (t .count) i l) ∙ ap (before (sameForm (formAt t bytes i))) forms-here
 
-      count-here : (i : ℕ) → i < t .n → getD new (2 * i + 1) 0 ≡ countAt t i
+      count-here : (i : ℕ) → i < t .count → getD new (2 * i + 1) 0 ≡ countAt t i
       count-here i l =
-          let s = length-below (t .n) in
-          ap (λ (w : List ℕ). getD w (2 * i + 1) 0) at ∙ second-stored (kindAt t bytes first n) (countAt t) old is 0 (omega arith) i (omega arith) ∙ ap (countAt t) (number-at (t .n) i l)
+          let s = length-below (t .count) in
+          ap (λ (w : List ℕ). getD w (2 * i + 1) 0) at ∙ second-stored (kindAt t bytes first n) (countAt t) old is 0 (omega arith) i (omega arith) ∙ ap (countAt t) (number-at (t .count) i l)
 
-      listed : (i : ℕ) → i < t .n → getD (map own (map (pieceOf bytes) (recordsOf t))) i (own (pieceOf bytes noRecord)) ≡ record { kind = before (sameForm (formAt t bytes i)) gs; count = countAt t i }
+      listed : (i : ℕ) → i < t .count → getD (map own (map (pieceOf bytes) (recordsOf t))) i (own (pieceOf bytes noRecord)) ≡ record { kind = before (sameForm (formAt t bytes i)) gs; count = countAt t i }
       listed i l =
           List·getD-map own (map (pieceOf bytes) (recordsOf t)) i (pieceOf bytes noRecord) ∙ ap own (List·getD-map (pieceOf bytes) (recordsOf t) i noRecord)
           ∙ ap (λ (r : Record). own (pieceOf bytes r)) (record-is i l) ∙ ap (λ (g : Form). record { kind = before (sameForm g) gs; count = countAt t i }) (form-here i)

@@ -15,8 +15,8 @@ use Rattle.lists.proofs.ListLaws.{map-same}
 use Rattle.lists.proofs.RangeLaws.{below-at, from-at}
 use Rattle.rows.specs.declared.Dims.{Dims}
 use Rattle.rows.specs.Rows.{rowsIn}
-use Rattle.rows.specs.Chains.{Chained}
-use Rattle.rows.specs.Charts.{Charted, imagesPart, scansPart, kindsPart, piecesPart}
+use Rattle.rows.specs.Ranges.{Ranged}
+use Rattle.rows.specs.Charts.{Charted, chartLength, imagesAt, scansAt, kindsAt, piecesAt, imagesPart, scansPart, kindsPart, piecesPart}
 use Rattle.rows.specs.Built.{AreBytes, KindsSmall, LaidAt, Laid}
 use Rattle.rows.specs.Systems.{Owned, imagesIn, ownedIn, systemOver, systemIn}
 
@@ -34,16 +34,16 @@ laid-next at i numbers old new laid room =
     }
 
 -- ---- the parts one behind the other
-pub laid-parts : (d : Dims) (heads images scans kinds pieces : List ℕ) (c₀ c₁ c₂ c₃ c₄ c₅ : List ℕ) → d .turns + d .mirrorings ≤ 48
-    → LaidAt 0 128 heads c₀ c₁ → LaidAt 128 (128 * (d .turns + d .mirrorings)) images c₁ c₂ → LaidAt 6272 512 scans c₂ c₃ → LaidAt 6784 48 kinds c₃ c₄ → LaidAt 6832 32 pieces c₄ c₅
-    → Laid d heads images scans kinds pieces c₅
-laid-parts d heads images scans kinds pieces c₀ c₁ c₂ c₃ c₄ c₅ few a b e f g =
+pub laid-parts : (d : Dims) (starts images scans kinds pieces : List ℕ) (c₀ c₁ c₂ c₃ c₄ c₅ : List ℕ) → d .turns + d .mirrorings ≤ 48
+    → LaidAt 0 imagesAt starts c₀ c₁ → LaidAt imagesAt (128 * (d .turns + d .mirrorings)) images c₁ c₂ → LaidAt scansAt 512 scans c₂ c₃ → LaidAt kindsAt 48 kinds c₃ c₄ → LaidAt piecesAt 32 pieces c₄ c₅
+    → Laid d starts images scans kinds pieces c₅
+laid-parts d starts images scans kinds pieces c₀ c₁ c₂ c₃ c₄ c₅ few a b e f g =
     record {
-      firsts = λ i l. g .before i (omega arith) ∙ f .before i (omega arith) ∙ e .before i (omega arith) ∙ b .before i (omega arith)
+      begin = λ i l. g .before i (omega arith) ∙ f .before i (omega arith) ∙ e .before i (omega arith) ∙ b .before i (omega arith)
           ∙ ap (λ (j : ℕ). getD c₁ j 0) {x = i} {y = 0 + i} (omega arith) ∙ a .there i l;
-      moved = λ i l. g .before (128 + i) (omega arith) ∙ f .before (128 + i) (omega arith) ∙ e .before (128 + i) (omega arith) ∙ b .there i l;
-      numbered = λ i l. g .before (6272 + i) (omega arith) ∙ f .before (6272 + i) (omega arith) ∙ e .there i l;
-      ofKinds = λ i l. g .before (6784 + i) (omega arith) ∙ f .there i l;
+      moved = λ i l. g .before (imagesAt + i) (omega arith) ∙ f .before (imagesAt + i) (omega arith) ∙ e .before (imagesAt + i) (omega arith) ∙ b .there i l;
+      numbered = λ i l. g .before (scansAt + i) (omega arith) ∙ f .before (scansAt + i) (omega arith) ∙ e .there i l;
+      ofKinds = λ i l. g .before (kindsAt + i) (omega arith) ∙ f .there i l;
       ofPieces = g .there;
     }
 
@@ -58,69 +58,69 @@ part-same xs ys a b n p q f =
     long zs c h = length-take-le n (drop c zs) (simp length-drop (omega arith))
 
 -- ---- the system in a chart
-module _ (d : Dims) (work heads images scans kinds pieces chart : List ℕ) (laid : Laid d heads images scans kinds pieces chart) (long : length chart ≡ 6864) where
+module _ (d : Dims) (work starts images scans kinds pieces chart : List ℕ) (laid : Laid d starts images scans kinds pieces chart) (long : length chart ≡ chartLength) where
   kind-number : (i : ℕ) → i < 48 → getD (kindsPart chart) i 0 ≡ getD kinds i 0
   unfolding kindsPart
-  kind-number i l = getD-drop 6784 chart i 0 ∙ laid .ofKinds i l
+  kind-number i l = getD-drop kindsAt chart i 0 ∙ laid .ofKinds i l
 
   piece-number : (i : ℕ) → i < 32 → getD (piecesPart chart) i 0 ≡ getD pieces i 0
   unfolding piecesPart
-  piece-number i l = getD-drop 6832 chart i 0 ∙ laid .ofPieces i l
+  piece-number i l = getD-drop piecesAt chart i 0 ∙ laid .ofPieces i l
 
-  pub laid-chained : Chained work heads (d .rows) → Chained work chart (d .rows)
-  laid-chained c = record { firsts = λ n l. laid .firsts n l ∙ c .firsts n l; nexts = c .nexts }
+  pub laid-ranged : Ranged work starts (d .rows) → Ranged work chart (d .rows)
+  laid-ranged c = record { begins = λ i l. laid .begin i (omega arith) ∙ c .begins i l; ends = laid .begin 2048 (omega arith) ∙ c .ends }
 
   pub laid-charted : AreBytes pieces → KindsSmall kinds → Charted chart
   unfolding kindsPart
   laid-charted bytes small =
       record {
         long = long;
-        bytes = λ i h. byte i h (ltb i 6864) refl;
+        bytes = λ i h. byte i h (ltb i chartLength) refl;
         copies = λ k. copies-at k (ltb k 16) refl;
-        cells = λ k. cells-at k (ltb k 16) refl;
+        sizes = λ k. cells-at k (ltb k 16) refl;
       }
     where
-      byte : (i : ℕ) → 6832 ≤ i → (b : Bool) → ltb i 6864 ≡ b → getD chart i 0 < 256
+      byte : (i : ℕ) → piecesAt ≤ i → (b : Bool) → ltb i chartLength ≡ b → getD chart i 0 < 256
       byte i h true e =
-          let l = ltb-true i 6864 e in
-          let p : 6832 + (i - 6832) ≡ i = omega arith in
-          let q = ap (λ (j : ℕ). getD chart j 0) (sym p) ∙ laid .ofPieces (i - 6832) (omega arith) in
-          let b = bytes (i - 6832) in
+          let l = ltb-true i chartLength e in
+          let p : piecesAt + (i - piecesAt) ≡ i = omega arith in
+          let q = ap (λ (j : ℕ). getD chart j 0) (sym p) ∙ laid .ofPieces (i - piecesAt) (omega arith) in
+          let b = bytes (i - piecesAt) in
           omega arith
-      byte i h false e = let l = ltb-false i 6864 e in let q = List·getD-eq-default chart 0 {n = i} (omega arith) in omega arith
+      byte i h false e = let l = ltb-false i chartLength e in let q = List·getD-eq-default chart 0 {n = i} (omega arith) in omega arith
 
       -- (past the kinds there are the pieces)
-      copies-at : (k : ℕ) (b : Bool) → ltb k 16 ≡ b → getD (drop 6784 chart) (3 * k) 0 < 256
+      copies-at : (k : ℕ) (b : Bool) → ltb k 16 ≡ b → getD (drop kindsAt chart) (3 * k) 0 < 256
       copies-at k true e = let l = ltb-true k 16 e in let q = kind-number (3 * k) (omega arith) in let b = small .copies k l in omega arith
-      copies-at k false e = let l = ltb-false k 16 e in let q = getD-drop 6784 chart (3 * k) 0 in let b = byte (6784 + 3 * k) (omega arith) (ltb (6784 + 3 * k) 6864) refl in omega arith
+      copies-at k false e = let l = ltb-false k 16 e in let q = getD-drop kindsAt chart (3 * k) 0 in let b = byte (kindsAt + 3 * k) (omega arith) (ltb (kindsAt + 3 * k) chartLength) refl in omega arith
 
-      cells-at : (k : ℕ) (b : Bool) → ltb k 16 ≡ b → getD (drop 6784 chart) (3 * k + 2) 0 ≤ 512
-      cells-at k true e = let l = ltb-true k 16 e in let q = kind-number (3 * k + 2) (omega arith) in let b = small .cells k l in omega arith
+      cells-at : (k : ℕ) (b : Bool) → ltb k 16 ≡ b → getD (drop kindsAt chart) (3 * k + 2) 0 ≤ 512
+      cells-at k true e = let l = ltb-true k 16 e in let q = kind-number (3 * k + 2) (omega arith) in let b = small .sizes k l in omega arith
       cells-at k false e =
           let l = ltb-false k 16 e in
-          let q = getD-drop 6784 chart (3 * k + 2) 0 in
-          let b = byte (6784 + (3 * k + 2)) (omega arith) (ltb (6784 + (3 * k + 2)) 6864) refl in
+          let q = getD-drop kindsAt chart (3 * k + 2) 0 in
+          let b = byte (kindsAt + (3 * k + 2)) (omega arith) (ltb (kindsAt + (3 * k + 2)) chartLength) refl in
           omega arith
 
-  module _ (few-kinds : d .kinds ≤ 16) (few-pieces : d .pieces ≤ 16) (few-cells : d .cells ≤ 128) (few-maps : d .turns + d .mirrorings ≤ 48) (few-places : d .places ≤ 512)
+  module _ (few-kinds : d .kinds ≤ 16) (few-pieces : d .pieces ≤ 16) (few-cells : d .size ≤ 128) (few-maps : d .turns + d .mirrorings ≤ 48) (few-places : d .places ≤ 512)
       (images-long : length images ≡ 6144) (scans-long : length scans ≡ 512) where
     kinds-by : (f : ℕ → ℕ) → ((k : ℕ) → k < 16 → f k < 48) → map (λ k. getD (kindsPart chart) (f k) 0) (below (d .kinds)) ≡ map (λ k. getD kinds (f k) 0) (below (d .kinds))
     kinds-by f h =
         map-same (λ k. getD (kindsPart chart) (f k) 0) (λ k. getD kinds (f k) 0) (below (d .kinds)) (λ k m. let l = below-at (d .kinds) m in kind-number (f k) (h k (omega arith)))
 
-    images-by : (i n : ℕ) → i + n ≤ d .turns + d .mirrorings → imagesIn (imagesPart chart) (d .cells) i n ≡ imagesIn images (d .cells) i n
+    images-by : (i n : ℕ) → i + n ≤ d .turns + d .mirrorings → imagesIn (imagesPart chart) (d .size) i n ≡ imagesIn images (d .size) i n
     unfolding imagesIn imagesPart
     images-by i n h =
-        map-same (λ m. take (d .cells) (drop (128 * m) (drop 128 chart))) (λ m. take (d .cells) (drop (128 * m) images)) (from i n)
+        map-same (λ m. take (d .size) (drop (128 * m) (drop imagesAt chart))) (λ m. take (d .size) (drop (128 * m) images)) (from i n)
         (λ m k. let l = from-at i n k in
-        ap (take (d .cells)) (drop-drop (128 * m) 128 chart)
-        ∙ part-same chart images (128 + 128 * m) (128 * m) (d .cells) (omega arith) (omega arith)
-        (λ j q. ap (λ (x : ℕ). getD chart x 0) {x = 128 + 128 * m + j} {y = 128 + (128 * m + j)} (omega arith) ∙ laid .moved (128 * m + j) (omega arith)))
+        ap (take (d .size)) (drop-drop (128 * m) imagesAt chart)
+        ∙ part-same chart images (imagesAt + 128 * m) (128 * m) (d .size) (omega arith) (omega arith)
+        (λ j q. ap (λ (x : ℕ). getD chart x 0) {x = imagesAt + 128 * m + j} {y = imagesAt + (128 * m + j)} (omega arith) ∙ laid .moved (128 * m + j) (omega arith)))
 
     scans-by : take (d .places) (scansPart chart) ≡ take (d .places) scans
     unfolding scansPart
     scans-by =
-        part-same chart scans 6272 0 (d .places) (omega arith) (omega arith)
+        part-same chart scans scansAt 0 (d .places) (omega arith) (omega arith)
         (λ i l. laid .numbered i (omega arith) ∙ ap (λ (x : ℕ). getD scans x 0) {x = i} {y = 0 + i} (omega arith))
 
     pieces-by : ownedIn (piecesPart chart) (d .pieces) ≡ ownedIn pieces (d .pieces)
@@ -140,7 +140,7 @@ module _ (d : Dims) (work heads images scans kinds pieces chart : List ℕ) (lai
         let turned = images-by 0 (d .turns) (omega arith) in
         let mirrored = images-by (d .turns) (d .mirrorings) (omega arith) in
         (λ i. record {
-          size = d .cells;
+          size = d .size;
           rows = rowsIn work (d .rows);
           copies = copies i;
           partners = partners i;

@@ -3,13 +3,14 @@ pub mod AnsweringLaws
 pub mod ShownLaws
 pub mod KindListLaws
 pub mod AnswerLaws
-pub mod ChainLaws
+pub mod RowRangeLaws
 pub mod MovedLaws
 pub mod ChartLaws
 pub mod LayingLaws
 pub mod PictureLaws
 pub mod SystemMapLaws
 pub mod SystemLaws
-pub mod TableLaws
+pub mod RowLaws
+pub mod TellingLaws
 pub mod BuildLaws
 pub mod BuildSystemLaws

@@ -1,7 +1,7 @@
 -- Moved cells: a mask that takes up the images of its cells one by one, and a row's cells after a map, sorted or as a mask. Assumes nothing.
 use Prim.Native.Nat.{ℕ, zero, suc, _+_, _-_, _≤_, _<_}
 use mathlib.Core.Bool.{Bool, true, false, cond, _||_}
-use mathlib.Core.List.{List, [], _∷_, map, List·Memᴰ, Memᴰ·map, Memᴰ·of-map, Memᴰ·cast}
+use mathlib.Core.List.{List, [], _∷_, _++_, map, map-append, map-map, List·Memᴰ, Memᴰ·map, Memᴰ·of-map, Memᴰ·cast}
 use mathlib.Core.Logic.{⊎-elim}
 use mathlib.Core.Path.{_≡_, refl, sym, ap, ap₂, _∙_, subst, fun-ext}
 use native.Mathlib.Numerals.{add-one}
@@ -9,12 +9,13 @@ use native.Mathlib.Omega.{arith}
 use lib.Dec.{T, eqb, ltb, ltb→lt, lt→ltb}
 use lib.ListN.{length, getD}
 use Rattle.lists.specs.Lists.{consIf, all, keep, from, below, member, sort}
-use Rattle.lists.proofs.TestLaws.{and-both, ltb-trans, ltb-irrefl, ltb-tied, lt-or-ge}
-use Rattle.lists.proofs.ListLaws.{all-at, keep-at, keep-of}
+use Rattle.lists.proofs.TestLaws.{and-both, or-assoc, ltb-trans, ltb-irrefl, ltb-tied, lt-or-ge}
+use Rattle.lists.proofs.ListLaws.{all-at, keep-at, keep-of, keep-same, keep-append, keep-map, map-same}
 use Rattle.lists.proofs.SortLaws.{keep-ascending, ascending-unique, sort-ascending, sort-at, sort-of}
-use Rattle.lists.proofs.RangeLaws.{from-ascending, below-at, below-of, getD-of, member-at, member-of}
+use Rattle.lists.proofs.RangeLaws.{from-ascending, from-shift, below-at, below-of, below-split, getD-of, member-at, member-of}
 use Rattle.definitions.specs.Placements.{Placement}
-use Rattle.masks.specs.Masks.{has, nothing, only, either, FirstIn}
+use Rattle.masks.specs.Masks.{hit, hit2, has, nothing, only, either}
+use Rattle.masks.proofs.MaskLaws.{hit2-low, hit2-high}
 use Rattle.masks.specs.declared.Mask.{Mask}
 use Rattle.rows.specs.Rows.{cellsOf, maskAt, rowAt}
 use Rattle.rows.specs.Systems.{kindBy, cellsBy, movedBy, rowWith}
@@ -58,23 +59,19 @@ module _ (t : ℕ → Bool) (f : ℕ → ℕ) where
       none-from : (j : ℕ) → v ≤ j → imagesFrom j v k ≡ false
       none-from j h = let z : v - j ≡ 0 = omega arith in rw z refl
 
-  -- the walk goes on to the next number in the set
-  pub taken-on : (v i r : ℕ) (taken : ℕ → Bool) → FirstIn t i r → TakenUp v i taken → TakenUp v r taken
+  -- the walk goes on past numbers that are not in the set
+  pub taken-past : (v i r : ℕ) (taken : ℕ → Bool) → i ≤ r → ((j : ℕ) → i ≤ j → j < r → t j ≡ false) → TakenUp v i taken → TakenUp v r taken
   unfolding TakenUp
-  taken-on v i r taken n u k =
-      let z : i + (r - i) ≡ r = omega (arith, n .from) in
-      let e : imagesFrom i v k ≡ imagesFrom r v k = rw z at (passed-by v (r - i) i (λ j g l. n .passed j g (omega arith)) k) in
+  taken-past v i r taken h p u k =
+      let z : i + (r - i) ≡ r = omega arith in
+      let e : imagesFrom i v k ≡ imagesFrom r v k = rw z at (passed-by v (r - i) i (λ j g l. p j g (omega arith)) k) in
       ap (λ (b : Bool). taken k || b) (sym e) ∙ u k
 
   pub taken-hit : (v i : ℕ) (taken : ℕ → Bool) → i < v → TakenUp v i taken → t i ≡ true → (y : ℕ) → y ≡ f i → (now : ℕ → Bool) → now ≡ either taken (only y) → TakenUp v (i + 1) now
   unfolding TakenUp either only
   taken-hit v i taken h u e y is now d k =
       ap (λ (g : ℕ → Bool). g k || imagesFrom (i + 1) v k) d ∙ ap (λ (z : ℕ). (taken k || eqb k z) || imagesFrom (i + 1) v k) is
-      ∙ assoc (taken k) (eqb k (f i)) (imagesFrom (i + 1) v k) ∙ ap (λ (b : Bool). taken k || b) (sym (more v i h true e k)) ∙ u k
-    where
-      assoc : (a b c : Bool) → ((a || b) || c) ≡ (a || (b || c))
-      assoc true b c = refl
-      assoc false b c = refl
+      ∙ or-assoc (taken k) (eqb k (f i)) (imagesFrom (i + 1) v k) ∙ ap (λ (b : Bool). taken k || b) (sym (more v i h true e k)) ∙ u k
 
   pub taken-all : (v i : ℕ) (taken : ℕ → Bool) → v ≤ i → TakenUp v i taken → taken ≡ (λ n. member n (map f (keep t (below v))))
   unfolding TakenUp
@@ -83,6 +80,41 @@ module _ (t : ℕ → Bool) (f : ℕ → ℕ) where
       alone : (b : Bool) → (b || false) ≡ b
       alone true = refl
       alone false = refl
+
+-- ---- the images of two words' numbers are those of the mask's
+images-same : (f g : ℕ → ℕ) (p q : ℕ → Bool) (xs : List ℕ) → ((i : ℕ) → List·Memᴰ i xs → f i ≡ g i) → ((i : ℕ) → List·Memᴰ i xs → p i ≡ q i) → map f (keep p xs) ≡ map g (keep q xs)
+images-same f g p q xs h k = map-same f g (keep p xs) (λ i m. h i (keep-at p xs m .0)) ∙ ap (map g) (keep-same p q xs k)
+
+member-append : (n : ℕ) (xs ys : List ℕ) → member n (xs ++ ys) ≡ (member n xs || member n ys)
+member-append n [] ys = refl
+member-append n (x ∷ xs) ys = ap (λ (b : Bool). eqb n x || b) (member-append n xs ys) ∙ sym (or-assoc (eqb n x) (member n xs) (member n ys))
+
+module _ (a b size : ℕ) (f g : ℕ → ℕ) where
+  pub word-images : size ≤ 64 → ((i : ℕ) → i < size → f i ≡ g i)
+      → _≡_ {A = ℕ → Bool} (λ n. member n (map f (keep (hit a) (below size)))) (λ n. member n (map g (keep (hit2 a b) (below size))))
+  word-images h e =
+      fun-ext λ n. ap (member n) (images-same f g (hit a) (hit2 a b) (below size) (λ i m. e i (below-at size m)) (λ i m. sym (hit2-low a b i (let l = below-at size m in omega arith))))
+
+  module _ (h : ℕ → ℕ) (more : 64 ≤ size) (low : (i : ℕ) → i < 64 → f i ≡ g i) (high : (i : ℕ) → i < size - 64 → h i ≡ g (64 + i)) where
+    high-images : map h (keep (hit b) (below (size - 64))) ≡ map g (keep (hit2 a b) (from 64 (size - 64)))
+    high-images =
+        images-same h (λ i. g (64 + i)) (hit b) (λ i. hit2 a b (64 + i)) (below (size - 64)) (λ i m. high i (below-at (size - 64) m))
+        (λ i m. let z : 64 + i - 64 ≡ i = omega arith in sym (hit2-high a b (64 + i) (omega arith) ∙ ap (hit b) z))
+        ∙ sym (map-map g (λ i. 64 + i) (keep (λ i. hit2 a b (64 + i)) (below (size - 64))))
+        ∙ ap (map g) (sym (keep-map (λ i. 64 + i) (hit2 a b) (below (size - 64))))
+        ∙ ap (λ (xs : List ℕ). map g (keep (hit2 a b) xs)) (from-shift 64 0 (size - 64))
+
+    pub words-images :
+        _≡_ {A = ℕ → Bool} (either (λ n. member n (map f (keep (hit a) (below 64)))) (λ n. member n (map h (keep (hit b) (below (size - 64))))))
+        (λ n. member n (map g (keep (hit2 a b) (below size))))
+    unfolding either
+    words-images =
+        fun-ext λ n.
+        sym (member-append n (map f (keep (hit a) (below 64))) (map h (keep (hit b) (below (size - 64)))))
+        ∙ ap (member n)
+        (ap₂ (λ (xs ys : List ℕ). xs ++ ys) (images-same f g (hit a) (hit2 a b) (below 64) (λ i m. low i (below-at 64 m)) (λ i m. sym (hit2-low a b i (below-at 64 m)))) high-images
+        ∙ sym (map-append g (keep (hit2 a b) (below 64)) (keep (hit2 a b) (from 64 (size - 64))))
+        ∙ ap (map g) (sym (keep-append (hit2 a b) (below 64) (from 64 (size - 64)))) ∙ ap (λ (xs : List ℕ). map g (keep (hit2 a b) xs)) (sym (below-split 64 size more)))
 
 -- ---- what holds of all numbers of a list, one by one
 all-below : (p : ℕ → Bool) (xs : List ℕ) → ((i : ℕ) → i < length xs → T (p (getD xs i 0))) → T (all p xs)

@@ -1,10 +1,10 @@
 -- Numbers that are written two by two, two for each entry of a list, from a place of a slice on; and three by three. Assumes nothing.
-use Prim.Native.Nat.{ℕ, zero, suc, _+_, _*_, _≤_, _<_}
+use Prim.Native.Nat.{ℕ, zero, suc, _+_, _-_, _*_, _≤_, _<_}
 use mathlib.Core.List.{List, [], _∷_}
 use mathlib.Core.Path.{_≡_, refl, sym, ap, ap₂, _∙_}
 use native.Mathlib.Omega.{arith}
-use lib.ListN.{length, getD, take, set, length-set}
-use lib.Seq.{paste, paste-suc, take-paste, getD-take, getD-set-same, getD-set-other, lt-length-set}
+use lib.ListN.{length, getD, take, drop, set, length-set}
+use lib.Seq.{paste, paste-suc, take-paste, drop-paste, getD-take, getD-drop, getD-set-same, getD-set-other, set-getD, lt-length-set}
 use Rattle.lists.specs.Lists.{each}
 
 -- ---- two numbers for each entry
@@ -66,6 +66,25 @@ module _ {A : Type 0} (f g : A → ℕ) where
       ∙ ap₂ (λ (j k : ℕ). set (set (paste old 0 (pairs xs) (2 * i)) (2 * i) j) (2 * i + 1) k) p q
       ∙ ap (λ (j : ℕ). set (set (paste old 0 (pairs xs) (2 * i)) j (f (getD xs i d))) (j + 1) (g (getD xs i d))) z
       ∙ pair-stored old 0 xs d (omega arith) i h
+
+  -- a pair that the slice has already stands there without a store
+  pub front-kept : (old : List ℕ) (xs : List A) (d : A) → 2 * length xs ≤ length old → (i : ℕ) → i < length xs
+      → getD old (2 * i) 0 ≡ f (getD xs i d) → getD old (2 * i + 1) 0 ≡ g (getD xs i d) → paste old 0 (pairs xs) (2 * i) ≡ paste old 0 (pairs xs) (2 * (i + 1))
+  front-kept old xs d fits i h p q =
+      sym (ap (λ (l : List ℕ). set l (2 * i + 1) (getD old (2 * i + 1) 0)) (as-it-was (2 * i) (omega arith)) ∙ as-it-was (2 * i + 1) (omega arith))
+      ∙ front-next old xs d fits i h so-far refl (getD old (2 * i) 0) (getD old (2 * i + 1) 0) p q
+    where
+      so-far : List ℕ
+      so-far = paste old 0 (pairs xs) (2 * i)
+
+      behind : (j : ℕ) → 2 * i ≤ j → getD old j 0 ≡ getD so-far j 0
+      behind j l =
+          let e : j ≡ (0 + 2 * i) + (j - 2 * i) = omega arith in
+          let at : (xs : List ℕ) → getD xs j 0 ≡ getD (drop (0 + 2 * i) xs) (j - 2 * i) 0 = λ xs. ap (λ (k : ℕ). getD xs k 0) e ∙ sym (getD-drop (0 + 2 * i) xs (j - 2 * i) 0) in
+          at old ∙ sym (ap (λ (l : List ℕ). getD l (j - 2 * i) 0) (drop-paste old 0 (pairs xs) (2 * i) (omega arith) (let e = length-pairs xs in omega arith))) ∙ sym (at so-far)
+
+      as-it-was : (j : ℕ) → 2 * i ≤ j → set so-far j (getD old j 0) ≡ so-far
+      as-it-was j l = ap (set so-far j) (behind j l) ∙ set-getD so-far j 0
 
 -- ---- three numbers for entry k
 module _ (old : List ℕ) (k a b c : ℕ) where

@@ -1,20 +1,20 @@
 -- The maps of an accepted tray's system are its board's allowed maps by scan numbers, so they are a group that takes rows to rows. Assumes nothing.
 use Prim.Native.Nat.{ℕ, _<_}
 use mathlib.Core.Bool.{Bool, true, false, cond, not}
-use mathlib.Core.List.{List, map, List·Memᴰ, Memᴰ·cast, Memᴰ·map, Memᴰ·of-map}
+use mathlib.Core.List.{List, [], _∷_, map, List·Memᴰ, Memᴰ·cast, Memᴰ·map, Memᴰ·of-map}
 use mathlib.Core.Path.{_≡_, refl, sym, ap, _∙_, subst}
 use mathlib.Core.Logic.{_⊎_, inl, inr}
 use native.Mathlib.Omega.{arith}
 use lib.Dec.{T, ltb, ltb→lt, nltb→le}
-use lib.ListN.{length, getD, length-map, List·getD-eq-default}
-use Rattle.lists.specs.Lists.{below, sort}
-use Rattle.lists.proofs.TestLaws.{ltb-trans, ltb-irrefl, decide, ltb-tied}
+use lib.ListN.{length, getD, take, drop, length-map, List·getD-eq-default}
+use Rattle.lists.specs.Lists.{consIf, keep, below, sort}
+use Rattle.lists.proofs.TestLaws.{ltb-trans, ltb-irrefl, decide, is-true, ltb-tied}
 use Rattle.lists.proofs.ListLaws.{map-still, keep-of, map-same}
 use Rattle.lists.proofs.SortLaws.{sort-ascending, ascending-unique, sort-at, sort-of}
 use Rattle.lists.proofs.RangeLaws.{below-at, length-below, getD-below}
 use Rattle.lists.proofs.NthLaws.{nth-getD, getD-nth}
 use Rattle.definitions.specs.Grid.{Cell, sameGrid}
-use Rattle.definitions.specs.Maps.{Map, mapCell, mapGrid, turns, mirrorings, product, identity}
+use Rattle.definitions.specs.Maps.{Map, mapCell, mapGrid, turns, mirrorings, product, identity, transform, permutations, parity}
 use Rattle.definitions.specs.Scan.{scanNumber}
 use Rattle.definitions.specs.Kinds.{Kind, kindsOf}
 use Rattle.definitions.specs.Placements.{Placement, Compiled, compile}
@@ -38,6 +38,11 @@ differ-plus false false = refl
 differ-plus false true = refl
 differ-plus true false = refl
 differ-plus true true = refl
+
+-- the first of all turns moves nothing
+turns-first : turns ≡ identity ∷ drop 1 turns
+unfolding identity turns transform permutations parity
+turns-first = refl
 
 module _ (l : Call) (ok : refusal l ≡ 0) where
   abbrev C : Compiled
@@ -99,9 +104,16 @@ module _ (l : Call) (ok : refusal l ≡ 0) where
   map-permutes odd f k = let r = allowed-at odd f k in subst (λ (g : List ℕ). Permutes size g) (r .2) (permutes-map odd (r .0) (r .1))
 
   -- ---- the group
-  pub map-identity : List·Memᴰ (below size) (allowed S false)
-  map-identity = Memᴰ·cast (sym still) (allowed-of false identity (allowed-identity (C .board) (whole l ok)))
+  pub map-identity : take 1 (allowed S false) ≡ below size ∷ []
+  unfolding systemOf symmetries
+  map-identity =
+      ap (λ (ms : List Map). take 1 (map (cellImages C) (keep onItself ms))) turns-first
+      ∙ ap (λ (b : Bool). take 1 (map (cellImages C) (consIf b identity (keep onItself (drop 1 turns))))) (is-true (onItself identity) (sameGrid-of (allowed-identity (C .board) (whole l ok) .onItself)))
+      ∙ ap (λ (f : List ℕ). f ∷ []) still
     where
+      onItself : Map → Bool
+      onItself m = sameGrid (mapGrid m (C .board)) (C .board)
+
       still : cellImages C identity ≡ below size
       still = unfold cellImages in map-still (cellAfter C (act identity)) (below size) (λ n m. after-still C (W l ok) N (act identity) (λ u k. identity-cell (C .board .sides) u) n (below-at size m))
 

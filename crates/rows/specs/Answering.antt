@@ -1,11 +1,11 @@
 -- Answers from the rows of a packing.
 use Prim.Native.Nat.{ℕ, _+_, _*_, _≤_, _<_}
-use mathlib.Core.Bool.{Bool, true, false}
+use mathlib.Core.Bool.{Bool, true, false, cond}
 use mathlib.Core.List.{List, [], _∷_, map}
 use mathlib.Core.Path.{_≡_}
 use lib.Dec.{T, eqb, ltb}
 use lib.ListN.{length, getD, take}
-use Rattle.lists.specs.Lists.{all, keep, each, below, numbered, joined, ascending}
+use Rattle.lists.specs.Lists.{all, keep, each, below, member, numbered, joined, ascending}
 use Rattle.definitions.specs.Kinds.{Copy}
 use Rattle.definitions.specs.Placements.{Placement}
 use Rattle.definitions.specs.Packing.{ahead, used}
@@ -46,6 +46,15 @@ takenIn d work chart path n = takenBy (ownedIn (piecesPart chart) (d .pieces)) (
 unfoldable pub answersOver : List Taken → List ℕ → List ℕ
 answersOver ts scans = each scans (λ n. let d = copyOn ts n in d .piece ∷ d .copy ∷ [])
 
+-- where two bytes for each number below 128 are told: with a copy laid on some cells; and what is told of a number, no copy from 128 on
+unfoldable pub laid : List ℕ → Copy → List ℕ → List ℕ
+laid cells c told =
+    each (below 128)
+    (λ n. cond (member n cells) (c .piece) (getD told (2 * n) 0) ∷ cond (member n cells) (c .copy) (getD told (2 * n + 1) 0) ∷ [])
+
+unfoldable pub toldOf : List ℕ → ℕ → Copy
+toldOf told n = cond (ltb n 128) (record { piece = getD told (2 * n) 0; copy = getD told (2 * n + 1) 0 }) noCopy
+
 unfoldable pub answerBy : System → List Placement → List ℕ
 answerBy s P = answersOver (takenBy (s .pieces) (length (s .copies)) P) (s .scans)
 
@@ -54,10 +63,10 @@ answerBy s P = answersOver (takenBy (s .pieces) (length (s .copies)) P) (s .scan
 pub record Held (d : Dims) (work chart path : List ℕ) (n : ℕ) : Type 0 where
   pub within : n ≤ length path
   pub areRows : T (all (λ r. ltb (8 * r + 7) (length work)) (take n path))
-  pub fewCells : d .cells ≤ 128
+  pub fewCells : d .size ≤ 128
   pub fewPieces : d .pieces ≤ 16
   pub charted : Charted chart
   pub ascend : T (ascending ahead (pathIn work path n))
   pub ofKinds : T (all (λ q. ltb (q .kind) (d .kinds)) (pathIn work path n))
-  pub onBoard : T (all (λ q. all (λ m. ltb m (d .cells)) (q .cells)) (pathIn work path n))
+  pub onBoard : T (all (λ q. all (λ m. ltb m (d .size)) (q .cells)) (pathIn work path n))
   pub enough : (k : ℕ) → k < d .kinds → used (pathIn work path n) k ≤ length (copiesBy (ownedIn (piecesPart chart) (d .pieces)) k)

@@ -1,6 +1,6 @@
 -- The chart of a tray: what the engines read of it beside its rows, in one slice of 16-bit numbers. Its parts, and where each begins, are named here and in
 -- src/chart.rt alone:
---     the first row at each of 128 cells (the number of rows where there is none), from the beginning on
+--     where the rows of each of 16 kinds at each of 128 cells begin, kind by kind, from the beginning on; and the number of rows (Ranges)
 --     for each map that brings the board onto itself 128 numbers: where it takes each cell
 --     for each of 512 places of the lent box the scan number of its cell
 --     for each of 16 kinds its copies, its mirror partner, and how many cells it has
@@ -10,20 +10,33 @@ use mathlib.Core.List.{List}
 use mathlib.Core.Path.{_≡_}
 use lib.ListN.{length, getD, take, drop}
 
+-- where the parts begin behind the starts of the rows, and how long a chart is
+abbrev pub imagesAt : ℕ
+imagesAt = 2049
+
+abbrev pub scansAt : ℕ
+scansAt = 8193
+
+abbrev pub kindsAt : ℕ
+kindsAt = 8705
+
+abbrev pub piecesAt : ℕ
+piecesAt = 8753
+
 abbrev pub chartLength : ℕ
-chartLength = 6864
+chartLength = 8785
 
 unfoldable pub imagesPart : List ℕ → List ℕ
-imagesPart chart = drop 128 chart
+imagesPart chart = drop imagesAt chart
 
 unfoldable pub scansPart : List ℕ → List ℕ
-scansPart chart = drop 6272 chart
+scansPart chart = drop scansAt chart
 
 unfoldable pub kindsPart : List ℕ → List ℕ
-kindsPart chart = drop 6784 chart
+kindsPart chart = drop kindsAt chart
 
 unfoldable pub piecesPart : List ℕ → List ℕ
-piecesPart chart = drop 6832 chart
+piecesPart chart = drop piecesAt chart
 
 -- where map m takes each of so many cells
 unfoldable pub imagesOf : List ℕ → ℕ → ℕ → List ℕ
@@ -31,7 +44,7 @@ imagesOf chart size m = take size (drop (128 * m) (imagesPart chart))
 
 -- a slice is long enough for a chart; what it says of the pieces, and each kind's copies, are bytes; and no kind has more than 512 cells
 pub record Charted (chart : List ℕ) : Type 0 where
-  pub long : length chart ≡ 6864
-  pub bytes : (i : ℕ) → 6832 ≤ i → getD chart i 0 < 256
+  pub long : length chart ≡ chartLength
+  pub bytes : (i : ℕ) → piecesAt ≤ i → getD chart i 0 < 256
   pub copies : (k : ℕ) → getD (kindsPart chart) (3 * k) 0 < 256
-  pub cells : (k : ℕ) → getD (kindsPart chart) (3 * k + 2) 0 ≤ 512
+  pub sizes : (k : ℕ) → getD (kindsPart chart) (3 * k + 2) 0 ≤ 512

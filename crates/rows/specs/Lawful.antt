@@ -4,7 +4,7 @@ use mathlib.Core.Bool.{Bool, true, false}
 use mathlib.Core.List.{List, [], _∷_, map, List·Memᴰ}
 use mathlib.Core.Path.{_≡_}
 use lib.Dec.{T, ltb}
-use lib.ListN.{length, getD}
+use lib.ListN.{length, getD, take}
 use Rattle.lists.specs.Lists.{ascending, below, sum}
 use Rattle.definitions.specs.Placements.{Placement}
 use Rattle.definitions.specs.Packing.{ahead}
@@ -59,7 +59,8 @@ pub record Lawful (s : System) : Type 0 where
   pub byCells : (q r : Placement) → List·Memᴰ q (s .rows) → List·Memᴰ r (s .rows) → q .kind ≡ r .kind → q .cells ≡ r .cells → q ≡ r
   -- maps
   pub permutes : (odd : Bool) (f : List ℕ) → List·Memᴰ f (allowed s odd) → Permutes (s .size) f
-  pub identity : List·Memᴰ (below (s .size)) (s .turned)
+  -- the first turn moves nothing
+  pub identity : take 1 (s .turned) ≡ below (s .size) ∷ []
   pub inverse : (odd : Bool) (f : List ℕ) → List·Memᴰ f (allowed s odd) → (g : List ℕ) × List·Memᴰ g (allowed s odd) × (afterBy (s .size) g f ≡ below (s .size))
   pub product : (odd even : Bool) (f g : List ℕ) → List·Memᴰ f (allowed s odd) → List·Memᴰ g (allowed s even) → List·Memᴰ (afterBy (s .size) g f) (allowed s (differ odd even))
   -- partners, both ways

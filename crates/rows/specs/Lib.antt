@@ -3,7 +3,7 @@ pub mod Built
 pub mod Rows
 pub mod Systems
 pub mod Boards
-pub mod Chains
+pub mod Ranges
 pub mod Answering
 pub mod Lawful
 pub mod Shown

@@ -1,5 +1,4 @@
--- Rows: the placements of a tray as words of the work slice, 8 words for each row: its cells as a mask of two words, its kind, p, j, and the next row with
--- the same p (Chains). Two words are free.
+-- Rows: the placements of a tray as words of the work slice, 8 words for each row: its cells as a mask of two words, its kind, p and j. Three words are free.
 use Prim.Native.Nat.{ℕ, _+_, _*_}
 use mathlib.Core.List.{List, _++_, map}
 use mathlib.Core.Path.{_≡_}
@@ -34,10 +33,10 @@ rowsIn work n = map (rowAt work) (below n)
 unfoldable pub spread : Placement → Placement
 spread q = record { kind = q .kind; p = q .p; j = q .j; cells = keep (λ n. member n (q .cells)) (below 128) }
 
--- rows can hold a tray's placements: a row gives each back, and its p is one of 128 cells
+-- rows can hold a tray's placements: a row gives each back, and its kind and p are of one of 2,048 ranges
 pub record RowsFit (c : Compiled) : Type 0 where
   pub spreads : map spread (c .placements) ≡ c .placements
-  pub first : T (all (λ q. ltb (q .p) 128) (c .placements))
+  pub inRange : T (all (λ q. ltb (128 * q .kind + q .p) 2048) (c .placements))
 
 -- where n rows stood there are now m: the same, and behind them those of a list; the words behind are as they were
 pub record Appended (old : List ℕ) (n : ℕ) (new : List ℕ) (m : ℕ) (qs : List Placement) : Type 0 where

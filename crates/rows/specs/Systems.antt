@@ -75,18 +75,18 @@ pub record KindsIn (kinds : List ℕ) (n : ℕ) (c : Compiled) : Type 0 where
   pub count : n ≡ length (c .kinds)
   pub copies : map (λ k. getD kinds (3 * k) 0) (below n) ≡ limits c
   pub partners : map (λ k. getD kinds (3 * k + 1) 0) (below n) ≡ map (λ d. d .partner) (c .kinds)
-  pub cells : map (λ k. getD kinds (3 * k + 2) 0) (below n) ≡ sizes c
+  pub sizesAre : map (λ k. getD kinds (3 * k + 2) 0) (below n) ≡ sizes c
 
 unfoldable pub systemOver : Dims → List ℕ → List ℕ → List ℕ → List ℕ → List ℕ → System
 systemOver d work images scans kinds pieces =
     record {
-      size = d .cells;
+      size = d .size;
       rows = rowsIn work (d .rows);
       copies = map (λ k. getD kinds (3 * k) 0) (below (d .kinds));
       partners = map (λ k. getD kinds (3 * k + 1) 0) (below (d .kinds));
       sizes = map (λ k. getD kinds (3 * k + 2) 0) (below (d .kinds));
-      turned = imagesIn images (d .cells) 0 (d .turns);
-      mirrored = imagesIn images (d .cells) (d .turns) (d .mirrorings);
+      turned = imagesIn images (d .size) 0 (d .turns);
+      mirrored = imagesIn images (d .size) (d .turns) (d .mirrorings);
       scans = take (d .places) scans;
       pieces = ownedIn pieces (d .pieces);
     }

@@ -2,16 +2,17 @@
 ghost use mathlib.Core.Path.{_≡_};
 ghost use Prim.Native.Nat.{_+_, _*_, _≤_, _<_};
 ghost use lib.Dec.{T, eqb, ltb};
-ghost use lib.ListN.{getD, length, take};
+ghost use lib.ListN.{getD, length, replicate, take};
 ghost use lib.Seq.{paste};
-ghost use Rattle.lists.specs.Lists.{all, howMany, same};
-ghost use Rattle.definitions.specs.Answers.{copyOn};
-ghost use Rattle.rows.specs.Charts.{Charted, piecesPart, scansPart};
+ghost use Rattle.lists.specs.Lists.{all, below, howMany, same};
+ghost use Rattle.rows.specs.Charts.{Charted, chartLength, piecesPart, scansPart};
+ghost use Rattle.rows.specs.Rows.{cellsOf};
 ghost use Rattle.rows.specs.Systems.{ownedIn};
-ghost use Rattle.rows.specs.Answering.{Held, answersOver, asCopy, copiesBy, noCopy, pathIn, takenIn};
+ghost use Rattle.rows.specs.Answering.{Held, answersOver, asCopy, copiesBy, laid, noCopy, pathIn, takenIn, toldOf};
 use super::Dims;
 use super::chart;
-use super::table;
+use super::row;
+use masks::Mask;
 
 // A copy of a piece: the piece's number as lent, and the copy's.
 pub struct Copied {
@@ -53,7 +54,7 @@ pub fn used_before(work: &[u64], path: &[u16], n: usize, kind: usize) -> usize
     let mut used = 0;
     let mut i = 0;
     while i < n {
-        if table::kind_at(work, path[i] as usize) == kind {
+        if row::kind_at(work, path[i] as usize) == kind {
             used += 1;
         }
         i += 1;
@@ -61,36 +62,59 @@ pub fn used_before(work: &[u64], path: &[u16], n: usize, kind: usize) -> usize
     used
 }
 
-// The copy on a cell: that of the row that covers it; 255, 255 where none does.
-fn copy_on(d: Dims, work: &[u64], chart: &[u16], path: &[u16], n: usize, cell: usize) -> Copied
-    requires { ⌜ Held d (now work) (now chart) (now path) n × (cell < 128) ⌝ }
-    ensures { λ r. ⌜ asCopy r ≡ copyOn (takenIn d (now (work .entry)) (now (chart .entry)) (now (path .entry)) n) cell ⌝ }
+// A copy on the cells of a mask.
+fn lay_copy(mask: Mask, c: Copied, told: &mut [u8])
+    requires { ⌜ length (now told) ≡ 256 ⌝ }
+    ensures { λ _. ⌜ now (told .exit) ≡ laid (cellsOf mask) (asCopy c) (now (told .entry)) ⌝ }
 {
-    let mut i = 0;
-    while i < n {
-        let r = path[i] as usize;
-        if table::mask_at(work, r).has_cell(cell) {
-            let kind = table::kind_at(work, r);
-            return copy_of(chart, d.pieces, kind, used_before(work, path, i, kind));
-        }
-        i += 1;
-    }
-    Copied {
-        piece: 255,
-        copy: 255,
+    let mut i = mask.next_cell(0);
+    while i < 128 {
+        told[2 * i] = c.piece;
+        told[2 * i + 1] = c.copy;
+        i = mask.next_cell(i + 1);
     }
 }
 
-// The copy at a place of the board's box.
-fn copy_at(d: Dims, work: &[u64], chart: &[u16], path: &[u16], n: usize, place: usize) -> Copied
-    requires { ⌜ Held d (now work) (now chart) (now path) n × (place < 512) ⌝ }
-    ensures { λ r. do
-      let cell = getD (scansPart (now (chart .entry))) place 0
-      ⌜ asCopy r ≡ copyOn (takenIn d (now (work .entry)) (now (chart .entry)) (now (path .entry)) n) cell ⌝ }
+// The two bytes of each scan number: the copy of the first row that covers it; 255, 255 where none does. Rows are laid from the last to the first, and the
+// copies of a kind counted down.
+fn tell_cells(d: Dims, work: &[u64], chart: &[u16], path: &[u16], n: usize, told: &mut [u8])
+    requires { ⌜ Held d (now work) (now chart) (now path) n × (now told ≡ replicate 256 255) ⌝ }
+    ensures { λ _. do
+      let taken = takenIn d (now (work .entry)) (now (chart .entry)) (now (path .entry)) n
+      ⌜ now (told .exit) ≡ answersOver taken (below 128) ⌝ }
+{
+    let mut i = n;
+    let mut kind = d.kinds;
+    let mut used = 0;
+    while 0 < i {
+        i -= 1;
+        let r = path[i] as usize;
+        let k = row::kind_at(work, r);
+        if k == kind {
+            used -= 1;
+        } else {
+            kind = k;
+            used = used_before(work, path, i, k);
+        }
+        lay_copy(
+            row::mask_at(work, r),
+            copy_of(chart, d.pieces, kind, used),
+            told,
+        );
+    }
+}
+
+// The copy at a place of the board's box, of which the two bytes of each scan number tell.
+fn copy_at(chart: &[u16], told: &[u8], place: usize) -> Copied
+    requires { ⌜ (place < 512) × (length (now chart) ≡ chartLength) × (length (now told) ≡ 256) ⌝ }
+    ensures { λ r. ⌜ asCopy r ≡ toldOf (now (told .entry)) (getD (scansPart (now (chart .entry))) place 0) ⌝ }
 {
     let cell = chart::scan_at(chart, place);
-    if cell < d.cells {
-        copy_on(d, work, chart, path, n, cell)
+    if cell < 128 {
+        Copied {
+            piece: told[2 * cell],
+            copy: told[2 * cell + 1],
+        }
     } else {
         Copied {
             piece: 255,
@@ -115,10 +139,12 @@ pub fn reconstruct_answer(
       let told = answersOver taken (take (d .places) (scansPart (now (chart .entry))))
       ⌜ now (answers .exit) ≡ paste (now (answers .entry)) at told (2 * d .places) ⌝ }
 {
+    let mut told = [255u8; 256];
+    tell_cells(d, work, chart, path, n, &mut told);
     let v = d.places;
     let mut i = 0;
     while i < v {
-        let c = copy_at(d, work, chart, path, n, i);
+        let c = copy_at(chart, &told, i);
         answers[at + 2 * i] = c.piece;
         answers[at + 2 * i + 1] = c.copy;
         i += 1;
@@ -137,9 +163,11 @@ pub fn is_answer(d: Dims, work: &[u64], chart: &[u16], path: &[u16], n: usize, l
     if last.len() != 2 * v {
         return false;
     }
+    let mut told = [255u8; 256];
+    tell_cells(d, work, chart, path, n, &mut told);
     let mut i = 0;
     while i < v {
-        let c = copy_at(d, work, chart, path, n, i);
+        let c = copy_at(chart, &told, i);
         if last[2 * i] != c.piece {
             return false;
         }

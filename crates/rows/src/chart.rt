@@ -1,19 +1,19 @@
 // The chart of a tray: what the engines read of it beside its rows, in one slice with named places (specs/Charts.antt says what stands where).
 ghost use mathlib.Core.Path.{_≡_};
-ghost use Prim.Native.Nat.{_+_, _*_, _<_};
+ghost use Prim.Native.Nat.{_+_, _*_, _≤_, _<_};
 ghost use lib.ListN.{getD, length};
 ghost use Rattle.rows.specs.Charts.{chartLength, imagesPart, kindsPart, piecesPart, scansPart};
 
-// Where the parts begin, behind the first rows; and how long a chart is.
-pub const IMAGES: usize = 128;
+// Where the parts begin, behind the starts of the rows; and how long a chart is.
+pub const IMAGES: usize = 2049;
 
-pub const SCANS: usize = 6272;
+pub const SCANS: usize = 8193;
 
-pub const KINDS: usize = 6784;
+pub const KINDS: usize = 8705;
 
-pub const PIECES: usize = 6832;
+pub const PIECES: usize = 8753;
 
-pub const LENGTH: usize = 6864;
+pub const LENGTH: usize = 8785;
 
 // Number i of a chart.
 fn number_at(chart: &[u16], i: usize) -> usize
@@ -23,12 +23,12 @@ fn number_at(chart: &[u16], i: usize) -> usize
     chart[i] as usize
 }
 
-// The first row at a cell; the number of rows where there is none.
-pub fn first_row(chart: &[u16], cell: usize) -> usize
-    requires { ⌜ (cell < 128) × (length (now chart) ≡ chartLength) ⌝ }
-    ensures { λ r. ⌜ r ≡ getD (now (chart .entry)) cell 0 ⌝ }
+// Where the rows of range i begin, those of kind k at cell c being range 128·k + c; of range 2,048, behind the last, the number of rows.
+pub fn start_at(chart: &[u16], i: usize) -> usize
+    requires { ⌜ (i ≤ 2048) × (length (now chart) ≡ chartLength) ⌝ }
+    ensures { λ r. ⌜ r ≡ getD (now (chart .entry)) i 0 ⌝ }
 {
-    number_at(chart, cell)
+    number_at(chart, i)
 }
 
 // Number i of the images: of map m and cell c it is number 128·m + c.

@@ -1,27 +1,28 @@
 // What the maps that bring the board onto itself make of cells and rows. A row's image is worked out when needed.
 ghost use mathlib.Core.Path.{_≡_};
 ghost use mathlib.Core.List.{_∷_, map};
-ghost use Prim.Native.Nat.{_+_, _-_, _*_, _≤_, _<_};
+ghost use Prim.Native.Nat.{ℕ, _+_, _-_, _*_, _≤_, _<_};
 ghost use lib.Dec.{T, ltb};
 ghost use lib.ListN.{length, getD};
 ghost use lib.Seq.{paste};
-ghost use Rattle.lists.specs.Lists.{all, below, keep, from, member};
+ghost use Rattle.lists.specs.Lists.{all, ascending, below, keep, from, member};
 ghost use Rattle.definitions.specs.Maps.{mapOf};
+ghost use Rattle.definitions.specs.Packing.{ahead};
 ghost use Rattle.definitions.specs.Kept.{symmetries};
-ghost use Rattle.masks.specs.Masks.{has};
+ghost use Rattle.masks.specs.Masks.{has, hit};
 ghost use Rattle.shape.specs.Coords.{asSides};
 ghost use Rattle.shape.specs.Grids.{Whole, asGrid};
 ghost use Rattle.shape.specs.Scans.{asOrder};
 ghost use Rattle.placements.specs.Counting.{OnBoard};
-ghost use Rattle.rows.specs.Charts.{chartLength, imagesOf, kindsPart};
+ghost use Rattle.rows.specs.Charts.{chartLength, imagesOf, imagesPart, kindsPart};
 ghost use Rattle.rows.specs.Rows.{cellsOf, rowAt, rowsIn};
 ghost use Rattle.rows.specs.Boards.{CanMove, Numbered, Pictured, boardImages, placeImages};
-ghost use Rattle.rows.specs.Chains.{Chained, FirstCells};
+ghost use Rattle.rows.specs.Ranges.{FirstCells, Ranged};
 ghost use Rattle.rows.specs.Systems.{kindBy, movedBy, rowWith};
 ghost use Rattle.rows.specs.Lawful.{Permutes};
 use super::Dims;
 use super::chart;
-use super::table;
+use super::row;
 use masks::Mask;
 use shape::Coord;
 use shape::cells;
@@ -86,38 +87,62 @@ pub(crate) fn board_images(
     r
 }
 
+// The cells on which a map puts those of a word of a mask, as far as they are below `size`; where it puts them stands from number `start` of the images on.
+fn moved_word(word: u64, chart: &[u16], start: usize, size: usize) -> Mask
+    requires { ⌜ (size ≤ 64) × (start + size ≤ 6144) × (length (now chart) ≡ chartLength)
+        × ((i : ℕ) → i < size → getD (imagesPart (now chart)) (start + i) 0 < 128) ⌝ }
+    ensures { λ r. ⌜ has r ≡ (λ n. member n (map (λ i. getD (imagesPart (now (chart .entry))) (start + i) 0) (keep (hit word) (below size)))) ⌝ }
+{
+    let mut moved = Mask::empty();
+    let mut rest = word;
+    let mut i = 0;
+    while rest != 0 {
+        let zeros = u64::trailing_zeros(rest) as usize;
+        i += zeros;
+        if size <= i {
+            return moved;
+        }
+        moved = moved.with_cell(chart::image_at(chart, start + i));
+        rest = rest >> zeros >> 1;
+        i += 1;
+    }
+    moved
+}
+
 // The cells on which a map puts those of a mask.
 fn moved_mask(mask: Mask, chart: &[u16], m: usize, size: usize) -> Mask
     requires { ⌜ (size ≤ 128) × (m < 48) × (length (now chart) ≡ chartLength) × T (all (λ n. ltb n 128) (imagesOf (now chart) size m)) ⌝ }
     ensures { λ r. ⌜ has r ≡ (λ n. member n (map (λ i. getD (imagesOf (now (chart .entry)) size m) i 0) (keep (has mask) (below size)))) ⌝ }
 {
-    let mut moved = Mask::empty();
-    let mut i = mask.next_cell(0);
-    while i < size {
-        moved = moved.with_cell(chart::image_at(chart, 128 * m + i));
-        i = mask.next_cell(i + 1);
+    if size <= 64 {
+        return moved_word(mask.low, chart, 128 * m, size);
     }
-    moved
+    let low = moved_word(mask.low, chart, 128 * m, 64);
+    let high = moved_word(mask.high, chart, 128 * m + 64, size - 64);
+    low.union(high)
 }
 
 // The row of a kind with the cells of a mask; the number of rows where there is none.
 fn find_row(work: &[u64], rows: usize, chart: &[u16], kind: usize, mask: Mask) -> usize
-    requires { ⌜ (8 * rows ≤ length (now work)) × (rows ≤ 1024) × (length (now chart) ≡ chartLength) × Chained (now work) (now chart) rows
-        × FirstCells (rowsIn (now work) rows) ⌝ }
+    requires { ⌜ (8 * rows ≤ length (now work)) × (rows ≤ 1024) × (length (now chart) ≡ chartLength) × Ranged (now work) (now chart) rows
+        × FirstCells (rowsIn (now work) rows) × T (ascending ahead (rowsIn (now work) rows)) ⌝ }
     ensures { λ r. ⌜ r ≡ rowWith (rowsIn (now (work .entry)) rows) (kind ∷ cellsOf mask) ⌝ }
 {
     let c = mask.next_cell(0);
     if c == 128 {
         return rows;
     }
-    let mut r = chart::first_row(chart, c);
-    while r < rows {
-        if table::kind_at(work, r) == kind {
-            if table::mask_at(work, r).equals(mask) {
-                return r;
-            }
+    if 16 <= kind {
+        return rows;
+    }
+    let mut r = chart::start_at(chart, 128 * kind + c);
+    let end = chart::start_at(chart, 128 * kind + c + 1);
+    // no row before r has the kind and the cells
+    while r < end {
+        if row::mask_at(work, r).equals(mask) {
+            return r;
         }
-        r = table::next_at(work, r);
+        r += 1;
     }
     rows
 }
@@ -136,17 +161,17 @@ pub fn kind_after(chart: &[u16], n: usize, odd: bool, kind: usize) -> usize
 
 // The image of row r under a map: its number, and the number of rows where it has none.
 pub fn image_row(d: Dims, work: &[u64], chart: &[u16], m: usize, odd: bool, r: usize) -> usize
-    requires { ⌜ (8 * d .rows ≤ length (now work)) × (d .rows ≤ 1024) × (length (now chart) ≡ chartLength) × Chained (now work) (now chart) (d .rows)
-        × FirstCells (rowsIn (now work) (d .rows)) ⌝ }
+    requires { ⌜ (8 * d .rows ≤ length (now work)) × (d .rows ≤ 1024) × (length (now chart) ≡ chartLength) × Ranged (now work) (now chart) (d .rows)
+        × FirstCells (rowsIn (now work) (d .rows)) × T (ascending ahead (rowsIn (now work) (d .rows))) ⌝ }
     requires { ⌜ (r < d .rows) × (d .kinds ≤ 16) × (rowAt (now work) r .kind < d .kinds)
-        × T (all (λ n. ltb n (d .cells)) (rowAt (now work) r .cells)) ⌝ }
-    requires { ⌜ (d .cells ≤ 128) × (m < 48) × Permutes (d .cells) (imagesOf (now chart) (d .cells) m) ⌝ }
+        × T (all (λ n. ltb n (d .size)) (rowAt (now work) r .cells)) ⌝ }
+    requires { ⌜ (d .size ≤ 128) × (m < 48) × Permutes (d .size) (imagesOf (now chart) (d .size) m) ⌝ }
     ensures { λ s. do
       let partners = map (λ k. getD (kindsPart (now (chart .entry))) (3 * k + 1) 0) (below (d .kinds))
-      let moved = movedBy partners odd (imagesOf (now (chart .entry)) (d .cells) m) (rowAt (now (work .entry)) r)
+      let moved = movedBy partners odd (imagesOf (now (chart .entry)) (d .size) m) (rowAt (now (work .entry)) r)
       ⌜ s ≡ rowWith (rowsIn (now (work .entry)) (d .rows)) moved ⌝ }
 {
-    let kind = kind_after(chart, d.kinds, odd, table::kind_at(work, r));
-    let mask = moved_mask(table::mask_at(work, r), chart, m, d.cells);
+    let kind = kind_after(chart, d.kinds, odd, row::kind_at(work, r));
+    let mask = moved_mask(row::mask_at(work, r), chart, m, d.size);
     find_row(work, d.rows, chart, kind, mask)
 }

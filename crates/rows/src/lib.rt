@@ -3,15 +3,16 @@
 // `systemOf` the tray, and every such system is `Lawful`; what the readers read of it is what the definition has there.
 
 pub mod answers;
+mod building;
 pub mod chart;
 pub mod images;
+pub mod row;
 pub mod shown;
 pub mod system;
-pub mod table;
 
 // How large a row system is: filled board cells, rows, kinds, allowed turns and mirrorings, places of the board's box, pieces.
 pub struct Dims {
-    pub cells: usize,
+    pub size: usize,
     pub rows: usize,
     pub kinds: usize,
     pub turns: usize,

@@ -11,7 +11,7 @@ ghost use Rattle.rows.specs.Systems.{ownedIn};
 ghost use Rattle.rows.specs.Shown.{Shown, showsRow};
 use super::Dims;
 use super::chart;
-use super::table;
+use super::row;
 
 // Byte i of a slice, 0 past its end.
 fn byte_or(last: &[u8], i: usize) -> u8
@@ -37,11 +37,11 @@ fn place_of(chart: &[u16], places: usize, cell: usize) -> usize
 
 // The two bytes that an answer has for each cell of the board.
 pub fn show_cells(d: Dims, chart: &[u16], last: &[u8], shown: &mut [u8])
-    requires { ⌜ (d .cells ≤ 128) × (length (now shown) ≡ 256) × (length (now chart) ≡ chartLength) × (d .places ≤ 512) ⌝ }
-    ensures { λ _. ⌜ Shown (d .cells) (take (d .places) (scansPart (now (chart .entry)))) (now (last .entry)) (now (shown .exit)) ⌝ }
+    requires { ⌜ (d .size ≤ 128) × (length (now shown) ≡ 256) × (length (now chart) ≡ chartLength) × (d .places ≤ 512) ⌝ }
+    ensures { λ _. ⌜ Shown (d .size) (take (d .places) (scansPart (now (chart .entry)))) (now (last .entry)) (now (shown .exit)) ⌝ }
 {
     let mut c = 0;
-    while c < d.cells {
+    while c < d.size {
         let i = place_of(chart, d.places, c);
         shown[2 * c] = byte_or(last, 2 * i);
         shown[2 * c + 1] = byte_or(last, 2 * i + 1);
@@ -55,17 +55,17 @@ fn is_shown(d: Dims, work: &[u64], chart: &[u16], shown: &[u8], r: usize) -> boo
         × (length (now chart) ≡ chartLength) ⌝ }
     ensures { λ b. ⌜ b ≡ showsRow (ownedIn (piecesPart (now (chart .entry))) (d .pieces)) (now (shown .entry)) (rowAt (now (work .entry)) r) ⌝ }
 {
-    let p = table::first_at(work, r);
+    let p = row::first_at(work, r);
     let piece = shown[2 * p];
     let copy = shown[2 * p + 1];
     let at = piece as usize;
     if d.pieces <= at {
         return false;
     }
-    if chart::kind_of(chart, at) != table::kind_at(work, r) {
+    if chart::kind_of(chart, at) != row::kind_at(work, r) {
         return false;
     }
-    let mask = table::mask_at(work, r);
+    let mask = row::mask_at(work, r);
     let mut c = mask.next_cell(0);
     while c < 128 {
         if shown[2 * c] != piece {

@@ -8,19 +8,19 @@ ghost use Rattle.definitions.specs.Refusals.{sidesOf};
 ghost use Rattle.definitions.specs.Stripping.{FitsIn};
 ghost use Rattle.shape.specs.Coords.{Fit, asSides};
 ghost use Rattle.placements.specs.Counting.{Accepted9, Counted};
-ghost use Rattle.placements.specs.Merging.{AreKinds};
+ghost use Rattle.placements.specs.Merging.{AreKinds, Smallest};
 ghost use Rattle.placements.specs.Stripping.{lentPlace};
-ghost use Rattle.placements.specs.Tables.{framedIn, lentIn, recordsOf};
+ghost use Rattle.placements.specs.Pieces.{framedIn, lentIn, recordsOf};
 ghost use Rattle.rows.specs.Built.{AreBytes, BuiltLent, BuiltSystem, KindsSmall, Laid, LaidAt, frameAt};
 ghost use Rattle.rows.specs.Charts.{chartLength};
 ghost use Rattle.rows.specs.Rows.{RowsFit};
 ghost use Rattle.rows.specs.Systems.{KindsIn, owned, ownedIn};
 use super::Dims;
+use super::building;
 use super::chart;
 use super::images;
-use super::table;
 use definitions::Record;
-use placements::Table;
+use placements::Pieces;
 use placements::board;
 use placements::counting::Counts;
 use placements::merging;
@@ -30,10 +30,19 @@ use shape::cells;
 use shape::grids;
 use shape::maps::Map;
 use shape::scan;
+use shape::variants;
 
 // For each kind its copies, its mirror partner and how many cells it has.
-fn list_kinds(t: Table, board: Record, bytes: &[u8], first: &[u8], n: usize, kinds: &mut [u16])
-    requires { ⌜ Accepted9 t board (now bytes) × AreKinds t (now bytes) (now first) n × (n ≤ length (now first))
+fn list_kinds(
+    t: Pieces,
+    board: Record,
+    bytes: &[u8],
+    small: &[u8],
+    first: &[u8],
+    n: usize,
+    kinds: &mut [u16],
+)
+    requires { ⌜ Accepted9 t board (now bytes) × Smallest t (now bytes) (now small) × AreKinds t (now bytes) (now first) n × (n ≤ length (now first))
         × (3 * n ≤ length (now kinds)) × KindsSmall (now kinds) ⌝ }
     ensures { λ _. ⌜ KindsIn (now (kinds .exit)) n (compile (lentIn (recordsOf t) board (now (bytes .entry)))) × KindsSmall (now (kinds .exit)) ⌝ }
 {
@@ -41,25 +50,37 @@ fn list_kinds(t: Table, board: Record, bytes: &[u8], first: &[u8], n: usize, kin
     // the numbers of the kinds before k stand there
     while k < n {
         let i = first[k] as usize;
-        let p = t.rows[i];
-        kinds[3 * k] = merging::copies_of(t, bytes, i) as u16;
-        kinds[3 * k + 1] = merging::kind_of(t, bytes, i, Map(merging::MIRROR), first, n) as u16;
-        kinds[3 * k + 2] = grids::count_filled(records::cells_of(bytes, p)) as u16;
+        let p = t.records[i];
+        let cells = records::cells_of(bytes, p);
+        let m = variants::smallest_of(cells, records::sides_of(p), Map(merging::MIRROR));
+        kinds[3 * k] = merging::copies_of(t, bytes, small, i) as u16;
+        kinds[3 * k + 1] = merging::kind_of(t, bytes, small, i, m, first, n) as u16;
+        kinds[3 * k + 2] = grids::count_filled(cells) as u16;
         k += 1;
     }
 }
 
 // For each piece its kind and its count.
-fn list_pieces(t: Table, board: Record, bytes: &[u8], first: &[u8], n: usize, pieces: &mut [u8])
-    requires { ⌜ Accepted9 t board (now bytes) × AreKinds t (now bytes) (now first) n × (n ≤ length (now first)) × (32 ≤ length (now pieces)) ⌝ }
-    ensures { λ _. ⌜ ownedIn (now (pieces .exit)) (t .n) ≡ owned (lentIn (recordsOf t) board (now (bytes .entry))) ⌝ }
+fn list_pieces(
+    t: Pieces,
+    board: Record,
+    bytes: &[u8],
+    small: &[u8],
+    first: &[u8],
+    n: usize,
+    pieces: &mut [u8],
+)
+    requires { ⌜ Accepted9 t board (now bytes) × Smallest t (now bytes) (now small) × AreKinds t (now bytes) (now first) n × (n ≤ length (now first))
+        × (32 ≤ length (now pieces)) ⌝ }
+    ensures { λ _. ⌜ ownedIn (now (pieces .exit)) (t .count) ≡ owned (lentIn (recordsOf t) board (now (bytes .entry))) ⌝ }
 {
-    let m = t.n;
+    let m = t.count;
     let mut i = 0;
     // the kinds and the counts of the pieces before i stand there
     while i < m {
-        let p = t.rows[i];
-        pieces[2 * i] = merging::kind_of(t, bytes, i, Map(0), first, n) as u8;
+        let p = t.records[i];
+        let k = small[i];
+        pieces[2 * i] = merging::kind_of(t, bytes, small, i, Map(k), first, n) as u8;
         pieces[2 * i + 1] = p.count as u8;
         i += 1;
     }
@@ -94,19 +115,19 @@ fn lay_numbers(numbers: &[u16], n: usize, out: &mut [u16], at: usize)
 // The parts of a chart into it; of the images those of as many maps as there are.
 fn lay_chart(
     d: Dims,
-    heads: &[u16],
+    starts: &[u16],
     images: &[u8],
     scans: &[u8],
     kinds: &[u16],
     pieces: &[u8],
     chart: &mut [u16],
 )
-    requires { ⌜ (length (now heads) ≡ 128) × (length (now images) ≡ 6144) × (length (now scans) ≡ 512) × (length (now kinds) ≡ 48)
+    requires { ⌜ (length (now starts) ≡ 2049) × (length (now images) ≡ 6144) × (length (now scans) ≡ 512) × (length (now kinds) ≡ 48)
         × (length (now pieces) ≡ 32) × (length (now chart) ≡ chartLength) × (d .turns + d .mirrorings ≤ 48) ⌝ }
-    ensures { λ _. ⌜ Laid d (now (heads .entry)) (now (images .entry)) (now (scans .entry)) (now (kinds .entry)) (now (pieces .entry)) (now (chart .exit))
+    ensures { λ _. ⌜ Laid d (now (starts .entry)) (now (images .entry)) (now (scans .entry)) (now (kinds .entry)) (now (pieces .entry)) (now (chart .exit))
         × AreBytes (now (pieces .entry)) ⌝ }
 {
-    lay_numbers(heads, 128, chart, 0);
+    lay_numbers(starts, chart::IMAGES, chart, 0);
     lay_bytes(images, 128 * (d.turns + d.mirrorings), chart, chart::IMAGES);
     lay_bytes(scans, 512, chart, chart::SCANS);
     lay_numbers(kinds, 48, chart, chart::KINDS);
@@ -120,48 +141,48 @@ struct Placed {
     mirrorings: usize,
 }
 
-// The rows of a tray, the first row at each cell, and the images of its board's cells, by what was counted of it.
+// The rows of a tray, where those of each kind at each cell begin, and the images of its board's cells, by what was counted of it.
 fn build_lent(
-    t: Table,
+    t: Pieces,
     board: Record,
     bytes: &[u8],
     counts: Counts,
     places: &[u16],
     first: &[u8],
-    numbers: &[u8],
+    turnings: &[u8],
     work: &mut [u64],
-    heads: &mut [u16],
+    starts: &mut [u16],
     images: &mut [u8],
 ) -> Placed
-    requires { ⌜ Accepted9 t board (now bytes) × Counted t board (now bytes) (now places) (now first) (now numbers) counts
+    requires { ⌜ Accepted9 t board (now bytes) × Counted t board (now bytes) (now places) (now first) (now turnings) counts
         × (counts .placements ≤ 1024) × RowsFit (compile (lentIn (recordsOf t) board (now bytes))) ⌝ }
-    requires { ⌜ (length (now first) ≡ 16) × (length (now numbers) ≡ 400) × (8192 ≤ length (now work)) × (length (now heads) ≡ 128)
+    requires { ⌜ (length (now first) ≡ 16) × (length (now turnings) ≡ 400) × (8192 ≤ length (now work)) × (length (now starts) ≡ 2049)
         × (length (now images) ≡ 6144) ⌝ }
     ensures { λ r. do
       let c = compile (lentIn (recordsOf t) board (now (bytes .entry)))
-      ⌜ BuiltLent c (counts .cells) r (now (work .entry)) (now (work .exit)) (now (heads .exit)) (now (images .exit)) ⌝ }
+      ⌜ BuiltLent c (counts .size) r (now (work .entry)) (now (work .exit)) (now (starts .exit)) (now (images .exit)) ⌝ }
 {
     let b = records::sides_of(board);
     let grid = records::cells_of(bytes, board);
     let order = scan::plan_axis_order(b);
-    let size = counts.cells;
+    let size = counts.size;
     let mut scans = [0u8; 512];
     board::number_places(places, size, &mut scans);
     let turns = images::board_images(grid, b, order, places, &scans, size, 0, 24, images, 0);
     let maps = images::board_images(grid, b, order, places, &scans, size, 24, 48, images, turns);
-    let rows = table::build_rows(
+    let rows = building::build_rows(
         t,
         board,
         bytes,
         counts,
         places,
         first,
-        numbers,
+        turnings,
         &scans,
         order,
         work,
     );
-    table::chain_rows(work, rows, heads);
+    building::range_rows(work, rows, starts);
     Placed {
         rows,
         turns,
@@ -172,30 +193,31 @@ fn build_lent(
 // The row system of a tray whose grids are stripped and that is not refused, by what was counted of it, into slices; and how large it is. Its board lies in
 // the lent box with its corner at a cell. The places of the board's filled cells become those of the lent box, in which answers are written.
 pub fn build_system(
-    t: Table,
+    t: Pieces,
     board: Record,
     bytes: &[u8],
     counts: Counts,
     places: &mut [u16],
+    small: &[u8],
     first: &[u8],
-    numbers: &[u8],
+    turnings: &[u8],
     lent: Coord,
     at: Coord,
     work: &mut [u64],
     chart: &mut [u16],
 ) -> Dims
-    requires { ⌜ Accepted9 t board (now bytes) × Counted t board (now bytes) (now places) (now first) (now numbers) counts
+    requires { ⌜ Accepted9 t board (now bytes) × Counted t board (now bytes) (now places) (now first) (now turnings) counts
         × (counts .placements ≤ 1024) × RowsFit (compile (lentIn (recordsOf t) board (now bytes))) ⌝ }
-    requires { ⌜ Fit (asSides lent) × FitsIn (frameAt lent at) (sidesOf board) ⌝ }
-    requires { ⌜ (length (now first) ≡ 16) × (length (now numbers) ≡ 400) × (8192 ≤ length (now work)) × (length (now chart) ≡ chartLength) ⌝ }
+    requires { ⌜ Fit (asSides lent) × FitsIn (frameAt lent at) (sidesOf board) × Smallest t (now bytes) (now small) ⌝ }
+    requires { ⌜ (length (now first) ≡ 16) × (length (now turnings) ≡ 400) × (8192 ≤ length (now work)) × (length (now chart) ≡ chartLength) ⌝ }
     ensures { λ d. do
       let tray = framedIn (recordsOf t) board (now (bytes .entry)) (frameAt lent at)
       let put = lentPlace (sidesOf board) (frameAt lent at)
-      let n = counts .cells
+      let n = counts .size
       ⌜ BuiltSystem tray d (now (work .entry)) (now (work .exit)) (now (chart .exit))
           × (now (places .exit) ≡ map put (take n (now (places .entry))) ++ drop n (now (places .entry))) ⌝ }
 {
-    let mut heads = [0u16; 128];
+    let mut starts = [0u16; 2049];
     let mut images = [0u8; 6144];
     let r = build_lent(
         t,
@@ -204,29 +226,29 @@ pub fn build_system(
         counts,
         places,
         first,
-        numbers,
+        turnings,
         work,
-        &mut heads,
+        &mut starts,
         &mut images,
     );
     let n = counts.kinds;
     let mut kinds = [0u16; 48];
-    list_kinds(t, board, bytes, first, n, &mut kinds);
+    list_kinds(t, board, bytes, small, first, n, &mut kinds);
     let mut pieces = [0u8; 32];
-    list_pieces(t, board, bytes, first, n, &mut pieces);
-    let size = counts.cells;
+    list_pieces(t, board, bytes, small, first, n, &mut pieces);
+    let size = counts.size;
     board::put_back(places, size, records::sides_of(board), at, lent);
     let mut scans = [0u8; 512];
     board::number_places(places, size, &mut scans);
     let d = Dims {
-        cells: size,
+        size,
         rows: r.rows,
         kinds: n,
         turns: r.turns,
         mirrorings: r.mirrorings,
         places: cells::volume_of(lent),
-        pieces: t.n,
+        pieces: t.count,
     };
-    lay_chart(d, &heads, &images, &scans, &kinds, &pieces, chart);
+    lay_chart(d, &starts, &images, &scans, &kinds, &pieces, chart);
     d
 }

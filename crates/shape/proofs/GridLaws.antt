@@ -8,8 +8,8 @@ use native.Mathlib.Numerals.{add-one}
 use native.Mathlib.Omega.{arith}
 use borrow.Author.Tests.{lt-ltb, le-ltb, eq-eqb, ne-eqb, eqb-true, eqb-false}
 use lib.Dec.{T, ltb, eqb}
-use lib.ListN.{length, getD, drop, drop-of-length-le}
-use lib.Seq.{drop-cons}
+use lib.ListN.{length, getD, take, drop, length-drop, drop-of-length-le}
+use lib.Seq.{drop-cons, length-take-le, getD-take, getD-drop}
 use Rattle.lists.specs.Lists.{all, less, same, below}
 use Rattle.lists.proofs.TestLaws.{holds, decide}
 use Rattle.lists.proofs.ListLaws.{map-same}
@@ -23,7 +23,7 @@ use Rattle.definitions.proofs.MoveLaws.{mapped-whole}
 use Rattle.definitions.proofs.GroupLaws.{bytes-whole, identity-grid, sameGrid→eq}
 use Rattle.shape.specs.Coords.{asSides, Fit}
 use Rattle.shape.specs.Places.{cellAt}
-use Rattle.shape.specs.Grids.{Decided, Whole, orderBy, numberOrder, sideList, sidesOrder, gridOrder}
+use Rattle.shape.specs.Grids.{Decided, Whole, orderBy, listOrder, numberOrder, sideList, sidesOrder, gridOrder}
 use Rattle.shape.specs.declared.Coord.{Coord}
 use Rattle.shape.specs.declared.Ordering.{Ordering}
 use Rattle.shape.specs.declared.Ordering.the-variants.{Less, Equal, Greater}
@@ -52,9 +52,6 @@ chain-equal : (o : Ordering) → chain o Equal ≡ o
 chain-equal Less = refl
 chain-equal Equal = refl
 chain-equal Greater = refl
-
-abbrev pub listOrder : List ℕ → List ℕ → Ordering
-listOrder xs ys = orderBy (less xs ys) (same xs ys)
 
 order-bits : (x y l e : Bool) → orderBy (x || (y && l)) (y && e) ≡ chain (orderBy x y) (orderBy l e)
 order-bits true y l e = refl
@@ -134,12 +131,37 @@ cells-order g h e =
 
 -- lists from place j on
 module _ (xs ys : List ℕ) (j : ℕ) where
-  pub order-at : j < length xs → j < length ys
+  order-at : j < length xs → j < length ys
       → listOrder (drop j xs) (drop j ys) ≡ chain (numberOrder (getD xs j 0) (getD ys j 0)) (listOrder (drop (j + 1) xs) (drop (j + 1) ys))
   order-at h k = rw (add-one, drop-cons xs j 0, drop-cons ys j 0) (order-cons (getD xs j 0) (getD ys j 0) (drop (suc j) xs) (drop (suc j) ys))
 
-  pub order-end : length xs ≤ j → length ys ≤ j → listOrder (drop j xs) (drop j ys) ≡ Equal
+  order-end : length xs ≤ j → length ys ≤ j → listOrder (drop j xs) (drop j ys) ≡ Equal
   order-end h k = ap₂ listOrder (drop-of-length-le xs h) (drop-of-length-le ys k)
+
+-- parts of lists, n numbers from a place on
+module _ (xs : List ℕ) (a n : ℕ) (h : a + n ≤ length xs) where
+  part-length : length (take n (drop a xs)) ≡ n
+  part-length = length-take-le n (drop a xs) (simp length-drop (omega arith))
+
+  part-at : (j : ℕ) → j < n → getD (take n (drop a xs)) j 0 ≡ getD xs (a + j) 0
+  part-at j k = getD-take n (drop a xs) j 0 k ∙ getD-drop a xs j 0
+
+module _ (xs ys : List ℕ) (a b n : ℕ) (hx : a + n ≤ length xs) (hy : b + n ≤ length ys) where
+  pub part-order-at : (j : ℕ) → j < n → (o : Ordering) → numberOrder (getD xs (a + j) 0) (getD ys (b + j) 0) ≡ o
+      → listOrder (drop j (take n (drop a xs))) (drop j (take n (drop b ys)))
+      ≡ chain o (listOrder (drop (j + 1) (take n (drop a xs))) (drop (j + 1) (take n (drop b ys))))
+  part-order-at j k o e =
+      let p = part-length xs a n hx in
+      let q = part-length ys b n hy in
+      order-at (take n (drop a xs)) (take n (drop b ys)) j (omega arith) (omega arith)
+      ∙ ap (λ (o : Ordering). chain o (listOrder (drop (j + 1) (take n (drop a xs))) (drop (j + 1) (take n (drop b ys)))))
+      (ap₂ numberOrder (part-at xs a n hx j k) (part-at ys b n hy j k) ∙ e)
+
+  pub part-order-end : (j : ℕ) → n ≤ j → listOrder (drop j (take n (drop a xs))) (drop j (take n (drop b ys))) ≡ Equal
+  part-order-end j k =
+      let p = part-length xs a n hx in
+      let q = part-length ys b n hy in
+      order-end (take n (drop a xs)) (take n (drop b ys)) j (omega arith) (omega arith)
 
 -- what an order tells of being the same
 order-less : (x y : Bool) → orderBy x y ≡ Less → x ≡ true
@@ -223,15 +245,11 @@ pub map-zero : (g : Grid) → length (g .cells) ≡ volume (g .sides) → mapGri
 map-zero g e = ap (λ m. mapGrid m g) zero-identity ∙ identity-grid g e
 
 -- a mapped grid has as many cells
-turned-length : (n : ℕ) (g : Grid) → length (mapGrid (mapOf n) g .cells) ≡ volume (g .sides)
+pub turned-length : (n : ℕ) (g : Grid) → length (mapGrid (mapOf n) g .cells) ≡ volume (g .sides)
 turned-length n g = mapped-whole (mapOf n) g ∙ ap volume (mapped-sides (mapOf n) g) ∙ map-volume n (g .sides)
 
 pub same-volume : (m n : ℕ) (s t : Sides) → mapSides (mapOf m) s ≡ mapSides (mapOf n) t → volume s ≡ volume t
 same-volume m n s t e = sym (map-volume m s) ∙ ap volume e ∙ map-volume n t
-
-pub turned-lengths : (m n : ℕ) (g h : Grid) → length (g .cells) ≡ volume (g .sides) → mapSides (mapOf m) (g .sides) ≡ mapSides (mapOf n) (h .sides)
-    → (length (mapGrid (mapOf m) g .cells) ≡ length (g .cells)) × (length (mapGrid (mapOf n) h .cells) ≡ length (g .cells))
-turned-lengths m n g h w e = (turned-length m g ∙ sym w, turned-length n h ∙ sym (same-volume m n (g .sides) (h .sides) e) ∙ sym w)
 
 -- ---- tests of the entries from place i on
 module _ (p : ℕ → Bool) (xs : List ℕ) (i : ℕ) where

@@ -1,4 +1,4 @@
--- The code's tables, each by one computed test: an entry is the number of the product, or of the inverse. And the laws of map numbers and of mapped
+-- The code's constants, each by one computed test: an entry is the number of the product, or of the inverse. And the laws of map numbers and of mapped
 -- places that later code cites. Assumes nothing.
 use Prim.Native.Nat.{ℕ, zero, suc, _+_, _*_, _-_, _<_}
 use mathlib.Core.Bool.{Bool, true, false, cond, not, _&&_}
@@ -18,10 +18,10 @@ use Rattle.definitions.proofs.GroupLaws.{sameMap, sameMap→eq, codeOf}
 use Rattle.definitions.proofs.ActLaws.{plus, mapsOf, product-in}
 use Rattle.definitions.proofs.MapNumberLaws.{map-in}
 use Rattle.shape.specs.Coords.{asMap}
-use Rattle.shape.specs.declared.tables.Axes.{Axes}
+use Rattle.shape.specs.declared.constants.Axes.{Axes}
 
 -- ---- one axis
-third : {A : Type 0} (a b c : A) (i : ℕ) → (i ≡ 0 → ⊥) → (i ≡ 1 → ⊥) → cond (eqb i 0) a (cond (eqb i 1) b c) ≡ c
+pub third : {A : Type 0} (a b c : A) (i : ℕ) → (i ≡ 0 → ⊥) → (i ≡ 1 → ⊥) → cond (eqb i 0) a (cond (eqb i 1) b c) ≡ c
 third a b c i x y = ap₂ (λ (p q : Bool). cond p a (cond q b c)) (is-false (eqb i 0) (λ t. x (eqb→eq i 0 t))) (is-false (eqb i 1) (λ t. y (eqb→eq i 1 t)))
 
 pub side-last : (s : Sides) (i : ℕ) → (i ≡ 0 → ⊥) → (i ≡ 1 → ⊥) → side s i ≡ s .c
@@ -120,7 +120,7 @@ module _ (n : ℕ) where
   unfolding inverseNumber
   inverse-is = inverse-number .right
 
--- ---- the code's tables as lists, and what stands at a place of each
+-- ---- the code's constants as lists, and what stands at a place of each
 row-at : {A : Type 0} (d : A) (f : A → A → ℕ) (ys xs : List A) (i j : ℕ) → i < length xs → j < length ys
     → getD (each xs (λ x. map (f x) ys)) (i * length ys + j) 0 ≡ f (getD xs i d) (getD ys j d)
 row-at d f ys [] i j h k = absurd (omega arith)

@@ -74,6 +74,33 @@ place-of-cell s i =
     ∙ ap (λ (k : ℕ). k * s .c + i % s .c) (div-add-mod' (i / s .c) (s .b))
     ∙ div-add-mod' i (s .c)
 
+-- ---- the cell behind a cell of a box
+module _ (s : Sides) (u : Cell) (h : InBox s u) where
+  -- the place of a cell says which it is, however large its x
+  any-x : (v : Cell) → v .y < s .b → v .z < s .c → cellAt s (placeOf s v) ≡ v
+  unfolding cellAt
+  any-x v y z = cell-at-place (record { a = v .x + 1; b = s .b; c = s .c }) v (omega arith, y, z)
+
+  pub next-z : u .z + 1 < s .c → record { x = u .x; y = u .y; z = u .z + 1 } ≡ cellAt s (placeOf s u + 1)
+  next-z l =
+      let v : Cell = record { x = u .x; y = u .y; z = u .z + 1 } in
+      let e : placeOf s v ≡ placeOf s u + 1 = omega arith in
+      sym (any-x v (h .1) l) ∙ ap (cellAt s) e
+
+  pub next-y : s .c ≤ u .z + 1 → u .y + 1 < s .b → record { x = u .x; y = u .y + 1; z = 0 } ≡ cellAt s (placeOf s u + 1)
+  next-y k l =
+      let v : Cell = record { x = u .x; y = u .y + 1; z = 0 } in
+      let e : placeOf s v ≡ placeOf s u + 1 = omega arith in
+      sym (any-x v l (omega arith)) ∙ ap (cellAt s) e
+
+  pub next-x : s .c ≤ u .z + 1 → s .b ≤ u .y + 1 → record { x = u .x + 1; y = 0; z = 0 } ≡ cellAt s (placeOf s u + 1)
+  next-x k l =
+      let v : Cell = record { x = u .x + 1; y = 0; z = 0 } in
+      let d : s .b ≡ u .y + 1 = omega arith in
+      let f : s .b * s .c ≡ (u .y + 1) * s .c = ap (λ (n : ℕ). n * s .c) d in
+      let e : placeOf s v ≡ placeOf s u + 1 = omega arith in
+      sym (any-x v (omega arith) (omega arith)) ∙ ap (cellAt s) e
+
 -- ---- a map keeps the number of cells: a quarter turn does, and each of the 48 is done by moves
 quarter-volume : (q : Quarter) (s : Sides) → volume (quarterSides q s) ≡ volume s
 unfolding volume quarterSides

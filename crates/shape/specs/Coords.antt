@@ -5,7 +5,7 @@ use lib.Dec.{leb}
 use Rattle.definitions.specs.Grid.{Sides, Cell}
 use Rattle.definitions.specs.Maps.{Map}
 use Rattle.shape.specs.declared.Coord.{Coord}
-use Rattle.shape.specs.declared.tables.Axes.{Axes}
+use Rattle.shape.specs.declared.constants.Axes.{Axes}
 
 abbrev pub asSides : Coord → Sides
 asSides s = record { a = s .0; b = s .1; c = s .2 }

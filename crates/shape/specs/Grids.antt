@@ -34,6 +34,10 @@ orderBy false false = Greater
 unfoldable pub numberOrder : ℕ → ℕ → Ordering
 numberOrder a b = orderBy (ltb a b) (eqb a b)
 
+-- lists of numbers: the first difference decides
+abbrev pub listOrder : List ℕ → List ℕ → Ordering
+listOrder xs ys = orderBy (less xs ys) (same xs ys)
+
 abbrev pub sideList : Sides → List ℕ
 sideList s = s .a ∷ s .b ∷ s .c ∷ []
 

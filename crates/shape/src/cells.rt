@@ -1,6 +1,6 @@
 // Cells of a box and their places: x slowest, z fastest.
 ghost use mathlib.Core.Path.{_≡_};
-ghost use Prim.Native.Nat.{_<_, _≤_};
+ghost use Prim.Native.Nat.{_+_, _<_, _≤_};
 ghost use Rattle.definitions.specs.Grid.{volume, placeOf, InBox};
 ghost use Rattle.definitions.specs.Maps.{mapOf, mapSides};
 ghost use Rattle.shape.specs.Coords.{asSides, asCell, Fit};
@@ -28,6 +28,20 @@ pub fn cell_at(s: Coord, i: usize) -> Coord
     ensures { λ r. ⌜ (asCell r ≡ cellAt (asSides s) i) × InBox (asSides s) (asCell r) ⌝ }
 {
     Coord(i / (s.1 * s.2), i / s.2 % s.1, i % s.2)
+}
+
+// The cell behind a cell of a box: z is counted first, then y, then x.
+pub fn next_cell(s: Coord, u: Coord) -> Coord
+    requires { ⌜ Fit (asSides s) × InBox (asSides s) (asCell u) ⌝ }
+    ensures { λ r. ⌜ asCell r ≡ cellAt (asSides s) (placeOf (asSides s) (asCell u) + 1) ⌝ }
+{
+    if u.2 + 1 < s.2 {
+        return Coord(u.0, u.1, u.2 + 1);
+    }
+    if u.1 + 1 < s.1 {
+        return Coord(u.0, u.1 + 1, 0);
+    }
+    Coord(u.0 + 1, 0, 0)
 }
 
 // The place in the mapped box of the cell at place i of a box with the sides s.

@@ -1,16 +1,18 @@
-// Grids and turned grids, read where they are lent: no grid is copied.
+// Grids and turned grids.
 ghost use mathlib.Core.Path.{_≡_};
-ghost use Prim.Native.Nat.{_<_, _≤_};
-ghost use lib.ListN.{length, getD};
+ghost use Prim.Native.Nat.{_+_, _<_, _≤_};
+ghost use lib.ListN.{length, take, drop, getD};
+ghost use lib.Seq.{paste};
 ghost use lib.Dec.{eqb, leb};
 ghost use Rattle.lists.specs.Lists.{all, howMany};
 ghost use Rattle.definitions.specs.Grid.{volume, byteAt, sameGrid, InBox};
 ghost use Rattle.definitions.specs.Maps.{mapOf, mapSides, mapGrid};
 ghost use Rattle.shape.specs.Coords.{asSides, asCell};
-ghost use Rattle.shape.specs.Grids.{asGrid, Decided, Whole, numberOrder, sidesOrder, gridOrder};
+ghost use Rattle.shape.specs.Grids.{asGrid, Decided, Whole, listOrder, numberOrder, sidesOrder, gridOrder};
 use super::Coord;
 use super::Ordering;
 use super::cells;
+use super::lines;
 use super::maps::Map;
 
 // Whether no side is above 8 and there is a byte for each cell: what the functions below ask of a grid.
@@ -57,6 +59,28 @@ pub fn turned_get(cells: &[u8], s: Coord, m: Map, u: Coord) -> u8
     turned_byte(cells, s, m, j)
 }
 
+// The turned (or mirrored) grid, cell by cell, into a slice from a place on.
+pub fn turn_into(cells: &[u8], s: Coord, m: Map, out: &mut [u8], at: usize)
+    requires { ⌜ Whole s (now cells) × (at + volume (asSides s) ≤ length (now out)) ⌝ }
+    ensures { λ _. do
+      let g = mapGrid (mapOf (m .0)) (asGrid s (now (cells .entry)))
+      ⌜ now (out .exit) ≡ paste (now (out .entry)) at (g .cells) (volume (asSides s)) ⌝ }
+{
+    let e = m.axes_of();
+    let x = lines::line_along(e.x, e.flip_x, s);
+    let y = lines::line_along(e.y, e.flip_y, s);
+    let z = lines::line_along(e.z, e.flip_z, s);
+    let n = x.n;
+    let layer = y.n * z.n;
+    let mut i = 0;
+    // the cells of the first i layers are written
+    while i < n {
+        let start = lines::step_to(x, i);
+        lines::turn_layer(cells, start, y, z, out, at + i * layer);
+        i += 1;
+    }
+}
+
 fn compare_numbers(a: usize, b: usize) -> Ordering
     ensures { λ r. ⌜ r ≡ numberOrder a b ⌝ }
 {
@@ -82,6 +106,27 @@ pub fn compare_sides(s: Coord, t: Coord) -> Ordering
     compare_numbers(s.2, t.2)
 }
 
+// Two lists of n bytes, parts of slices from a place on: the first difference decides.
+pub(crate) fn compare_parts(xs: &[u8], a: usize, ys: &[u8], b: usize, n: usize) -> Ordering
+    requires { ⌜ (a + n ≤ length (now xs)) × (b + n ≤ length (now ys)) ⌝ }
+    ensures { λ r. ⌜ r ≡ listOrder (take n (drop a (now (xs .entry)))) (take n (drop b (now (ys .entry)))) ⌝ }
+{
+    let mut j = 0;
+    // before j there is no difference
+    while j < n {
+        let x = xs[a + j];
+        let y = ys[b + j];
+        if x < y {
+            return Ordering::Less;
+        }
+        if y < x {
+            return Ordering::Greater;
+        }
+        j += 1;
+    }
+    Ordering::Equal
+}
+
 // Two turned grids: "Grids are ordered by sides (x, y, z), then cells, 0 before 1."
 pub fn compare_turned(cells: &[u8], s: Coord, m: Map, others: &[u8], t: Coord, n: Map) -> Ordering
     requires { ⌜ Whole s (now cells) × Whole t (now others) ⌝ }
@@ -100,19 +145,11 @@ fn compare_bytes(cells: &[u8], s: Coord, m: Map, others: &[u8], t: Coord, n: Map
     requires { ⌜ Whole s (now cells) × Whole t (now others) × (mapSides (mapOf (m .0)) (asSides s) ≡ mapSides (mapOf (n .0)) (asSides t)) ⌝ }
     ensures { λ r. ⌜ r ≡ gridOrder (mapGrid (mapOf (m .0)) (asGrid s (now (cells .entry)))) (mapGrid (mapOf (n .0)) (asGrid t (now (others .entry)))) ⌝ }
 {
-    let mut j = 0;
-    while j < cells.len() {
-        let a = turned_byte(cells, s, m, j);
-        let b = turned_byte(others, t, n, j);
-        if a < b {
-            return Ordering::Less;
-        }
-        if b < a {
-            return Ordering::Greater;
-        }
-        j += 1;
-    }
-    Ordering::Equal
+    let mut one = [0u8; 512];
+    let mut two = [0u8; 512];
+    turn_into(cells, s, m, &mut one, 0);
+    turn_into(others, t, n, &mut two, 0);
+    compare_parts(&one, 0, &two, 0, cells.len())
 }
 
 // Whether a map brings a grid onto itself (`compute_symmetry`).

@@ -2,11 +2,12 @@
 // kinds (utils.rs and shape.rs of the original). A grid is lent as its cells, a slice with one byte a cell, and its three sides.
 
 pub mod cells;
+mod constants;
 pub mod grids;
+mod lines;
 pub mod maps;
 pub mod scan;
 pub mod stripping;
-mod tables;
 pub mod variants;
 
 // Three sides of a box, or the three coordinates of a cell.

@@ -4,10 +4,10 @@ ghost use Prim.Native.Nat.{_<_};
 ghost use Rattle.definitions.specs.Maps.{mapOf, inverse, product, mapSides, mapCell, side, coordinate, fromEnd};
 ghost use Rattle.shape.specs.Coords.{asSides, asCell, asMap};
 use super::Coord;
-use super::tables::Axes;
-use super::tables::INVERSES;
-use super::tables::MAPS;
-use super::tables::PRODUCTS;
+use super::constants::Axes;
+use super::constants::INVERSES;
+use super::constants::MAPS;
+use super::constants::PRODUCTS;
 
 // A map, by its number: below 24 a turn, from 24 to 47 a mirroring. A larger number stands for the map that moves nothing.
 pub struct Map(pub u8);
@@ -30,7 +30,7 @@ impl Map {
         Map(PRODUCTS[m * 48 + n])
     }
 
-    // The number as an index into the tables.
+    // The number as an index into the constants.
     fn index(self) -> usize
         ensures { λ r. ⌜ (r < 48) × (mapOf r ≡ mapOf (self .0)) ⌝ }
     {
@@ -38,7 +38,8 @@ impl Map {
         if n < 48 { n as usize } else { 0 }
     }
 
-    fn axes_of(self) -> Axes
+    // The axes and flips of the map.
+    pub(crate) fn axes_of(self) -> Axes
         ensures { λ r. ⌜ asMap r ≡ mapOf (self .0) ⌝ }
     {
         let n = self.index();

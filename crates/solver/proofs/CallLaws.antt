@@ -22,7 +22,7 @@ use Rattle.definitions.specs.declared.SolverKind.the-variants.{Auto, Naive, Fas
 use Rattle.definitions.specs.declared.Start.{Start}
 use Rattle.definitions.proofs.RefusalLaws.{board-sides, passed}
 use Rattle.definitions.proofs.StartLaws.{cleared-again, from-refused, page-is, page-outcome}
-use Rattle.placements.specs.Tables.{trayIn}
+use Rattle.placements.specs.Pieces.{trayIn}
 use Rattle.placements.proofs.CountingLaws.{refused-some}
 use Rattle.placements.proofs.StageLaws.{refusal-stages}
 use Rattle.rows.specs.declared.Dims.{Dims}
@@ -30,7 +30,7 @@ use Rattle.rows.specs.Systems.{System, systemIn, systemOf}
 use Rattle.kept.specs.Emission.{emittedOf}
 use Rattle.kept.specs.declared.emission.Emission.{Emission}
 use Rattle.fast.proofs.FastListLaws.{fast-answers}
-use Rattle.knuth.specs.Tables.{linkNodes}
+use Rattle.knuth.specs.Matrix.{linkNodes}
 use Rattle.knuth.proofs.KnuthPageLaws.{knuth-answers, links-many}
 use Rattle.solver.specs.Lent.{LinksAfter, answersBy, callWith}
 use Rattle.solver.specs.Preparing.{Stands, refusalBy}

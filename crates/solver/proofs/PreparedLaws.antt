@@ -24,15 +24,15 @@ use Rattle.definitions.specs.Stripping.{frameOf}
 use Rattle.definitions.specs.declared.Config.{Config}
 use Rattle.definitions.specs.declared.Record.{Record}
 use Rattle.definitions.proofs.RefusalLaws.{passed, fit-volume}
-use Rattle.placements.specs.declared.Table.{Table}
-use Rattle.placements.specs.Tables.{framedIn, recordsOf, trayIn}
+use Rattle.placements.specs.declared.Pieces.{Pieces}
+use Rattle.placements.specs.Pieces.{framedIn, recordsOf, trayIn}
 use Rattle.placements.specs.Stripping.{StripsTray}
 use Rattle.placements.specs.declared.stripping.StrippedRecords.{StrippedRecords}
 use Rattle.placements.specs.Counting.{Accepted9}
 use Rattle.placements.proofs.CountingLaws.{lent-passes, board-fits}
 use Rattle.rows.specs.declared.Dims.{Dims}
 use Rattle.rows.specs.Built.{BuiltSystem, frameAt}
-use Rattle.rows.specs.Chains.{Chained}
+use Rattle.rows.specs.Ranges.{Ranged}
 use Rattle.shape.specs.Coords.{asSides}
 use Rattle.shape.specs.declared.Coord.{Coord}
 use Rattle.solver.specs.Preparing.{Stands, refusalBy}
@@ -55,7 +55,7 @@ maps-few g ms start e =
     let c = length-from start 24 in
     omega arith
 
-module _ (t : Table) (board : Record) (bytes : List ℕ) (ok : Accepted9 t board bytes) where
+module _ (t : Pieces) (board : Record) (bytes : List ℕ) (ok : Accepted9 t board bytes) where
   sides : T (sidesFit board)
   sides = board-fits t board bytes (lent-passes t board bytes ok) .0
 
@@ -71,7 +71,7 @@ module _ (t : Table) (board : Record) (bytes : List ℕ) (ok : Accepted9 t board
   pub box-few : volume (sidesOf board) ≤ 512
   box-few = fit-volume board sides
 
-module _ (t : Table) (board : Record) (bytes : List ℕ) (ok : Accepted9 t board bytes) (few : placementCount (compile (trayIn (recordsOf t) board bytes)) ≤ 1024) (work₀ : List ℕ) (long : 8192 ≤ length work₀) where
+module _ (t : Pieces) (board : Record) (bytes : List ℕ) (ok : Accepted9 t board bytes) (few : placementCount (compile (trayIn (recordsOf t) board bytes)) ≤ 1024) (work₀ : List ℕ) (long : 8192 ≤ length work₀) where
   abbrev tray : Tray
   tray = trayIn (recordsOf t) board bytes
 
@@ -111,7 +111,7 @@ module _ (t : Table) (board : Record) (bytes : List ℕ) (ok : Accepted9 t board
     turns-few : d .turns ≤ 24
     unfolding systemIn systemOver systemOf imagesIn imagesOf
     turns-few =
-        let a = length-map (from 0 (d .turns)) (λ m. imagesOf chart (d .cells) m) in
+        let a = length-map (from 0 (d .turns)) (λ m. imagesOf chart (d .size) m) in
         let b = length-from 0 (d .turns) in
         let e = ap (λ (s : System). length (s .turned)) is in
         let f = length-map (symmetries (C .board) turns) (cellImages C) in
@@ -121,7 +121,7 @@ module _ (t : Table) (board : Record) (bytes : List ℕ) (ok : Accepted9 t board
     mirrorings-few : d .mirrorings ≤ 24
     unfolding systemIn systemOver systemOf imagesIn imagesOf
     mirrorings-few =
-        let a = length-map (from (d .turns) (d .mirrorings)) (λ m. imagesOf chart (d .cells) m) in
+        let a = length-map (from (d .turns) (d .mirrorings)) (λ m. imagesOf chart (d .size) m) in
         let b = length-from (d .turns) (d .mirrorings) in
         let e = ap (λ (s : System). length (s .mirrored)) is in
         let f = length-map (symmetries (C .board) mirrorings) (cellImages C) in
@@ -137,7 +137,7 @@ module _ (t : Table) (board : Record) (bytes : List ℕ) (ok : Accepted9 t board
         let f = pieces-few in
         omega arith
 
-    pub ready : Chained work chart (d .rows) → Charted chart → 8192 ≤ length work → d .places ≡ volume (sidesOf board) → Ready d work chart
+    pub ready : Ranged work chart (d .rows) → Charted chart → 8192 ≤ length work → d .places ≡ volume (sidesOf board) → Ready d work chart
     ready ch c w v =
         let r = few-rows d work chart law in
         let a = turns-few in
@@ -146,7 +146,7 @@ module _ (t : Table) (board : Record) (bytes : List ℕ) (ok : Accepted9 t board
         let x = box-few t board bytes ok in
         record {
           lawful = law;
-          chained = ch;
+          ranged = ch;
           charted = c;
           rowsFit = omega arith;
           fewMaps = omega arith;
@@ -155,23 +155,23 @@ module _ (t : Table) (board : Record) (bytes : List ℕ) (ok : Accepted9 t board
         }
 
 -- ---- a tray whose grids are stripped, in the box that was lent
-pub framed-tray : (t : Table) (board : Record) (bytes : List ℕ) {r : StrippedRecords} {cells : List ℕ} → StripsTray t board bytes r cells → (lent : Coord) → asSides lent ≡ sidesOf board
-    → framedIn (recordsOf (r .table)) (r .board) cells (frameAt lent (r .at)) ≡ trayIn (recordsOf t) board bytes
+pub framed-tray : (t : Pieces) (board : Record) (bytes : List ℕ) {r : StrippedRecords} {cells : List ℕ} → StripsTray t board bytes r cells → (lent : Coord) → asSides lent ≡ sidesOf board
+    → framedIn (recordsOf (r .pieces)) (r .board) cells (frameAt lent (r .at)) ≡ trayIn (recordsOf t) board bytes
 unfolding unframed stripTray frameOf gridOf
 framed-tray t board bytes s lent e = λ i. record { board = s .tray i .board; pieces = s .tray i .pieces; frame = record { lent = e i; at = s .at i } }
 
 -- what was built of it is the row system of the tray, ready for the engines
-pub system-stands : (t : Table) (board : Record) (bytes : List ℕ) {r : StrippedRecords} {cells : List ℕ} (s : StripsTray t board bytes r cells) (config : Config) (links : ℕ) (lent : Coord)
+pub system-stands : (t : Pieces) (board : Record) (bytes : List ℕ) {r : StrippedRecords} {cells : List ℕ} (s : StripsTray t board bytes r cells) (config : Config) (links : ℕ) (lent : Coord)
     → asSides lent ≡ sidesOf board → (work after chart : List ℕ) (d : Dims) → Accepted9 t board bytes → length after ≡ length work → 8192 ≤ length work
     → refusalBy (recordsOf t) board bytes config (length work) links ≡ 0 → placementCount (compile (trayIn (recordsOf t) board bytes)) ≤ 1024
-    → BuiltSystem (framedIn (recordsOf (r .table)) (r .board) cells (frameAt lent (r .at))) d work after chart
+    → BuiltSystem (framedIn (recordsOf (r .pieces)) (r .board) cells (frameAt lent (r .at))) d work after chart
     → Stands d (recordsOf t) board bytes config links work after chart
 system-stands t board bytes s config links lent e work after chart d ok same long accepted few b =
     let is = b .system ∙ ap systemOf (framed-tray t board bytes s lent e) in
     let v : d .places ≡ volume (sidesOf board) = b .places ∙ ap volume e in
     record {
       accepted = accepted;
-      ready = ready t board bytes ok few work long d after chart is (b .chained) (b .charted) (omega arith) v;
+      ready = ready t board bytes ok few work long d after chart is (b .ranged) (b .charted) (omega arith) v;
       system = is;
       places = v;
       behind = b .behind;

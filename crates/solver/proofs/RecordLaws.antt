@@ -1,4 +1,4 @@
--- The table made of a list of records stands for the list as far as a call's outcome reads it: of at most 16 records it has all, and a call with more is
+-- The pieces made of a list of records stand for the list as far as a call's outcome reads it: of at most 16 records they have all, and a call with more is
 -- refused with 2, whatever the records are. Assumes nothing.
 use Prim.Native.Nat.{ℕ, zero, suc, _+_, _≤_, _<_}
 use mathlib.Core.Bool.{Bool, true, false}
@@ -18,18 +18,18 @@ use Rattle.definitions.specs.declared.Config.{Config}
 use Rattle.definitions.specs.Starts.{outcomeFrom}
 use Rattle.definitions.specs.declared.Start.{Start}
 use Rattle.definitions.proofs.StartLaws.{from-refused}
-use Rattle.placements.specs.declared.Table.{Table}
-use Rattle.placements.specs.Tables.{noRecord, recordsOf, emptyTable, putRow, tableOf}
+use Rattle.placements.specs.declared.Pieces.{Pieces}
+use Rattle.placements.specs.Pieces.{noRecord, recordsOf, emptyPieces, putRecord, piecesOf}
 use Rattle.placements.proofs.RefusalLaws.{records-few, records-count}
 use Rattle.solver.specs.Lent.{callWith}
 
--- the table with the first k records put, one after the other
-unfoldable pub filled : List Record → ℕ → Table
-filled ps zero = emptyTable (length ps)
-filled ps (suc k) = putRow (filled ps k) k (getD ps k noRecord)
+-- the pieces with the first k records put, one after the other
+unfoldable pub filled : List Record → ℕ → Pieces
+filled ps zero = emptyPieces (length ps)
+filled ps (suc k) = putRecord (filled ps k) k (getD ps k noRecord)
 
-pub filled-is : (ps : List Record) → filled ps 16 ≡ tableOf ps
-unfolding filled tableOf
+pub filled-is : (ps : List Record) → filled ps 16 ≡ piecesOf ps
+unfolding filled piecesOf
 filled-is ps = refl
 
 module _ (ps : List Record) where
@@ -39,29 +39,29 @@ module _ (ps : List Record) where
   rows-many : length rows ≡ 16
   rows-many = length-map (below 16) (λ i. getD ps i noRecord) ∙ length-below 16
 
-  -- of at most 16 records, the table stands for all
-  records-are : length ps ≤ 16 → recordsOf (tableOf ps) ≡ ps
-  unfolding tableOf
+  -- of at most 16 records, the pieces stand for all
+  records-are : length ps ≤ 16 → recordsOf (piecesOf ps) ≡ ps
+  unfolding piecesOf
   records-are h =
       let m = rows-many in
       let len : length (take (length ps) rows) ≡ length ps = length-take-le (length ps) rows (omega arith) in
-      records-few (tableOf ps) h
+      records-few (piecesOf ps) h
       ∙ ext-getD noRecord (take (length ps) rows) ps len
       (λ i l. let k : i < length ps = omega arith in
       getD-take (length ps) rows i noRecord k ∙ getD-of (λ j. getD ps j noRecord) noRecord 0 16 i (omega arith) ∙ ap (λ (j : ℕ). getD ps j noRecord) (let z : 0 + i ≡ i = omega arith in z))
 
   -- and of more, a list that is as long
-  records-more : length (recordsOf (tableOf ps)) ≡ length ps
-  unfolding tableOf
-  records-more = records-count (tableOf ps) rows-many
+  records-more : length (recordsOf (piecesOf ps)) ≡ length ps
+  unfolding piecesOf
+  records-more = records-count (piecesOf ps) rows-many
 
--- a definition that says the same of all lists of more than 16 records says the same of the table's list
-same-of : {A : Type 0} (d : List Record → A) → ((ps qs : List Record) → 16 < length ps → 16 < length qs → d ps ≡ d qs) → (ps : List Record) → d (recordsOf (tableOf ps)) ≡ d ps
+-- a definition that says the same of all lists of more than 16 records says the same of the pieces' list
+same-of : {A : Type 0} (d : List Record → A) → ((ps qs : List Record) → 16 < length ps → 16 < length qs → d ps ≡ d qs) → (ps : List Record) → d (recordsOf (piecesOf ps)) ≡ d ps
 same-of d big ps = go (leb (length ps) 16) refl
   where
-    go : (b : Bool) → leb (length ps) 16 ≡ b → d (recordsOf (tableOf ps)) ≡ d ps
+    go : (b : Bool) → leb (length ps) 16 ≡ b → d (recordsOf (piecesOf ps)) ≡ d ps
     go true e = ap d (records-are ps (leb-true (length ps) 16 e))
-    go false e = let h = leb-false (length ps) 16 e in let m = records-more ps in big (recordsOf (tableOf ps)) ps (omega arith) h
+    go false e = let h = leb-false (length ps) 16 e in let m = records-more ps in big (recordsOf (piecesOf ps)) ps (omega arith) h
 
 not-empty : (ps : List Record) → 16 < length ps → isEmpty ps ≡ false
 not-empty [] h = absurd (omega arith)
@@ -83,6 +83,6 @@ module _ (board : Record) (bytes : List ℕ) (config : Config) (answers work lin
   none-read l m = refl
 
   pub outcome-same : (start : Start) (last : List ℕ) (ps : List Record)
-      → outcomeFrom start last (callWith (recordsOf (tableOf ps)) board bytes config answers work links) ≡ outcomeFrom start last (callWith ps board bytes config answers work links)
+      → outcomeFrom start last (callWith (recordsOf (piecesOf ps)) board bytes config answers work links) ≡ outcomeFrom start last (callWith ps board bytes config answers work links)
   outcome-same start last ps =
       same-of (λ l. outcomeFrom start last (call l)) (λ l m hl hm. many-refused start last l hl ∙ none-read l m ∙ sym (many-refused start last m hm)) ps

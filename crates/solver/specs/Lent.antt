@@ -13,7 +13,7 @@ use Rattle.definitions.specs.declared.SolverKind.the-variants.{Auto, Naive, Fas
 use Rattle.rows.specs.Systems.{System}
 use Rattle.fast.specs.Listing.{fastAnswers}
 use Rattle.knuth.specs.Listing.{knuthAnswers}
-use Rattle.knuth.specs.Tables.{linkNodes}
+use Rattle.knuth.specs.Matrix.{linkNodes}
 
 -- where its page starts is said beside it (`outcomeFrom`)
 unfoldable pub callWith : List Record → Record → List ℕ → Config → List ℕ → List ℕ → List ℕ → Call

@@ -11,7 +11,7 @@ use Rattle.definitions.specs.declared.Record.{Record}
 use Rattle.definitions.specs.declared.Config.{Config}
 use Rattle.definitions.specs.declared.Refusal.{Refusal}
 use Rattle.placements.specs.Stages.{lentRows, configRows, sliceRows, countRows}
-use Rattle.placements.specs.Tables.{trayIn}
+use Rattle.placements.specs.Pieces.{trayIn}
 use Rattle.rows.specs.declared.Dims.{Dims}
 use Rattle.rows.specs.Systems.{systemIn, systemOf}
 use Rattle.kept.specs.Ready.{Ready}
@@ -26,19 +26,20 @@ unfoldable pub refusalBy : List Record → Record → List ℕ → Config → �
 refusalBy rs board bytes config work links =
     firstThatApplies (lentRows rs board bytes ++ configRows config ++ sliceRows config work links ++ countRows (compile (trayIn rs board bytes)) config)
 
--- why a call is refused, with its work slice untouched
-pub record RefusedBy (why : Refusal) (rs : List Record) (board : Record) (bytes : List ℕ) (config : Config) (links : ℕ) (work after : List ℕ) : Type 0 where
+-- why a call is refused, with work slice and chart untouched
+pub record RefusedBy (why : Refusal) (rs : List Record) (board : Record) (bytes : List ℕ) (config : Config) (links : ℕ) (work chart after charted : List ℕ) : Type 0 where
   pub first : numberOf why ≡ refusalBy rs board bytes config (length work) links
   pub untouched : after ≡ work
+  pub uncharted : charted ≡ chart
 
 -- or the row system of its tray, ready for the engines
-pub record Stands (d : Dims) (rs : List Record) (board : Record) (bytes : List ℕ) (config : Config) (links : ℕ) (work after chart : List ℕ) : Type 0 where
+pub record Stands (d : Dims) (rs : List Record) (board : Record) (bytes : List ℕ) (config : Config) (links : ℕ) (work after charted : List ℕ) : Type 0 where
   pub accepted : refusalBy rs board bytes config (length work) links ≡ 0
-  pub ready : Ready d after chart
-  pub system : systemIn d after chart ≡ systemOf (trayIn rs board bytes)
+  pub ready : Ready d after charted
+  pub system : systemIn d after charted ≡ systemOf (trayIn rs board bytes)
   pub places : d .places ≡ volume (sidesOf board)
   pub behind : drop 8192 after ≡ drop 8192 work
 
-unfoldable pub Prepares : Prepared → List Record → Record → List ℕ → Config → ℕ → List ℕ → List ℕ → List ℕ → Type 0
-Prepares (Refused why) rs board bytes config links work after chart = RefusedBy why rs board bytes config links work after
-Prepares (System d) rs board bytes config links work after chart = Stands d rs board bytes config links work after chart
+unfoldable pub Prepares : Prepared → List Record → Record → List ℕ → Config → ℕ → List ℕ → List ℕ → List ℕ → List ℕ → Type 0
+Prepares (Refused why) rs board bytes config links work chart after charted = RefusedBy why rs board bytes config links work chart after charted
+Prepares (System d) rs board bytes config links work chart after charted = Stands d rs board bytes config links work after charted

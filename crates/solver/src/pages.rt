@@ -7,7 +7,7 @@ ghost use Rattle.definitions.specs.Emission.{begin, emits};
 ghost use Rattle.definitions.specs.Outcomes.{outcomeOf};
 ghost use Rattle.definitions.specs.Refusals.{identifyOf};
 ghost use Rattle.definitions.specs.Starts.{Meets, outcomeFrom, replyOf, skipAt, waitsAt};
-ghost use Rattle.placements.specs.Tables.{recordsOf};
+ghost use Rattle.placements.specs.Pieces.{recordsOf};
 ghost use Rattle.rows.specs.Systems.{systemIn};
 ghost use Rattle.kept.specs.Emission.{emittedOf};
 ghost use Rattle.kept.specs.Ready.{Ready};
@@ -24,7 +24,7 @@ use fast::listing as fast_listing;
 use kept::emission::Emission;
 use kept::emission::Wanted;
 use knuth::listing as knuth_listing;
-use placements::Table;
+use placements::Pieces;
 use rows::Dims;
 use rows::chart;
 
@@ -94,10 +94,10 @@ fn list(
     }
 }
 
-// A call, whatever is lent: the page of the engine's list from its start on, or the first refusal that applies. `last` is read only where the page starts
-// behind it.
+// A call, whatever is lent: the page of the engine's list from its start on, or the first refusal that applies. Where the page does not start behind `last`,
+// what it holds decides nothing.
 pub fn page(
-    t: Table,
+    t: Pieces,
     board: Record,
     bytes: &[u8],
     config: Config,

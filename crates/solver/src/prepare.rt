@@ -4,12 +4,12 @@ ghost use lib.ListN.{length};
 ghost use Rattle.rows.specs.Charts.{chartLength};
 ghost use Rattle.solver.specs.Preparing.{Prepares, RefusedBy, firstRows};
 ghost use Rattle.placements.specs.Stages.{verdictNumber};
-ghost use Rattle.placements.specs.Tables.{recordsOf};
+ghost use Rattle.placements.specs.Pieces.{recordsOf};
 ghost use Rattle.definitions.specs.Refusals.{firstThatApplies};
 use definitions::Config;
 use definitions::Record;
 use definitions::Refusal;
-use placements::Table;
+use placements::Pieces;
 use placements::Verdict;
 use placements::counting;
 use placements::records;
@@ -26,7 +26,7 @@ pub enum Prepared {
 
 // Rows 2 to 13 of the table: what can be told without counting.
 fn refusal_before_counting(
-    t: Table,
+    t: Pieces,
     board: Record,
     bytes: &[u8],
     config: Config,
@@ -48,7 +48,7 @@ fn refusal_before_counting(
 
 // The first refusal that applies, with nothing written; or the row system. Links of so many numbers are lent to the call.
 pub fn prepare(
-    t: Table,
+    t: Pieces,
     board: Record,
     bytes: &[u8],
     config: Config,
@@ -57,7 +57,9 @@ pub fn prepare(
     chart: &mut [u16],
 ) -> Prepared
     requires { ⌜ length (now chart) ≡ chartLength ⌝ }
-    ensures { λ r. ⌜ Prepares r (recordsOf t) board (now (bytes .entry)) config links (now (work .entry)) (now (work .exit)) (now (chart .exit)) ⌝ }
+    ensures { λ r. do
+      let old = now (chart .entry)
+      ⌜ Prepares r (recordsOf t) board (now (bytes .entry)) config links (now (work .entry)) old (now (work .exit)) (now (chart .exit)) ⌝ }
 {
     let before = refusal_before_counting(t, board, bytes, config, work.len(), links);
     match before {
@@ -65,18 +67,20 @@ pub fn prepare(
         Verdict::Accepted => {
             let mut stripped = [0u8; stripping::ROOM];
             let s = stripping::strip_tray(t, board, bytes, &mut stripped);
-            let pieces = s.table;
+            let pieces = s.pieces;
             let part = s.board;
             let mut places = [0u16; 512];
+            let mut small = [0u8; 16];
             let mut first = [0u8; 16];
-            let mut numbers = [0u8; 400];
+            let mut turnings = [0u8; 400];
             let counts = counting::count_tray(
                 pieces,
                 part,
                 &stripped,
                 &mut places,
+                &mut small,
                 &mut first,
-                &mut numbers,
+                &mut turnings,
             );
             let counted = counting::refusal_of_counts(counts, config);
             match counted {
@@ -89,8 +93,9 @@ pub fn prepare(
                         &stripped,
                         counts,
                         &mut places,
+                        &small,
                         &first,
-                        &numbers,
+                        &turnings,
                         lent,
                         s.at,
                         work,

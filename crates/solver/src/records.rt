@@ -3,14 +3,14 @@ ghost use mathlib.Core.Path.{_≡_};
 ghost use lib.ListN.{getD, length};
 ghost use Rattle.definitions.specs.Outcomes.{outcomeOf};
 ghost use Rattle.definitions.specs.Starts.{Meets, outcomeFrom};
-ghost use Rattle.placements.specs.Tables.{noRecord, tableOf};
+ghost use Rattle.placements.specs.Pieces.{noRecord, piecesOf};
 ghost use Rattle.solver.specs.Lent.{callWith};
 use super::pages;
 use definitions::Config;
 use definitions::Listing;
 use definitions::Record;
 use definitions::Start;
-use placements::Table;
+use placements::Pieces;
 use placements::records;
 
 fn count_of(pieces: &[Record]) -> usize
@@ -38,14 +38,14 @@ fn record_or(pieces: &[Record], i: usize) -> Record
 }
 
 // The first 16 records by value, and how many records were lent.
-fn taken(pieces: &[Record]) -> Table
-    ensures { λ r. ⌜ r ≡ tableOf (now (pieces .entry)) ⌝ }
+fn taken(pieces: &[Record]) -> Pieces
+    ensures { λ r. ⌜ r ≡ piecesOf (now (pieces .entry)) ⌝ }
 {
-    let mut t = records::empty_table(count_of(pieces));
+    let mut t = records::empty_pieces(count_of(pieces));
     let mut i: usize = 0;
     while i < 16 {
         let p = record_or(pieces, i);
-        t = records::put_row(t, i, p);
+        t = records::put_record(t, i, p);
         i += 1;
     }
     t

@@ -36,12 +36,12 @@ first c = let a = entry (is-turned c) .args in copies-first (now (a .chart)) (a 
 returns : tie.Need-returns
 returns c =
     let z = c .before .before in
-    first-unless (z .args .turned) (copies z) (cells z) (z .args .d .cells) (not-true (z .args .turned) (c .if1 .taken))
+    first-unless (z .args .turned) (copies z) (cells z) (z .args .d .size) (not-true (z .args .turned) (c .if1 .taken))
 
 returns-2 : tie.Need-returns-2
 returns-2 c =
     let z = entry (c .before .before) in
-    first-not (z .args .turned) (copies z) (cells z) (z .args .d .cells) (copies-none (now (z .args .chart)) (z .args .d .kinds) (c .if2 .taken))
+    first-not (z .args .turned) (copies z) (cells z) (z .args .d .size) (copies-none (now (z .args .chart)) (z .args .d .kinds) (c .if2 .taken))
 
 copies-of-requires : tie.Need-copies-of-requires
 copies-of-requires c κs = (omega arith, entry (is-turned c) .pre .1 .long)
@@ -50,7 +50,7 @@ returns-3 : tie.Need-returns-3
 returns-3 c =
     let k = c .before .before in
     let z = entry (is-turned k) in
-    first-not (z .args .turned) (copies z) (cells z) (z .args .d .cells) (λ e. c .if3 .taken (c .before .copies-of .ensures ∙ sym (first k) ∙ e))
+    first-not (z .args .turned) (copies z) (cells z) (z .args .d .size) (λ e. c .if3 .taken (c .before .copies-of .ensures ∙ sym (first k) ∙ e))
 
 cells-of-all-requires : tie.Need-cells-of-all-requires
 cells-of-all-requires c κs = entry (is-turned (some-kinds c)) .pre
@@ -61,7 +61,7 @@ returns-4 c =
     let k = some-kinds one in
     let z = entry (is-turned k) in
     let all = c .before .cells-of-all in
-    first-cells (z .args .turned) (copies z) (cells z) (z .args .d .cells) (not-false (z .args .turned) (is-turned k .if1 .left))
+    first-cells (z .args .turned) (copies z) (cells z) (z .args .d .size) (not-false (z .args .turned) (is-turned k .if1 .left))
     (first k ∙ sym (one .before .copies-of .ensures) ∙ one .if3 .left) (all .result) (all .ensures)
 
 pub is-kind-0-first-spec : {M : Type 1} → statement M

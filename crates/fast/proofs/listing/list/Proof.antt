@@ -70,7 +70,7 @@ module _ (c : tie.After-is-kind-0-first) where
       let g = z at .args in
       let copies = copiesIn (now (g .chart)) (g .d .kinds) in
       left-some (g .d) (now (g .work)) (now (g .chart)) (left at) _ (full at)
-      (first-one (g .wanted .turned) copies (cellsIn (now (g .chart)) (g .d .kinds)) (g .d .cells) (sym (c .is-kind-0-first .ensures) ∙ e))
+      (first-one (g .wanted .turned) copies (cellsIn (now (g .chart)) (g .d .kinds)) (g .d .size) (sym (c .is-kind-0-first .ensures) ∙ e))
 
 slice-aggregate-all-left : tie.Need-slice-aggregate-all-left
 slice-aggregate-all-left c = search needs

@@ -39,13 +39,13 @@ lineAt c = stretch (record { from = c .before .before .loop .from; to = c .find 
 here : (c : tie.After-find Inv-loop μ-loop) → PieceLine (bytesAt c) (fromAt c) (c .find .result)
 here c = piece-line (bytesAt c) (fromAt c) (c .find .result) (c .before .before .loop .inv .lines) (c .before .loop-test .taken) (c .find .ensures)
 
-empty-table-requires : tie.Need-empty-table-requires Inv-loop μ-loop
-empty-table-requires c κs = search needs
+empty-pieces-requires : tie.Need-empty-pieces-requires Inv-loop μ-loop
+empty-pieces-requires c κs = search needs
 
 loop-holds : tie.Need-loop-holds Inv-loop μ-loop
 loop-holds c =
     let start = c .before .before .before in
-    none-read (start .args .text .now) (start .args .start) (start .args .cells .now) (start .pre .0) (start .pre .3) (c .empty-table .ensures)
+    none-read (start .args .text .now) (start .args .start) (start .args .cells .now) (start .pre .0) (start .pre .3) (c .empty-pieces .ensures)
 
 find-requires : tie.Need-find-requires Inv-loop μ-loop
 find-requires c κs = record { order = omega arith; inside = omega arith }
@@ -70,8 +70,8 @@ record-in-requires c κs =
     let h = here found in
     (h .within, omega (arith, fields-many (lineAt found) (piece-fields (lineAt found) (h .piece))), piece-grid (lineAt found) (h .piece))
 
-push-row-requires : tie.Need-push-row-requires Inv-loop μ-loop
-push-row-requires c κs = let found = c .before .before .before .before in let r = rows-bound (found .before .before .loop .inv) in omega arith
+push-record-requires : tie.Need-push-record-requires Inv-loop μ-loop
+push-record-requires c κs = let found = c .before .before .before .before in let r = rows-bound (found .before .before .loop .inv) in omega arith
 
 field-of-requires-2 : tie.Need-field-of-requires-2 Inv-loop μ-loop
 field-of-requires-2 c κs =
@@ -106,7 +106,7 @@ loop-again c =
     let at-wood = at-record .before in
     let at-number = at-wood .before in
     let count = at-number .number-in .ensures .0 ∙ ap numberIn (at-number .before .field-of .ensures .1) in
-    one-more (found .before .before .loop .inv) (omega (arith, startOf found .pre .1, startOf found .pre .2)) (found .find .result) (here found) (at-field .field-of2 .ensures) count (at-wood .wood-in .ensures) (at-record .record-in .ensures) (at-push .push-row .ensures) (at-put .put-cells .ensures)
+    one-more (found .before .before .loop .inv) (omega (arith, startOf found .pre .1, startOf found .pre .2)) (found .find .result) (here found) (at-field .field-of2 .ensures) count (at-wood .wood-in .ensures) (at-record .record-in .ensures) (at-push .push-record .ensures) (at-put .put-cells .ensures)
 
 same-length : tie.Need-same-length Inv-loop μ-loop
 same-length c = cells-kept (c .before .loop .inv) (omega arith)
@@ -120,7 +120,7 @@ read-pieces-spec =
     (tie.spec
     Inv-loop
     μ-loop
-    empty-table-requires
+    empty-pieces-requires
     loop-holds
     find-requires
     field-of-requires
@@ -128,7 +128,7 @@ read-pieces-spec =
     wood-in-requires
     cast-record-in
     record-in-requires
-    push-row-requires
+    push-record-requires
     field-of-requires-2
     put-cells-requires
     add-from

@@ -2,7 +2,7 @@
 use borrow.Author.Tests.{not-true, not-false}
 use denote.Ref.{now}
 use Rattle.kept.specs.Emission.{emittedOf, identified}
-use Rattle.kept.proofs.EmitLaws.{sorted-rows, sorted-kinds, sorted-held, emit-left, emit-put}
+use Rattle.kept.proofs.EmitLaws.{sorted-rows, sorted-kinds, sorted-up, sorted-held, emit-left, emit-put}
 use borrow.Author.Needs.{needs}
 use Rattle.kept.proofs.emission.emit_kept.Statement.{statement}
 use Rattle.kept.proofs.emission.emit_kept.Tie as tie
@@ -21,7 +21,7 @@ is-normal-form-requires c κs =
     let k = c .before .before .before .before .before .before .before .before .before in
     let a = k .args in
     let r = c .before .before .sort-path in
-    (k .pre .0, sorted-rows (a .d) (now (a .work)) (now (a .chart)) (k .pre .0) (now (a .path)) (a .n) (k .pre .1) (k .pre .2) (r .last .1 .1 .0) (r .kept .1 .1 .0) (r .ensures .0), sorted-kinds (a .d) (now (a .work)) (now (a .chart)) (k .pre .0) (now (a .path)) (a .n) (k .pre .1) (k .pre .2) (r .last .1 .1 .0) (r .kept .1 .1 .0) (r .ensures .0))
+    (k .pre .0, sorted-rows (a .d) (now (a .work)) (now (a .chart)) (k .pre .0) (now (a .path)) (a .n) (k .pre .1) (k .pre .2) (r .last .1 .1 .0) (r .kept .1 .1 .0) (r .ensures .0), sorted-kinds (a .d) (now (a .work)) (now (a .chart)) (k .pre .0) (now (a .path)) (a .n) (k .pre .1) (k .pre .2) (r .last .1 .1 .0) (r .kept .1 .1 .0) (r .ensures .0), sorted-up (a .d) (now (a .work)) (now (a .chart)) (k .pre .0) (now (a .path)) (a .n) (k .pre .1) (k .pre .2) (r .last .1 .1 .0) (r .kept .1 .1 .0) (r .ensures .0))
 
 returns : tie.Need-returns
 returns c =

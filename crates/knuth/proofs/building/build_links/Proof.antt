@@ -10,7 +10,7 @@ use Rattle.knuth.proofs.building.build_links.Statement.{statement}
 use Rattle.kept.proofs.ReadyLaws.{few-cells, few-kinds}
 use Rattle.knuth.proofs.building.build_links.Tie as tie
 
-few : (z : tie.Start) → (z .args .d .cells ≤ 128) × (z .args .d .kinds ≤ 16)
+few : (z : tie.Start) → (z .args .d .size ≤ 128) × (z .args .d .kinds ≤ 16)
 few z =
     let a = z .args in (
       few-cells (a .d) (now (a .work)) (now (a .chart)) (z .pre .0 .lawful),

@@ -11,7 +11,7 @@ use lib.ListN.{length}
 use Rattle.lists.specs.Lists.{below, howMany}
 use Rattle.lists.proofs.CountLaws.{count-more}
 use Rattle.masks.specs.Masks.{has}
-use Rattle.knuth.specs.Tables.{Laid}
+use Rattle.knuth.specs.Matrix.{Laid}
 use Rattle.knuth.proofs.LaidLaws.{cellNodes, cells-hit, cells-miss, count-hit, count-miss, laid-none}
 use Rattle.knuth.proofs.building.put_cells.Statement.{statement}
 use Rattle.knuth.proofs.building.put_cells.Tie as tie

@@ -13,10 +13,10 @@ use Rattle.knuth.proofs.building.put_copies.Statement.{statement}
 use Rattle.knuth.proofs.building.put_copies.Tie as tie
 
 abbrev Inv-loop : tie.InvT-loop
-Inv-loop d chart links₀ j₀ links j = (length links ≡ length links₀) × (j ≤ d .cells + d .kinds) × StockTo links₀ links (d .cells) j chart
+Inv-loop d chart links₀ j₀ links j = (length links ≡ length links₀) × (j ≤ d .size + d .kinds) × StockTo links₀ links (d .size) j chart
 
 abbrev μ-loop : tie.MeasureT-loop
-μ-loop d chart links₀ j₀ links j = d .cells + d .kinds - j
+μ-loop d chart links₀ j₀ links j = d .size + d .kinds - j
 
 abbrev start : tie.At-loop Inv-loop μ-loop → tie.Start Inv-loop μ-loop
 start l = l .before .before .before
@@ -46,7 +46,7 @@ cast-links : tie.Need-cast-links Inv-loop μ-loop
 cast-links c =
     let l = c .before .before .before .before .before .before in
     let z = start l in
-    omega (arith, c .copies-of .ensures, z .pre .3 .copies (l .loop .j - z .args .d .cells))
+    omega (arith, c .copies-of .ensures, z .pre .3 .copies (l .loop .j - z .args .d .size))
 
 mul-links-3 : tie.Need-mul-links-3 Inv-loop μ-loop
 mul-links-3 c = omega arith
@@ -76,14 +76,14 @@ loop-again c =
     (λ w. (
       ap length (w .1) ∙ length-set (l .loop .links) (atCopies (l .loop .j)) 0 ∙ l .loop .inv .0,
       omega arith,
-      subst (λ (m : List ℕ). StockTo (now (a .links)) m (a .d .cells) (l .loop .j + 1) (now (a .chart))) (sym (w .1))
-          (stock-cell (now (a .links)) (l .loop .links) (a .d .cells) (l .loop .j) 0 (now (a .chart)) s h (w .0 .taken) refl),
+      subst (λ (m : List ℕ). StockTo (now (a .links)) m (a .d .size) (l .loop .j + 1) (now (a .chart))) (sym (w .1))
+          (stock-cell (now (a .links)) (l .loop .links) (a .d .size) (l .loop .j) 0 (now (a .chart)) s h (w .0 .taken) refl),
     ))
     (λ w. (
       ap length (w .3) ∙ length-set (l .loop .links) (atCopies (l .loop .j)) _ ∙ l .loop .inv .0,
       omega arith,
-      subst (λ (m : List ℕ). StockTo (now (a .links)) m (a .d .cells) (l .loop .j + 1) (now (a .chart))) (sym (w .3))
-          (stock-kind (now (a .links)) (l .loop .links) (a .d .cells) (l .loop .j) (w .2 .result) (now (a .chart)) s h (w .0 .left) (w .2 .ensures)),
+      subst (λ (m : List ℕ). StockTo (now (a .links)) m (a .d .size) (l .loop .j + 1) (now (a .chart))) (sym (w .3))
+          (stock-kind (now (a .links)) (l .loop .links) (a .d .size) (l .loop .j) (w .2 .result) (now (a .chart)) s h (w .0 .left) (w .2 .ensures)),
     ))
     (c .if2 .came)
 
@@ -94,7 +94,7 @@ returns : tie.Need-returns Inv-loop μ-loop
 returns c =
     let l = c .before .before in
     let a = start l .args in
-    stock-all (now (a .links)) (l .loop .links) (a .d .cells) (a .d .kinds) (l .loop .j) (now (a .chart)) (omega arith) (l .loop .inv .2)
+    stock-all (now (a .links)) (l .loop .links) (a .d .size) (a .d .kinds) (l .loop .j) (now (a .chart)) (omega arith) (l .loop .inv .2)
 
 pub put-copies-spec : {M : Type 1} → statement M
 put-copies-spec =

@@ -5,7 +5,7 @@ use native.Mathlib.Omega.{arith}
 use denote.Ref.{now}
 use borrow.Author.Needs.{needs}
 use lib.ListN.{length}
-use Rattle.knuth.specs.Tables.{Laid, headNodes}
+use Rattle.knuth.specs.Matrix.{Laid, headNodes}
 use Rattle.knuth.proofs.LaidLaws.{heads-none, heads-more}
 use Rattle.knuth.proofs.building.put_heads.Statement.{statement}
 use Rattle.knuth.proofs.building.put_heads.Tie as tie

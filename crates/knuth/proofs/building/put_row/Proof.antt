@@ -36,8 +36,8 @@ ends : (c : tie.After-count-cells)
     a .x + 1 + c .count-cells .result ≤ 4096
 ends c =
     let z = c .before .before .before .before in
-    let e : howMany (has (c .before .mask-at .result)) (below (z .args .d .cells)) ≡ howMany (has (maskAt (now (z .args .work)) (z .args .r))) (below (z .args .d .cells))
-    = ap (λ (m : Mask). howMany (has m) (below (z .args .d .cells))) (c .before .mask-at .ensures) in
+    let e : howMany (has (c .before .mask-at .result)) (below (z .args .d .size)) ≡ howMany (has (maskAt (now (z .args .work)) (z .args .r))) (below (z .args .d .size))
+    = ap (λ (m : Mask). howMany (has m) (below (z .args .d .size))) (c .before .mask-at .ensures) in
     omega (arith, c .count-cells .ensures .0, z .pre .5)
 
 put-node-requires : tie.Need-put-node-requires
@@ -69,8 +69,8 @@ returns c =
     let m = n .before .mask-at in
     let end = a .x + 1 + n .count-cells .result in
     let e = ends n in (
-      row-size (a .d .cells) (a .x) (a .r) (maskAt w (a .r)) (m .result) (m .ensures) (rowAt w (a .r) .kind) (k .kind-at .result) (n .count-cells .result) end (k .kind-at .ensures) (n .count-cells .ensures .0) refl,
-      row-laid (a .d .cells) (a .x) (a .r) (maskAt w (a .r)) (m .result) (m .ensures) (rowAt w (a .r) .kind) (k .kind-at .result) (n .count-cells .result) end (k .kind-at .ensures) (n .count-cells .ensures .0) refl
+      row-size (a .d .size) (a .x) (a .r) (maskAt w (a .r)) (m .result) (m .ensures) (rowAt w (a .r) .kind) (k .kind-at .result) (n .count-cells .result) end (k .kind-at .ensures) (n .count-cells .ensures .0) refl,
+      row-laid (a .d .size) (a .x) (a .r) (maskAt w (a .r)) (m .result) (m .ensures) (rowAt w (a .r) .kind) (k .kind-at .result) (n .count-cells .result) end (k .kind-at .ensures) (n .count-cells .ensures .0) refl
           (now (a .links)) _ _ (c .before .before .before .before .before .before .put-node .ensures) (c .before .before .put-cells .ensures),
     )
 

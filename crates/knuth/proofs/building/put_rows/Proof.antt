@@ -9,7 +9,7 @@ use borrow.Author.Needs.{needs}
 use denote.Ref.{now}
 use lib.ListN.{length}
 use Rattle.rows.specs.Systems.{systemIn}
-use Rattle.knuth.specs.Tables.{Laid, columns}
+use Rattle.knuth.specs.Matrix.{Laid, columns}
 use Rattle.knuth.proofs.BuildingLaws.{hasStock, nodesTo, endTo, stocked-yes, stocked-no, row-room, row-end, row-more, skip-end, skip-more, rows-none, rows-end, rows-laid}
 use Rattle.knuth.proofs.building.put_rows.Statement.{statement}
 use Rattle.kept.proofs.ReadyLaws.{few-cells, few-kinds, few-rows, row-kind}
@@ -26,7 +26,7 @@ abbrev μ-loop : tie.MeasureT-loop
 abbrev start : tie.At-loop Inv-loop μ-loop → tie.Start Inv-loop μ-loop
 start l = l .before .before .before .before .before
 
-few : (z : tie.Start Inv-loop μ-loop) → (z .args .d .cells ≤ 128) × (z .args .d .kinds ≤ 16) × (z .args .d .rows ≤ 1024)
+few : (z : tie.Start Inv-loop μ-loop) → (z .args .d .size ≤ 128) × (z .args .d .kinds ≤ 16) × (z .args .d .rows ≤ 1024)
 few z =
     let a = z .args in (
       few-cells (a .d) (now (a .work)) (now (a .chart)) (z .pre .0 .lawful),
@@ -65,7 +65,7 @@ loop-holds : tie.Need-loop-holds Inv-loop μ-loop
 loop-holds c =
     let z = c .before .before .before .before in
     let a = z .args in
-    let n = rows-none (a .d) (now (a .work)) (now (a .chart)) (now (a .links)) (a .d .cells + a .d .kinds) refl in
+    let n = rows-none (a .d) (now (a .work)) (now (a .chart)) (now (a .links)) (a .d .size + a .d .kinds) refl in
     (refl, omega arith, n .0, n .1)
 
 kind-at-requires : tie.Need-kind-at-requires Inv-loop μ-loop

@@ -12,7 +12,7 @@ use Rattle.kept.specs.Emission.{emittedOf, identified}
 use Rattle.kept.proofs.ReadyLaws.{few-cells}
 use Rattle.links.specs.Search.{Seek}
 use Rattle.links.specs.Build.{whole, everyColumn}
-use Rattle.knuth.specs.Tables.{matrixOf}
+use Rattle.knuth.specs.Matrix.{matrixOf}
 use Rattle.knuth.specs.Listing.{Begun, Choosable}
 use Rattle.knuth.proofs.KnuthPageLaws.{begins, choosable, lists}
 use Rattle.knuth.proofs.listing.list.Statement.{statement}
@@ -33,10 +33,10 @@ module _ (a : tie.After-build-links) where
   begun = a .build-links .ensures .0
 
   -- every row is possible, and none is chosen
-  start-seek : Seek (whole (matrixOf S) (begun .law)) everyColumn (begun .copies) (z .args .d .cells) (z .args .d .cells) links
+  start-seek : Seek (whole (matrixOf S) (begun .law)) everyColumn (begun .copies) (z .args .d .size) (z .args .d .size) links
   start-seek = begins (z .args .d) (now (z .args .work)) (now (z .args .chart)) links begun
 
-  start-choosable : Choosable S links (z .args .d .cells) []
+  start-choosable : Choosable S links (z .args .d .size) []
   start-choosable = choosable (z .args .d) (now (z .args .work)) (now (z .args .chart)) links begun
 
   -- the links behind
@@ -99,7 +99,7 @@ returns c =
     let k = z a .args in
     let b = begun a in
     let old = emittedOf (k .e) (now (k .last)) (now (k .answers)) in (
-      q .choose .ensures .1 (whole (matrixOf (S a)) (b .law)) everyColumn (b .copies) (k .d .cells + 1) (start-seek a) refl (omega arith)
+      q .choose .ensures .1 (whole (matrixOf (S a)) (b .law)) everyColumn (b .copies) (k .d .size + 1) (start-seek a) refl (omega arith)
           ∙ lists (k .d) (now (k .work)) (now (k .chart)) (links a) b (z a .pre .0 .lawful) (identified (k .wanted)) (k .wanted .capacity) old,
       ap (drop 32768) (q .choose .ensures .0 .0) ∙ links-behind a,
     )

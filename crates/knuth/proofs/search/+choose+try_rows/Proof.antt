@@ -12,7 +12,7 @@ use Rattle.kept.specs.Ready.{Restored}
 use Rattle.links.proofs.Search.{seek-long, seek-cells, c-size, try-small, try-sized, try-selectable, try-sub, try-selected, try-back, try-less, try-below}
 use Rattle.knuth.proofs.CycleLaws.{same-twice, path-kept, path-still, path-twice}
 use Rattle.knuth.proofs.CycleStepLaws.{of-seek, leaf-fills, column-tryable, path-same, path-room, row-bound, row-words, row-first, path-rows, row-choosable, next-tryable}
-use Rattle.knuth.proofs.CycleStepLaws.{found-leaf, found-none, found-rows, found-head, found-stop, found-on, found-passed}
+use Rattle.knuth.proofs.CycleStepLaws.{found-leaf, found-few, found-none, found-rows, found-head, found-stop, found-on, found-passed}
 use borrow.Author.Needs.{needs}
 use borrow.Author.Tests.{not-true}
 use borrow.Fn.Kinds.{In}
@@ -26,6 +26,7 @@ use Rattle.knuth.proofs.search.+choose+try_rows.Lts-try_rows as try-row
 use Rattle.kept.proofs.emission.emit_kept.Reads as emit-kept-reads
 use Rattle.links.proofs.below.Reads as below-reads
 use Rattle.links.proofs.choose_column.Reads as choose-column-reads
+use Rattle.links.proofs.open_columns.Reads as open-columns-reads
 use Rattle.links.proofs.row_cells.Reads as row-cells-reads
 use Rattle.links.proofs.row_of.Reads as row-of-reads
 use Rattle.links.proofs.select_row.Reads as select-row-reads
@@ -59,6 +60,8 @@ abbrev choose-knows : ℕ → choose-lts.Claims
 choose-knows t = (
   emit-kept-reads.Asked,
   emit-kept-reads.Learnt,
+  open-columns-reads.Asked,
+  open-columns-reads.Learnt,
   choose-column-reads.Asked,
   choose-column-reads.Learnt,
   below-reads.Asked,
@@ -93,6 +96,9 @@ leaf-start t c = c .before .before .before .before .before .before .before .befo
 
 abbrev column-start : (t : ℕ) → choose-lts.Else1 (choose-knows t) (choose-at t) choose.Post → choose-lts.Start (choose-knows t) (choose-at t) choose.Post
 column-start t c = c .before .before .before .before .before .before .before .before
+
+abbrev cells-start : (t : ℕ) → choose-lts.Else2 (choose-knows t) (choose-at t) choose.Post → choose-lts.Else1 (choose-knows t) (choose-at t) choose.Post
+cells-start t c = c .before .before .before
 
 -- ---- and of `try_rows`: behind its first test, where its row is known, and where the row's cells are, where it is selected, searched and taken back
 module _ (t : ℕ) where
@@ -178,8 +184,8 @@ choose-returns t c =
           (at-leaf .if1 .taken) (put .ensures),
     )
 
-choose-choose-column-requires : (t : ℕ) → choose-lts.Need-choose-column-requires (choose-knows t) (choose-at t) choose.Post
-choose-choose-column-requires t c κs =
+choose-open-columns-requires : (t : ℕ) → choose-lts.Need-open-columns-requires (choose-knows t) (choose-at t) choose.Post
+choose-open-columns-requires t c κs =
     let k = column-start t (c .before) in
     let a = k .args in
     let q = k .pre .1 .1 in
@@ -190,32 +196,55 @@ choose-same-length-3 t c = search needs
 
 choose-returns-2 : (t : ℕ) → choose-lts.Need-returns-2 (choose-knows t) (choose-at t) choose.Post
 choose-returns-2 t c =
+    let at-open = c .before in
+    let at-cells = at-open .before .before in
+    let a = column-start t at-cells .args in
+    let columns = at-open .open-columns in
+    let i = identified (a .wanted) in
+    let old = emittedOf (a .e) (now (a .last)) (now (a .answers)) in (
+      (refl, path-still _ _),
+      λ w uncovered copies g s e h. found-few (a .d) (now (a .work)) (now (a .chart)) i (a .wanted .capacity) s (take (a .n) (now (a .path))) old
+          (omega (arith, columns .ensures, c .if2 .taken)) g,
+    )
+
+choose-choose-column-requires : (t : ℕ) → choose-lts.Need-choose-column-requires (choose-knows t) (choose-at t) choose.Post
+choose-choose-column-requires t c κs =
+    let k = column-start t (cells-start t (c .before)) in
+    let a = k .args in
+    let q = k .pre .1 .1 in
+    (seek-long (q .seek), seek-cells (of-seek (a .d) (now (a .work)) (now (a .chart)) (q .seek)))
+
+choose-same-length-4 : (t : ℕ) → choose-lts.Need-same-length-4 (choose-knows t) (choose-at t) choose.Post
+choose-same-length-4 t c = search needs
+
+choose-returns-3 : (t : ℕ) → choose-lts.Need-returns-3 (choose-knows t) (choose-at t) choose.Post
+choose-returns-3 t c =
     let at-column = c .before in
-    let at-cells = at-column .before .before in
+    let at-cells = cells-start t (at-column .before .before) in
     let a = column-start t at-cells .args in
     let col = at-column .choose-column in
     let i = identified (a .wanted) in
     let old = emittedOf (a .e) (now (a .last)) (now (a .answers)) in (
       (refl, path-still _ _),
       λ w uncovered copies g s e h. found-none (a .d) (now (a .work)) (now (a .chart)) i (a .wanted .capacity) s (take (a .n) (now (a .path))) old
-          (at-cells .if1 .left) (col .result) (col .ensures) (c .if2 .taken) g h,
+          (at-cells .if1 .left) (col .result) (col .ensures) (c .if3 .taken) g h,
     )
 
 choose-below-requires : (t : ℕ) → choose-lts.Need-below-requires (choose-knows t) (choose-at t) choose.Post
 choose-below-requires t c κs =
     let at-column = c .before .before in
-    let at-cells = at-column .before .before in
+    let at-cells = cells-start t (at-column .before .before) in
     let k = column-start t at-cells in
     let a = k .args in
     let col = at-column .choose-column in
     let s = of-seek (a .d) (now (a .work)) (now (a .chart)) (k .pre .1 .1 .seek) in
-    omega (arith, seek-long s, seek-cells s, c-size s (at-cells .if1 .left) (col .result) (col .ensures) (c .before .if2 .left))
+    omega (arith, seek-long s, seek-cells s, c-size s (at-cells .if1 .left) (col .result) (col .ensures) (c .before .if3 .left))
 
 choose-try-rows-requires : (t : ℕ) → choose-lts.Need-try-rows-requires (choose-knows t) (choose-at t) choose.Post
 choose-try-rows-requires t c κs =
     let at-top = c .before .before .before in
     let at-some = at-top .before .before in
-    let at-cells = at-some .before .before .before in
+    let at-cells = cells-start t (at-some .before .before .before) in
     let k = column-start t at-cells in
     let a = k .args in
     let q = k .pre .1 in
@@ -224,13 +253,10 @@ choose-try-rows-requires t c κs =
       rw (← (k .pre .0)) (try-below (a .left) (top .result) (col .result)),
       (
         q .0,
-        column-tryable (a .d) (now (a .work)) (now (a .chart)) (q .1) (at-cells .if1 .left) (col .result) (col .ensures) (at-some .if2 .left)
+        column-tryable (a .d) (now (a .work)) (now (a .chart)) (q .1) (at-cells .if1 .left) (col .result) (col .ensures) (at-some .if3 .left)
             (top .result) (top .ensures),
       ),
     )
-
-choose-same-length-4 : (t : ℕ) → choose-lts.Need-same-length-4 (choose-knows t) (choose-at t) choose.Post
-choose-same-length-4 t c = search needs
 
 choose-same-length-5 : (t : ℕ) → choose-lts.Need-same-length-5 (choose-knows t) (choose-at t) choose.Post
 choose-same-length-5 t c = search needs
@@ -238,12 +264,15 @@ choose-same-length-5 t c = search needs
 choose-same-length-6 : (t : ℕ) → choose-lts.Need-same-length-6 (choose-knows t) (choose-at t) choose.Post
 choose-same-length-6 t c = search needs
 
-choose-returns-3 : (t : ℕ) → choose-lts.Need-returns-3 (choose-knows t) (choose-at t) choose.Post
-choose-returns-3 t c =
+choose-same-length-7 : (t : ℕ) → choose-lts.Need-same-length-7 (choose-knows t) (choose-at t) choose.Post
+choose-same-length-7 t c = search needs
+
+choose-returns-4 : (t : ℕ) → choose-lts.Need-returns-4 (choose-knows t) (choose-at t) choose.Post
+choose-returns-4 t c =
     let at-rest = c .before .before .before .before .before .before in
     let at-top = at-rest .before .before .before .before in
     let at-some = at-top .before .before in
-    let at-cells = at-some .before .before .before in
+    let at-cells = cells-start t (at-some .before .before .before) in
     let a = column-start t at-cells .args in
     let col = at-some .before .choose-column in
     let top = at-top .below in
@@ -253,7 +282,7 @@ choose-returns-3 t c =
     let new = emittedOf (rest .result) (now (a .last)) (rest .last .1 .1 .1 .1 .1 .1 .1 .1 .1 .1 .0) in (
       rest .ensures .0,
       λ w uncovered copies g s e h. found-rows (a .d) (now (a .work)) (now (a .chart)) i (a .wanted .capacity) s (take (a .n) (now (a .path))) old
-          (at-cells .if1 .left) (col .result) (col .ensures) new (at-some .if2 .left) (top .result) (top .ensures) e (rest .ensures .1) g h,
+          (at-cells .if1 .left) (col .result) (col .ensures) new (at-some .if3 .left) (top .result) (top .ensures) e (rest .ensures .1) g h,
     )
 
 -- ---- trying a column's rows
@@ -560,15 +589,18 @@ pub +choose+try-rows-spec : {M : Type 1} → statement M
     (choose-same-length t)
     (choose-same-length-2 t)
     (choose-returns t)
-    (choose-choose-column-requires t)
+    (choose-open-columns-requires t)
     (choose-same-length-3 t)
     (choose-returns-2 t)
+    (choose-choose-column-requires t)
+    (choose-same-length-4 t)
+    (choose-returns-3 t)
     (choose-below-requires t)
     (choose-try-rows-requires t)
-    (choose-same-length-4 t)
     (choose-same-length-5 t)
     (choose-same-length-6 t)
-    (choose-returns-3 t))
+    (choose-same-length-7 t)
+    (choose-returns-4 t))
     (λ t. try-rows-lts.spec (try-rows-knows t) (try-rows-at t) try-rows.Post
     (try-rows-returns t)
     (try-rows-row-of-requires t)

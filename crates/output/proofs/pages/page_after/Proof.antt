@@ -5,7 +5,7 @@ use mathlib.Core.Path.{refl, sym, ap, _∙_}
 use denote.Ref.{now}
 use lib.ListN.{take}
 use lib.Seq.{length-take-le}
-use Rattle.placements.specs.Tables.{recordsOf}
+use Rattle.placements.specs.Pieces.{recordsOf}
 use Rattle.solver.specs.Lent.{callWith}
 use Rattle.definitions.specs.Starts.{outcomeFrom}
 use Rattle.definitions.specs.declared.Start.the-variants.{Behind}

@@ -11,10 +11,10 @@ use Rattle.placements.proofs.board.number_places.Statement.{statement}
 use Rattle.placements.proofs.board.number_places.Tie as tie
 
 abbrev Inv-loop : tie.InvT-loop
-Inv-loop places n numbers₀ k₀ numbers k = (length numbers ≡ length numbers₀) × (k ≤ n) × NumberedFrom (take n places) k numbers
+Inv-loop places n scans₀ k₀ scans k = (length scans ≡ length scans₀) × (k ≤ n) × NumberedFrom (take n places) k scans
 
 abbrev μ-loop : tie.MeasureT-loop
-μ-loop places n numbers₀ k₀ numbers k = k
+μ-loop places n scans₀ k₀ scans k = k
 
 cast-fill : tie.Need-cast-fill Inv-loop μ-loop
 cast-fill c = search needs
@@ -25,7 +25,7 @@ fill-requires c κs = search needs
 loop-holds : tie.Need-loop-holds Inv-loop μ-loop
 loop-holds c =
     let k = c .before .before .before .before .before .before in
-    (search needs, search needs, number-start (now (k .args .places)) (k .args .n) (length (now (k .args .numbers))) (k .pre .1) (k .pre .2) _ (c .before .before .fill .ensures))
+    (search needs, search needs, number-start (now (k .args .places)) (k .args .n) (length (now (k .args .scans))) (k .pre .1) (k .pre .2) _ (c .before .before .fill .ensures))
 
 sub-k : tie.Need-sub-k Inv-loop μ-loop
 sub-k c = search needs
@@ -39,14 +39,14 @@ shared-slice-read-i c = omega arith
 cast-i : tie.Need-cast-i Inv-loop μ-loop
 cast-i c = omega (arith, c .shared-slice-known2 .given (c .before .before .loop .k - 1))
 
-cast-numbers : tie.Need-cast-numbers Inv-loop μ-loop
-cast-numbers c = omega arith
+cast-scans : tie.Need-cast-scans Inv-loop μ-loop
+cast-scans c = omega arith
 
-slice-write-numbers : tie.Need-slice-write-numbers Inv-loop μ-loop
-slice-write-numbers c =
+slice-write-scans : tie.Need-slice-write-scans Inv-loop μ-loop
+slice-write-scans c =
     let k = c .before .before .before .before .before .before .before .before .before in
     let l = c .before .before .loop in
-    let h = place-in (now (k .args .places)) (k .args .n) (length (now (k .args .numbers))) (k .pre .1) (k .pre .2) (l .k) (omega arith) (omega arith) in
+    let h = place-in (now (k .args .places)) (k .args .n) (length (now (k .args .scans))) (k .pre .1) (k .pre .2) (l .k) (omega arith) (omega arith) in
     omega (arith, c .before .before .before .before .before .fill .kept .0)
 
 loop-less : tie.Need-loop-less Inv-loop μ-loop
@@ -59,7 +59,7 @@ loop-again c =
     let e = c .before .before .before .before .before .fill .kept .0 in (
       search needs,
       omega arith,
-      number-next (now (k .args .places)) (k .args .n) (length (now (k .args .numbers))) (k .pre .1) (k .pre .2) (l .k) (l .numbers) (l .inv .0 ∙ e) (omega arith) (omega arith) (l .inv .2),
+      number-next (now (k .args .places)) (k .args .n) (length (now (k .args .scans))) (k .pre .1) (k .pre .2) (l .k) (l .scans) (l .inv .0 ∙ e) (omega arith) (omega arith) (l .inv .2),
     )
 
 same-length : tie.Need-same-length Inv-loop μ-loop
@@ -70,7 +70,7 @@ returns c =
     let k = c .before .before .before .before .before .before .before .before in
     let l = c .before .loop in
     let e = c .before .before .before .before .fill .kept .0 in
-    number-end (now (k .args .places)) (k .args .n) (length (now (k .args .numbers))) (k .pre .1) (k .pre .2) (l .k) (l .numbers) (l .inv .0 ∙ e) (omega arith) (l .inv .2)
+    number-end (now (k .args .places)) (k .args .n) (length (now (k .args .scans))) (k .pre .1) (k .pre .2) (l .k) (l .scans) (l .inv .0 ∙ e) (omega arith) (l .inv .2)
 
 pub number-places-spec : {M : Type 1} → statement M
 number-places-spec =
@@ -85,8 +85,8 @@ number-places-spec =
     mul-i
     shared-slice-read-i
     cast-i
-    cast-numbers
-    slice-write-numbers
+    cast-scans
+    slice-write-scans
     loop-less
     loop-again
     same-length

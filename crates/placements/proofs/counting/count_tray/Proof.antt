@@ -19,9 +19,9 @@ use Rattle.placements.proofs.CountingLaws.{Lent, lent-passes, sound, bo
 use Rattle.placements.proofs.counting.count_tray.Statement.{statement}
 use Rattle.placements.proofs.counting.count_tray.Tie as tie
 
--- the stops: the entry, the board's sides, its cells, and its cells by their places
+-- the stops: the entry, the board's sides, its cells, its cells by their places, the smallest maps and the kinds
 abbrev to-start : tie.After-sides-of → tie.Start
-to-start c = c .before .before .before .before .before
+to-start c = c .before .before .before .before .before .before
 
 abbrev to-sides : tie.After-cells-of → tie.After-sides-of
 to-sides c = c .before .before
@@ -29,11 +29,14 @@ to-sides c = c .before .before
 abbrev to-cells : tie.After-plan-coords → tie.After-cells-of
 to-cells c = c .before .before
 
-abbrev to-merge : tie.After-count-kinds-arg3 → tie.After-merge
-to-merge c = c .before .before .before .before .before
-
-abbrev to-places : tie.After-merge → tie.After-plan-coords
+abbrev to-places : tie.After-smallest-maps → tie.After-plan-coords
 to-places c = c .before .before .before .before
+
+abbrev to-maps : tie.After-merge → tie.After-smallest-maps
+to-maps c = c .before .before .before .before .before
+
+abbrev to-merge : tie.After-count-kinds-arg4 → tie.After-merge
+to-merge c = c .before .before .before .before .before .before
 
 -- what is lent, the board's grid, and its cells
 lent : (z : tie.Start) → Lent (z .args .t) (z .args .board) (now (z .args .bytes))
@@ -78,17 +81,24 @@ plan-coords-requires c κs =
       omega (arith, volume-small _ (w .fit) .1, to-start sides .pre .1),
     )
 
+smallest-maps-requires : tie.Need-smallest-maps-requires
+smallest-maps-requires c κs =
+    let z = to-start (to-sides (to-cells (c .before .before .before))) in
+    (sound _ _ _ (lent z), z .pre .2)
+
 merge-requires : tie.Need-merge-requires
 merge-requires c κs =
-    let z = to-start (to-sides (to-cells (c .before .before .before))) in
-    (sound _ _ _ (lent z), omega (arith, z .pre .2))
+    let maps = c .before .before .before .before in
+    let z = to-start (to-sides (to-cells (to-places maps))) in
+    (sound _ _ _ (lent z), maps .smallest-maps .ensures, omega (arith, z .pre .3))
 
 count-kinds-requires : tie.Need-count-kinds-requires
 count-kinds-requires c κs =
     let merged = to-merge c in
     let m = merged .merge in
-    let z = to-start (to-sides (to-cells (to-places merged))) in
-    (z .pre .0, cells-on (to-places merged), m .ensures .0, omega (arith, lent z .few, m .ensures .0 .few, m .kept .1 .1 .0, z .pre .2), z .pre .3)
+    let maps = to-maps merged in
+    let z = to-start (to-sides (to-cells (to-places maps))) in
+    (z .pre .0, cells-on (to-places maps), maps .smallest-maps .ensures, m .ensures .0, omega (arith, lent z .few, m .ensures .0 .few, m .kept .1 .1 .1 .0, z .pre .3), z .pre .4)
 
 same-length : tie.Need-same-length
 same-length c = search needs
@@ -99,8 +109,13 @@ same-length-2 c = search needs
 same-length-3 : tie.Need-same-length-3
 same-length-3 c = search needs
 
+same-length-4 : tie.Need-same-length-4
+same-length-4 c = search needs
+
 returns : tie.Need-returns
-returns c = c .before .before .count-kinds .ensures
+returns c =
+    let counted = c .before .before in
+    (counted .count-kinds .ensures, to-maps (to-merge (counted .before)) .smallest-maps .ensures)
 
 pub count-tray-spec : {M : Type 1} → statement M
 count-tray-spec =
@@ -110,9 +125,11 @@ count-tray-spec =
     plan-axis-order-requires
     cells-of-requires
     plan-coords-requires
+    smallest-maps-requires
     merge-requires
     count-kinds-requires
     same-length
     same-length-2
     same-length-3
+    same-length-4
     returns)

@@ -1,41 +1,48 @@
--- `count_at` meets its contract: the count so far and what is left of the numbers make the whole count. Assumes nothing.
+-- `placements::fitting::count_at` meets its contract. The loop's invariant: what is counted and what fits of the variants from i on make all. Assumes nothing.
 use Prim.Native.Nat.{ℕ, _+_, _-_, _≤_, _<_}
 use mathlib.Core.Bool.{Bool}
 use mathlib.Core.Logic.{⊎-elim}
-use mathlib.Core.Path.{_≡_, ap, _∙_}
+use mathlib.Core.Path.{_≡_, refl, sym, ap, _∙_}
 use native.Mathlib.Omega.{arith}
-use borrow.Author.Needs.{needs}
 use denote.Ref.{now}
-use lib.ListN.{length, getD, take, drop}
-use lib.Seq.{length-take-le, getD-take}
-use Rattle.lists.specs.Lists.{howMany}
+use lib.ListN.{length, getD, drop}
+use Rattle.lists.specs.Lists.{below, howMany}
+use Rattle.lists.proofs.ListLaws.{howMany-map}
+use Rattle.lists.proofs.RangeLaws.{length-below, number-at}
 use Rattle.lists.proofs.CountLaws.{count-hit, count-miss, count-end}
-use Rattle.shape.specs.Coords.{asCell}
+use Rattle.definitions.specs.Scan.{axes, scan}
+use Rattle.definitions.specs.Placements.{fits}
+use Rattle.shape.specs.Coords.{asSides, asCell}
 use Rattle.shape.specs.Grids.{asGrid}
-use Rattle.shape.specs.Scans.{asOrder}
-use Rattle.placements.proofs.FittingLaws.{fitsBy, fits-by, count-turned}
+use Rattle.placements.specs.Poses.{variantIn, variantsIn}
+use Rattle.placements.proofs.FittingLaws.{fits-variant}
 use Rattle.placements.proofs.fitting.count_at.Statement.{statement}
 use Rattle.placements.proofs.fitting.count_at.Tie as tie
 
 abbrev Inv-loop : tie.InvT-loop
-Inv-loop board b cells s numbers n order at count₀ i₀ count i =
-    let p : ℕ → Bool = fitsBy (asOrder order) (asGrid b board) (asCell at) (asGrid s cells) in
-    (i ≤ n) × (count ≤ i) × (count + howMany p (drop i (take n numbers)) ≡ howMany p (take n numbers))
+Inv-loop board b poses n size at count₀ i₀ count i =
+    let o = axes (asSides b) in
+    let p : ℕ → Bool = λ k. fits (scan o (asGrid b board)) (asCell at) (variantIn o poses size k) in
+    (i ≤ n) × (count ≤ i) × (count + howMany p (drop i (below n)) ≡ howMany p (below n))
 
 abbrev μ-loop : tie.MeasureT-loop
-μ-loop board b cells s numbers n order at count₀ i₀ count i = n - i
+μ-loop board b poses n size at count₀ i₀ count i = n - i
+
+-- whether variant k fits
+abbrev fitting : (z : tie.Start Inv-loop μ-loop) → ℕ → Bool
+fitting z k =
+    let a = z .args in
+    let o = axes (asSides (a .b)) in
+    fits (scan o (asGrid (a .b) (now (a .board)))) (asCell (a .at)) (variantIn o (now (a .poses)) (a .size) k)
 
 loop-holds : tie.Need-loop-holds Inv-loop μ-loop
 loop-holds c = omega arith
 
-shared-slice-read-t15 : tie.Need-shared-slice-read-t15 Inv-loop μ-loop
-shared-slice-read-t15 c = omega arith
-
-origin-of-requires : tie.Need-origin-of-requires Inv-loop μ-loop
-origin-of-requires c κs = search needs
-
-fits-at-requires : tie.Need-fits-at-requires Inv-loop μ-loop
-fits-at-requires c κs = search needs
+fits-pose-requires : tie.Need-fits-pose-requires Inv-loop μ-loop
+fits-pose-requires c κs =
+    let start = c .before .before .before .before in
+    let p = start .pre .2 in
+    (start .pre .0, start .pre .1, p .long, omega (arith, p .few), p .small)
 
 add-count : tie.Need-add-count Inv-loop μ-loop
 add-count c = omega arith
@@ -48,49 +55,35 @@ loop-less c = omega arith
 
 loop-again : tie.Need-loop-again Inv-loop μ-loop
 loop-again c =
-    let l = c .before .before .before .before .before in
-    let k = l .before .before .before .before in
-    let a = k .args in
-    let order = asOrder (a .order) in
-    let g = asGrid (a .b) (now (a .board)) in
-    let h = asGrid (a .s) (now (a .cells)) in
-    let p : ℕ → Bool = fitsBy order g (asCell (a .at)) h in
-    let ns = take (a .n) (now (a .numbers)) in
-    let i = l .loop .i in
-    let o = c .before .before .origin-of in
-    let z : i < length ns = omega (arith, length-take-le (a .n) (now (a .numbers)) (k .pre .3)) in
-    let e : p (getD ns i 0) ≡ c .before .fits-at .result =
-    ap p (getD-take (a .n) (now (a .numbers)) i 0 (omega arith))
-    ∙ fits-by order (k .pre .4) g (asCell (a .at)) h (getD (now (a .numbers)) i 0) (asCell (o .result)) _ (c .before .fits-at .ensures) (o .ensures) in
+    let tested = c .before in
+    let at-loop = tested .before .before in
+    let start = at-loop .before .before .before in
+    let a = start .args in
+    let i = at-loop .loop .i in
+    let ns = below (a .n) in
+    let h : i < a .n = tested .before .loop-test .taken in
+    let z : i < length ns = omega (arith, length-below (a .n)) in
+    let e : fitting start (getD ns i 0) ≡ tested .fits-pose .result =
+    ap (fitting start) (number-at (a .n) i h)
+    ∙ fits-variant (axes (asSides (a .b))) (record { box = asSides (a .b); isIts = refl }) (asGrid (a .b) (now (a .board))) (asCell (a .at)) (now (a .poses)) (a .size) (a .n) (start .pre .2) i h
+    ∙ sym (tested .fits-pose .ensures) in
     ⊎-elim
-    (λ w. omega (arith, count-hit p ns i z (e ∙ w .0 .taken)))
-    (λ w. omega (arith, count-miss p ns i z (e ∙ w .0 .left)))
+    (λ w. omega (arith, count-hit (fitting start) ns i z (e ∙ w .0 .taken)))
+    (λ w. omega (arith, count-miss (fitting start) ns i z (e ∙ w .0 .left)))
     (c .if1 .came)
 
 returns : tie.Need-returns Inv-loop μ-loop
+unfolding variantsIn
 returns c =
-    let k = c .before .before .before .before .before in
-    let a = k .args in
-    let order = asOrder (a .order) in
-    let g = asGrid (a .b) (now (a .board)) in
-    let h = asGrid (a .s) (now (a .cells)) in
-    let ns = take (a .n) (now (a .numbers)) in
-    let l = c .before .loop in
-    let z : length ns ≤ l .i = omega (arith, length-take-le (a .n) (now (a .numbers)) (k .pre .3)) in
-    omega (arith, count-turned order g (asCell (a .at)) h ns, count-end (fitsBy order g (asCell (a .at)) h) ns (l .i) z)
+    let at-loop = c .before in
+    let start = at-loop .before .before .before in
+    let a = start .args in
+    let o = axes (asSides (a .b)) in
+    let l = at-loop .loop in
+    let z : length (below (a .n)) ≤ l .i = omega (arith, length-below (a .n)) in
+    let e = howMany-map (fits (scan o (asGrid (a .b) (now (a .board)))) (asCell (a .at))) (variantIn o (now (a .poses)) (a .size)) (below (a .n)) in
+    let d : l .count ≡ howMany (fitting start) (below (a .n)) = omega (arith, count-end (fitting start) (below (a .n)) (l .i) z, l .inv .2) in
+    (d ∙ sym e, omega arith)
 
 pub count-at-spec : {M : Type 1} → statement M
-count-at-spec =
-    tie.close
-    (tie.spec
-    Inv-loop
-    μ-loop
-    loop-holds
-    shared-slice-read-t15
-    origin-of-requires
-    fits-at-requires
-    add-count
-    add-i
-    loop-less
-    loop-again
-    returns)
+count-at-spec = tie.close (tie.spec Inv-loop μ-loop loop-holds fits-pose-requires add-count add-i loop-less loop-again returns)

@@ -5,7 +5,7 @@ use native.Mathlib.Omega.{arith}
 use borrow.Author.Tests.{not-true, not-false}
 use denote.Ref.{now}
 use Rattle.definitions.specs.Refusals.{sidesFit, cellsLie}
-use Rattle.placements.proofs.RefusalLaws.{Left, left-fails, left-passes, left-ends, rows-long, record-passes}
+use Rattle.placements.proofs.RefusalLaws.{Left, left-fails, left-passes, left-ends, records-long, record-passes}
 use Rattle.placements.proofs.refusals.all_cells_lie.Statement.{statement}
 use Rattle.placements.proofs.refusals.all_cells_lie.Tie as tie
 
@@ -29,14 +29,14 @@ cells-lie-requires c κs =
     let e = c .before in
     let k = e .before .before .before in
     let t = k .args .t1 in
-    record-passes t (k .pre .0) (rows-long t (k .good .0)) (e .before .loop .i) (e .loop-test .taken) sidesFit (k .pre .1)
+    record-passes t (k .pre .0) (records-long t (k .good .0)) (e .before .loop .i) (e .loop-test .taken) sidesFit (k .pre .1)
 
 returns : tie.Need-returns Inv-loop μ-loop
 returns c =
     let e = c .before .before .before in
     let k = e .before .before .before in
     let t = k .args .t1 in
-    left-fails (cellsLie (now (k .args .bytes))) t (k .pre .0) (rows-long t (k .good .0)) (e .before .loop .i) (e .before .loop .inv) (e .loop-test .taken)
+    left-fails (cellsLie (now (k .args .bytes))) t (k .pre .0) (records-long t (k .good .0)) (e .before .loop .i) (e .before .loop .inv) (e .loop-test .taken)
     (sym (c .before .cells-lie .ensures) ∙ not-true _ (c .if1 .taken))
 
 add-i : tie.Need-add-i Inv-loop μ-loop
@@ -50,14 +50,14 @@ loop-again c =
     let e = c .before .before .before in
     let k = e .before .before .before in
     let t = k .args .t1 in
-    left-passes (cellsLie (now (k .args .bytes))) t (k .pre .0) (rows-long t (k .good .0)) (e .before .loop .i) (e .before .loop .inv) (e .loop-test .taken)
+    left-passes (cellsLie (now (k .args .bytes))) t (k .pre .0) (records-long t (k .good .0)) (e .before .loop .i) (e .before .loop .inv) (e .loop-test .taken)
     (sym (c .before .cells-lie .ensures) ∙ not-false _ (c .if1 .left))
 
 returns-2 : tie.Need-returns-2 Inv-loop μ-loop
 returns-2 c =
     let k = c .before .before .before in
     let t = k .args .t1 in
-    left-ends (cellsLie (now (k .args .bytes))) t (k .pre .0) (rows-long t (k .good .0)) (c .before .loop .i) (c .before .loop .inv) (c .loop-test .left)
+    left-ends (cellsLie (now (k .args .bytes))) t (k .pre .0) (records-long t (k .good .0)) (c .before .loop .i) (c .before .loop .inv) (c .loop-test .left)
 
 pub all-cells-lie-spec : {M : Type 1} → statement M
 all-cells-lie-spec =

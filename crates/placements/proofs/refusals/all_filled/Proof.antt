@@ -5,7 +5,7 @@ use native.Mathlib.Omega.{arith}
 use borrow.Author.Needs.{needs}
 use denote.Ref.{now}
 use Rattle.definitions.specs.Refusals.{gridOf, sidesFit, cellsLie, someFilled}
-use Rattle.placements.proofs.RefusalLaws.{Left, left-fails, left-passes, left-ends, rows-long, record-passes, none-filled, some-filled}
+use Rattle.placements.proofs.RefusalLaws.{Left, left-fails, left-passes, left-ends, records-long, record-passes, none-filled, some-filled}
 use Rattle.placements.proofs.refusals.all_filled.Statement.{statement}
 use Rattle.placements.proofs.refusals.all_filled.Tie as tie
 
@@ -30,7 +30,7 @@ cells-of-requires c κs =
     let e = c .before in
     let k = e .before .before .before in
     let t = k .args .t1 in
-    let at = record-passes t (k .pre .0) (rows-long t (k .good .0)) (e .before .loop .i) (e .loop-test .taken) in
+    let at = record-passes t (k .pre .0) (records-long t (k .good .0)) (e .before .loop .i) (e .loop-test .taken) in
     (at sidesFit (k .pre .1), at (cellsLie (now (k .args .bytes))) (k .pre .2))
 
 count-filled-requires : tie.Need-count-filled-requires Inv-loop μ-loop
@@ -41,7 +41,7 @@ returns c =
     let e = c .before .before .before .before in
     let k = e .before .before .before in
     let t = k .args .t1 in
-    left-fails (λ q. someFilled (gridOf (now (k .args .bytes)) q)) t (k .pre .0) (rows-long t (k .good .0)) (e .before .loop .i) (e .before .loop .inv) (e .loop-test .taken)
+    left-fails (λ q. someFilled (gridOf (now (k .args .bytes)) q)) t (k .pre .0) (records-long t (k .good .0)) (e .before .loop .i) (e .before .loop .inv) (e .loop-test .taken)
     (none-filled (now (k .args .bytes)) _ _ (c .before .before .cells-of .ensures .0) _ (c .before .count-filled .ensures .0) (c .if1 .taken))
 
 add-i : tie.Need-add-i Inv-loop μ-loop
@@ -55,14 +55,14 @@ loop-again c =
     let e = c .before .before .before .before in
     let k = e .before .before .before in
     let t = k .args .t1 in
-    left-passes (λ q. someFilled (gridOf (now (k .args .bytes)) q)) t (k .pre .0) (rows-long t (k .good .0)) (e .before .loop .i) (e .before .loop .inv) (e .loop-test .taken)
+    left-passes (λ q. someFilled (gridOf (now (k .args .bytes)) q)) t (k .pre .0) (records-long t (k .good .0)) (e .before .loop .i) (e .before .loop .inv) (e .loop-test .taken)
     (some-filled (now (k .args .bytes)) _ _ (c .before .before .cells-of .ensures .0) _ (c .before .count-filled .ensures .0) (c .if1 .left))
 
 returns-2 : tie.Need-returns-2 Inv-loop μ-loop
 returns-2 c =
     let k = c .before .before .before in
     let t = k .args .t1 in
-    left-ends (λ q. someFilled (gridOf (now (k .args .bytes)) q)) t (k .pre .0) (rows-long t (k .good .0)) (c .before .loop .i) (c .before .loop .inv) (c .loop-test .left)
+    left-ends (λ q. someFilled (gridOf (now (k .args .bytes)) q)) t (k .pre .0) (records-long t (k .good .0)) (c .before .loop .i) (c .before .loop .inv) (c .loop-test .left)
 
 pub all-filled-spec : {M : Type 1} → statement M
 all-filled-spec =

@@ -5,7 +5,7 @@ use native.Mathlib.Omega.{arith}
 use borrow.Author.Needs.{needs}
 use borrow.Author.Tests.{not-true, not-false}
 use Rattle.definitions.specs.Refusals.{sidesFit}
-use Rattle.placements.proofs.RefusalLaws.{Left, left-fails, left-passes, left-ends, rows-long}
+use Rattle.placements.proofs.RefusalLaws.{Left, left-fails, left-passes, left-ends, records-long}
 use Rattle.placements.proofs.refusals.all_sides_fit.Statement.{statement}
 use Rattle.placements.proofs.refusals.all_sides_fit.Tie as tie
 
@@ -31,7 +31,7 @@ returns : tie.Need-returns Inv-loop μ-loop
 returns c =
     let e = c .before .before .before in
     let k = e .before .before in
-    left-fails sidesFit (k .args .t1) (k .pre) (rows-long (k .args .t1) (k .good .0)) (e .before .loop .i) (e .before .loop .inv) (e .loop-test .taken)
+    left-fails sidesFit (k .args .t1) (k .pre) (records-long (k .args .t1) (k .good .0)) (e .before .loop .i) (e .before .loop .inv) (e .loop-test .taken)
     (sym (c .before .sides-fit .ensures) ∙ not-true _ (c .if1 .taken))
 
 add-i : tie.Need-add-i Inv-loop μ-loop
@@ -44,13 +44,13 @@ loop-again : tie.Need-loop-again Inv-loop μ-loop
 loop-again c =
     let e = c .before .before .before in
     let k = e .before .before in
-    left-passes sidesFit (k .args .t1) (k .pre) (rows-long (k .args .t1) (k .good .0)) (e .before .loop .i) (e .before .loop .inv) (e .loop-test .taken)
+    left-passes sidesFit (k .args .t1) (k .pre) (records-long (k .args .t1) (k .good .0)) (e .before .loop .i) (e .before .loop .inv) (e .loop-test .taken)
     (sym (c .before .sides-fit .ensures) ∙ not-false _ (c .if1 .left))
 
 returns-2 : tie.Need-returns-2 Inv-loop μ-loop
 returns-2 c =
     let k = c .before .before in
-    left-ends sidesFit (k .args .t1) (k .pre) (rows-long (k .args .t1) (k .good .0)) (c .before .loop .i) (c .before .loop .inv) (c .loop-test .left)
+    left-ends sidesFit (k .args .t1) (k .pre) (records-long (k .args .t1) (k .good .0)) (c .before .loop .i) (c .before .loop .inv) (c .loop-test .left)
 
 pub all-sides-fit-spec : {M : Type 1} → statement M
 all-sides-fit-spec =

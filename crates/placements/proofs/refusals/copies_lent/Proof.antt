@@ -2,7 +2,7 @@
 use Prim.Native.Nat.{_+_, _-_, _*_, _≤_}
 use mathlib.Core.Path.{_≡_}
 use native.Mathlib.Omega.{arith}
-use Rattle.placements.proofs.RefusalLaws.{copiesFrom, copies-next, copies-end, rows-long}
+use Rattle.placements.proofs.RefusalLaws.{copiesFrom, copies-next, copies-end, records-long}
 use Rattle.placements.proofs.refusals.copies_lent.Statement.{statement}
 use Rattle.placements.proofs.refusals.copies_lent.Tie as tie
 
@@ -38,13 +38,13 @@ loop-again c =
     let e = c .before .before in
     let k = e .before .before in
     let t = k .args .t1 in
-    omega (arith, c .struct-known .given .1 .1 .1 .0, copies-next t (rows-long t (k .good .0)) (e .before .loop .i) (k .pre) (e .loop-test .taken))
+    omega (arith, c .struct-known .given .1 .1 .1 .0, copies-next t (records-long t (k .good .0)) (e .before .loop .i) (k .pre) (e .loop-test .taken))
 
 returns : tie.Need-returns Inv-loop μ-loop
 returns c =
     let k = c .before .before in
     let t = k .args .t1 in
-    omega (arith, copies-end t (rows-long t (k .good .0)) (c .before .loop .i) (c .loop-test .left))
+    omega (arith, copies-end t (records-long t (k .good .0)) (c .before .loop .i) (c .loop-test .left))
 
 pub copies-lent-spec : {M : Type 1} → statement M
 copies-lent-spec =

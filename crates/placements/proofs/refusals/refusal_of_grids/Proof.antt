@@ -9,7 +9,7 @@ use lib.ListN.{drop}
 use Rattle.lists.specs.Lists.{all, sum}
 use Rattle.lists.proofs.TestLaws.{and-left, and-right}
 use Rattle.definitions.specs.Refusals.{gridOf, sidesFit, cellsLie, areBits, firstThatApplies}
-use Rattle.placements.specs.Tables.{recordsOf}
+use Rattle.placements.specs.Pieces.{recordsOf}
 use Rattle.placements.specs.Stages.{gridRows}
 use Rattle.placements.proofs.RefusalLaws.{grid-rows, bits-told, cells-count}
 use Rattle.placements.proofs.refusals.refusal_of_grids.Statement.{statement}
@@ -23,7 +23,7 @@ board-sound k =
     (and-left (sidesFit (k .args .board)) (all sidesFit rs) (k .pre .1), and-left (lies (k .args .board)) (all lies rs) (k .pre .2))
 
 pieces-sound : (k : tie.Start)
-    → (k .args .t .n ≤ 16) × T (all sidesFit (recordsOf (k .args .t))) × T (all (cellsLie (now (k .args .bytes))) (recordsOf (k .args .t)))
+    → (k .args .t .count ≤ 16) × T (all sidesFit (recordsOf (k .args .t))) × T (all (cellsLie (now (k .args .bytes))) (recordsOf (k .args .t)))
 pieces-sound k =
     let rs = recordsOf (k .args .t) in
     let lies = cellsLie (now (k .args .bytes)) in

@@ -10,9 +10,9 @@ use lib.ListN.{drop}
 use Rattle.lists.specs.Lists.{all}
 use Rattle.lists.proofs.TestLaws.{holds}
 use Rattle.definitions.specs.Refusals.{sidesFit, cellsLie, firstThatApplies}
-use Rattle.placements.specs.Tables.{recordsOf}
+use Rattle.placements.specs.Pieces.{recordsOf}
 use Rattle.placements.specs.Stages.{lentRows}
-use Rattle.placements.proofs.RefusalLaws.{rows-long, records-count}
+use Rattle.placements.proofs.RefusalLaws.{records-long, records-count}
 use Rattle.placements.proofs.refusals.refusal_of_lent.Statement.{statement}
 use Rattle.placements.proofs.refusals.refusal_of_lent.Tie as tie
 
@@ -53,13 +53,13 @@ returns : tie.Need-returns
 unfolding lentRows
 returns c =
     let k = c .before .before .before in
-    sym (rw (records-count (k .args .t) (rows-long (k .args .t) (k .good .0)), lt-ltb _ _ (c .if1 .taken)))
+    sym (rw (records-count (k .args .t) (records-long (k .args .t) (k .good .0)), lt-ltb _ _ (c .if1 .taken)))
 
 past-2 : (c : tie.Else1) → rest (start c) 0 ≡ rest (start c) 1
 unfolding lentRows
 past-2 c =
     let k = start c in
-    rw (records-count (k .args .t) (rows-long (k .args .t) (k .good .0)), le-ltb _ _ (c .if1 .left))
+    rw (records-count (k .args .t) (records-long (k .args .t) (k .good .0)), le-ltb _ _ (c .if1 .left))
 
 -- ---- 3: of the board, then of the pieces
 sides-fit-requires : tie.Need-sides-fit-requires

@@ -3,22 +3,22 @@ use Prim.Native.Nat.{_-_}
 use mathlib.Core.Path.{refl}
 use native.Mathlib.Omega.{arith}
 use denote.Ref.{now}
-use Rattle.placements.proofs.RefusalLaws.{rows-long}
+use Rattle.placements.proofs.RefusalLaws.{records-long}
 use Rattle.placements.proofs.MergingLaws.{record-fits}
 use Rattle.placements.proofs.StrippingLaws.{StrippedTo, stripped-none, stripped-next, stripped-all}
 use Rattle.placements.proofs.stripping.strip_pieces.Statement.{statement}
 use Rattle.placements.proofs.stripping.strip_pieces.Tie as tie
 
 abbrev Inv-loop : tie.InvT-loop
-Inv-loop bytes out₀ t n table₀ i₀ out table i = StrippedTo t bytes out₀ i table out
+Inv-loop bytes out₀ t n made₀ i₀ out made i = StrippedTo t bytes out₀ i made out
 
 abbrev μ-loop : tie.MeasureT-loop
-μ-loop bytes out₀ t n table₀ i₀ out table i = n - i
+μ-loop bytes out₀ t n made₀ i₀ out made i = n - i
 
 loop-holds : tie.Need-loop-holds Inv-loop μ-loop
 loop-holds c =
     let start = c .before .before in
-    stripped-none (start .args .t1) (now (start .args .bytes)) (now (start .args .out)) (rows-long (start .args .t1) (start .good .0))
+    stripped-none (start .args .t1) (now (start .args .bytes)) (now (start .args .out)) (records-long (start .args .t1) (start .good .0))
 
 mul-p : tie.Need-mul-p Inv-loop μ-loop
 mul-p c = let start = c .before .before .before .before in omega (arith, start .pre .0 .few)
@@ -38,7 +38,7 @@ strip-record-requires c κs =
     let at-loop = in-loop .before in
     let start = at-loop .before .before .before in
     let t = start .args .t1 in
-    let fits = record-fits t (now (start .args .bytes)) (start .pre .0) (rows-long t (start .good .0)) (at-loop .loop .i) (in-loop .loop-test .taken) in
+    let fits = record-fits t (now (start .args .bytes)) (start .pre .0) (records-long t (start .good .0)) (at-loop .loop .i) (in-loop .loop-test .taken) in
     (fits .0, fits .1, omega (arith, start .pre .0 .few, start .pre .1, at-loop .loop .inv .before .long))
 
 mul-q : tie.Need-mul-q Inv-loop μ-loop
@@ -61,7 +61,7 @@ loop-again c =
     let start = at-loop .before .before .before in
     let t = start .args .t1 in
     let l = at-loop .loop in
-    stripped-next t (now (start .args .bytes)) (now (start .args .out)) (rows-long t (start .good .0)) (l .i) (l .table) (l .out) (l .inv) (start .pre .0 .few) (in-loop .loop-test .taken) _ refl
+    stripped-next t (now (start .args .bytes)) (now (start .args .out)) (records-long t (start .good .0)) (l .i) (l .made) (l .out) (l .inv) (start .pre .0 .few) (in-loop .loop-test .taken) _ refl
     (stripped .strip-record .result) _ (stripped .strip-record .ensures) _ refl
 
 same-length : tie.Need-same-length Inv-loop μ-loop
@@ -73,7 +73,7 @@ returns c =
     let start = at-loop .before .before .before in
     let t = start .args .t1 in
     let l = at-loop .loop in
-    stripped-all t (now (start .args .bytes)) (now (start .args .out)) (rows-long t (start .good .0)) (l .i) (l .table) (l .out) (l .inv) (start .pre .0 .few) (c .loop-test .left)
+    stripped-all t (now (start .args .bytes)) (now (start .args .out)) (records-long t (start .good .0)) (l .i) (l .made) (l .out) (l .inv) (start .pre .0 .few) (c .loop-test .left)
 
 pub strip-pieces-spec : {M : Type 1} → statement M
 strip-pieces-spec =

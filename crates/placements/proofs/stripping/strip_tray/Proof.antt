@@ -2,9 +2,9 @@
 use native.Mathlib.Omega.{arith}
 use borrow.Author.Needs.{needs}
 use denote.Ref.{now}
-use Rattle.placements.proofs.RefusalLaws.{rows-long}
+use Rattle.placements.proofs.RefusalLaws.{records-long}
 use Rattle.placements.proofs.CountingLaws.{Lent, lent-passes, sound, board-fits}
-use Rattle.placements.proofs.StrippingLaws.{strips-tray}
+use Rattle.placements.proofs.StrippingLaws.{grids-written, strips-tray}
 use Rattle.placements.proofs.stripping.strip_tray.Statement.{statement}
 use Rattle.placements.proofs.stripping.strip_tray.Tie as tie
 
@@ -32,8 +32,13 @@ returns c =
     let at-board = at-pieces .before .before .before .before in
     let start = at-board .before .before .before .before in
     let t = start .args .t in
-    strips-tray t (start .args .board) (now (start .args .bytes)) (lent start) (rows-long t (start .good .0)) (at-board .strip-record .result) (at-pieces .strip-pieces .result) (now (start .args .out)) _ _
-    (at-board .strip-record .ensures) (at-pieces .strip-pieces .ensures) (start .pre .1)
+    let bytes = now (start .args .bytes) in
+    let board = at-board .strip-record in
+    let pieces = at-pieces .strip-pieces in (
+      strips-tray t (start .args .board) bytes (lent start) (records-long t (start .good .0)) (board .result) (pieces .result) (now (start .args .out)) _ _
+          (board .ensures) (pieces .ensures) (start .pre .1),
+      grids-written t (start .args .board) bytes (board .result) (pieces .result) (now (start .args .out)) _ _ (board .ensures) (pieces .ensures),
+    )
 
 pub strip-tray-spec : {M : Type 1} → statement M
 strip-tray-spec = tie.close (tie.spec strip-record-requires strip-pieces-requires same-length returns)

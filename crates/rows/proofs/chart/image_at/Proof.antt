@@ -1,4 +1,4 @@
--- `image_at` meets its contract: the images stand behind the first 128 numbers of the chart. Assumes nothing.
+-- `image_at` meets its contract: the images stand behind the first 2049 numbers of the chart. Assumes nothing.
 use borrow.Author.Needs.{needs}
 use lib.Seq.{getD-drop}
 use Rattle.rows.specs.Charts.{imagesPart}

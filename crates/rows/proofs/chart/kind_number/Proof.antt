@@ -1,4 +1,4 @@
--- `kind_number` meets its contract: the kinds stand behind the first 6784 numbers of the chart. Assumes nothing.
+-- `kind_number` meets its contract: the kinds stand behind the first 8705 numbers of the chart. Assumes nothing.
 use borrow.Author.Needs.{needs}
 use lib.Seq.{getD-drop}
 use Rattle.rows.specs.Charts.{kindsPart}

@@ -1,4 +1,4 @@
--- `piece_number` meets its contract: the pieces stand behind the first 6832 numbers of the chart. Assumes nothing.
+-- `piece_number` meets its contract: the pieces stand behind the first 8753 numbers of the chart. Assumes nothing.
 use borrow.Author.Needs.{needs}
 use lib.Seq.{getD-drop}
 use Rattle.rows.specs.Charts.{piecesPart}

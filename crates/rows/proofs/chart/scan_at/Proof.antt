@@ -1,4 +1,4 @@
--- `scan_at` meets its contract: the scan numbers stand behind the first 6272 numbers of the chart. Assumes nothing.
+-- `scan_at` meets its contract: the scan numbers stand behind the first 8193 numbers of the chart. Assumes nothing.
 use borrow.Author.Needs.{needs}
 use lib.Seq.{getD-drop}
 use Rattle.rows.specs.Charts.{scansPart}

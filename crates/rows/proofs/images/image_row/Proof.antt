@@ -27,7 +27,7 @@ moved-mask-requires c κs =
     let start = c .before .before .before .before .before in
     let a = start .args in
     let q = start .pre .1 .1 in
-    (q .0, q .1, start .pre .0 .2, images-small (a .d .cells) (imagesOf (now (a .chart)) (a .d .cells) (a .m)) (q .0) (q .2))
+    (q .0, q .1, start .pre .0 .2, images-small (a .d .size) (imagesOf (now (a .chart)) (a .d .size) (a .m)) (q .0) (q .2))
 
 find-row-requires : tie.Need-find-row-requires
 find-row-requires c κs = search needs
@@ -43,7 +43,7 @@ returns c =
     let q = start .pre .1 in
     let partners = map (λ (j : ℕ). getD (kindsPart (now (a .chart))) (3 * j + 1) 0) (below (a .d .kinds)) in
     c .find-row .ensures
-    ∙ image-is (rowsIn (now (a .work)) (a .d .rows)) (now (a .work)) partners (imagesOf (now (a .chart)) (a .d .cells) (a .m)) (a .odd) (a .r) (a .d .cells)
+    ∙ image-is (rowsIn (now (a .work)) (a .d .rows)) (now (a .work)) partners (imagesOf (now (a .chart)) (a .d .size) (a .m)) (a .odd) (a .r) (a .d .size)
     (mask .mask-at .result) (moved .moved-mask .result) (after .kind-after .result) (mask .mask-at .ensures) (q .1 .0) (q .0 .3) (q .1 .2)
     (moved .moved-mask .ensures) (after .kind-after .ensures ∙ ap (kindBy partners (a .odd)) (kind .kind-at .ensures))
 

@@ -1,110 +1,96 @@
--- `moved_mask` meets its contract. The loop's invariant: i is a cell of the mask or past the last, and the images taken up so far and those of the cells from i on
--- are all (`TakenUp`). Assumes nothing.
-use Prim.Native.Nat.{ℕ, _+_, _-_, _≤_, _<_}
-use mathlib.Core.Bool.{true}
-use mathlib.Core.Path.{_≡_, sym, _∙_}
+-- `moved_mask` meets its contract: the images of the numbers of its two words are those of the mask's. Assumes nothing.
+use Prim.Native.Nat.{ℕ, _+_, _-_, _*_, _≤_, _<_}
+use mathlib.Core.Bool.{Bool}
+use mathlib.Core.Path.{_≡_, sym, ap, ap₂, _∙_, subst}
 use native.Mathlib.Omega.{arith}
 use borrow.Author.Needs.{needs}
 use denote.Ref.{now}
 use lib.ListN.{getD}
-use Rattle.masks.specs.Masks.{has}
-use Rattle.rows.specs.Charts.{imagesOf}
+use Rattle.masks.specs.Masks.{either}
+use Rattle.rows.specs.Charts.{imagesOf, imagesPart}
 use Rattle.rows.proofs.ChartLaws.{image-of, image-small}
-use Rattle.rows.proofs.MovedLaws.{TakenUp, taken-none, taken-on, taken-hit, taken-all}
+use Rattle.rows.proofs.MovedLaws.{word-images, words-images}
 use Rattle.rows.proofs.images.moved_mask.Statement.{statement}
 use Rattle.rows.proofs.images.moved_mask.Tie as tie
 
-abbrev Inv-loop : tie.InvT-loop
-Inv-loop mask chart m size moved₀ i₀ moved i =
-    (i ≤ 128) × (i < 128 → has mask i ≡ true) × TakenUp (has mask) (λ j. getD (imagesOf chart size m) j 0) size i (has moved)
+-- where the map takes number i, and that it is a cell
+abbrev to : tie.Start → ℕ → ℕ
+to start i = let a = start .args in getD (imagesOf (now (a .chart)) (a .size) (a .m)) i 0
 
-abbrev μ-loop : tie.MeasureT-loop
-μ-loop mask chart m size moved₀ i₀ moved i = 128 - i
+place : (start : tie.Start) (i : ℕ) → i < start .args .size → getD (imagesPart (now (start .args .chart))) (128 * start .args .m + i) 0 ≡ to start i
+place start i h = let a = start .args in sym (image-of (now (a .chart)) (a .size) (a .m) i h)
 
--- where the map takes a cell
-abbrev to : tie.Start Inv-loop μ-loop → ℕ → ℕ
-to start j = let a = start .args in getD (imagesOf (now (a .chart)) (a .size) (a .m)) j 0
+small : (start : tie.Start) (i : ℕ) → i < start .args .size → getD (imagesPart (now (start .args .chart))) (128 * start .args .m + i) 0 < 128
+small start i h = let a = start .args in let p = start .pre in image-small (now (a .chart)) (a .size) (a .m) (p .2) (p .0) (p .1) (p .3) i h
 
-empty-requires : tie.Need-empty-requires Inv-loop μ-loop
-empty-requires c κs = search needs
+-- the same behind the first 64
+behind : (start : tie.Start) (i : ℕ) → getD (imagesPart (now (start .args .chart))) (128 * start .args .m + 64 + i) 0 ≡ getD (imagesPart (now (start .args .chart))) (128 * start .args .m + (64 + i)) 0
+behind start i = let z : 128 * start .args .m + 64 + i ≡ 128 * start .args .m + (64 + i) = omega arith in ap (λ (j : ℕ). getD (imagesPart (now (start .args .chart))) j 0) z
 
-next-cell-requires : tie.Need-next-cell-requires Inv-loop μ-loop
-next-cell-requires c κs = omega arith
+mul-moved-word : tie.Need-mul-moved-word
+mul-moved-word c = search needs
 
-loop-holds : tie.Need-loop-holds Inv-loop μ-loop
-loop-holds c =
+moved-word-requires : tie.Need-moved-word-requires
+moved-word-requires c κs = let start = c .before .before in let p = start .pre .1 in (c .if1 .taken, let l = c .if1 .taken in omega arith, start .pre .2, small start)
+
+returns : tie.Need-returns
+returns c =
     let start = c .before .before .before in
     let a = start .args in
-    let n = c .next-cell .ensures in (
-      n .upTo,
-      n .stops,
-      taken-on (has (a .mask)) (to start) (a .size) 0 (c .next-cell .result) _ n
-          (taken-none (has (a .mask)) (to start) (a .size) _ (c .before .empty .ensures)),
-    )
+    c .moved-word .ensures
+    ∙ word-images (a .mask .low) (a .mask .high) (a .size) (λ i. getD (imagesPart (now (a .chart))) (128 * a .m + i) 0) (to start) (c .before .if1 .taken) (place start)
 
-mul-image-at : tie.Need-mul-image-at Inv-loop μ-loop
-mul-image-at c = omega arith
+mul-moved-word-2 : tie.Need-mul-moved-word-2
+mul-moved-word-2 c = search needs
 
-add-image-at : tie.Need-add-image-at Inv-loop μ-loop
-add-image-at c = omega arith
+moved-word-requires-2 : tie.Need-moved-word-requires-2
+moved-word-requires-2 c κs =
+    let start = c .before .before in
+    let p = start .pre .1 in
+    let l = c .if1 .left in
+    (omega arith, omega arith, start .pre .2, λ i h. small start i (omega arith))
 
-image-at-requires : tie.Need-image-at-requires Inv-loop μ-loop
-image-at-requires c κs = search needs
+mul-moved-word-3 : tie.Need-mul-moved-word-3
+mul-moved-word-3 c = search needs
 
-with-cell-requires : tie.Need-with-cell-requires Inv-loop μ-loop
-with-cell-requires c κs =
-    let at-loop = c .before .before in
-    let start = at-loop .before .before .before .before in
+add-moved-word : tie.Need-add-moved-word
+add-moved-word c = search needs
+
+sub-moved-word : tie.Need-sub-moved-word
+sub-moved-word c = search needs
+
+moved-word-requires-3 : tie.Need-moved-word-requires-3
+moved-word-requires-3 c κs =
+    let start = c .before .before .before in
+    let p = start .pre .1 in
+    let q = start .pre .0 in
+    let l = c .before .if1 .left in
+    (omega arith, omega arith, start .pre .2, λ i h. subst (λ (n : ℕ). n < 128) (sym (behind start i)) (small start (64 + i) (omega arith)))
+
+union-requires : tie.Need-union-requires
+union-requires c κs = search needs
+
+returns-2 : tie.Need-returns-2
+returns-2 c =
+    let start = c .before .before .before .before .before in
     let a = start .args in
-    let p = start .pre in
-    omega (arith, c .image-at .ensures, image-small (now (a .chart)) (a .size) (a .m) (p .2) (p .0) (p .1) (p .3) (at-loop .loop .i) (omega arith))
-
-add-next-cell : tie.Need-add-next-cell Inv-loop μ-loop
-add-next-cell c = omega arith
-
-next-cell-requires-2 : tie.Need-next-cell-requires-2 Inv-loop μ-loop
-next-cell-requires-2 c κs = omega arith
-
-loop-less : tie.Need-loop-less Inv-loop μ-loop
-loop-less c = omega (arith, c .next-cell2 .ensures .from)
-
-loop-again : tie.Need-loop-again Inv-loop μ-loop
-loop-again c =
-    let image = c .before .before in
-    let at-loop = image .before .before in
-    let start = at-loop .before .before .before .before in
-    let a = start .args in
-    let l = at-loop .loop in
-    let n = c .next-cell2 .ensures in
-    let is = image .image-at .ensures ∙ sym (image-of (now (a .chart)) (a .size) (a .m) (l .i) (omega arith)) in (
-      n .upTo,
-      n .stops,
-      taken-on (has (a .mask)) (to start) (a .size) (l .i + 1) (c .next-cell2 .result) _ n
-          (taken-hit (has (a .mask)) (to start) (a .size) (l .i) (has (l .moved)) (omega arith) (l .inv .2) (l .inv .1 (omega arith)) _ is _
-          (c .before .with-cell .ensures)),
-    )
-
-returns : tie.Need-returns Inv-loop μ-loop
-returns c =
-    let at-loop = c .before in
-    let start = at-loop .before .before .before .before in
-    taken-all (has (start .args .mask)) (to start) (start .args .size) (at-loop .loop .i) _ (omega arith) (at-loop .loop .inv .2)
+    let l = c .before .before .before .if1 .left in
+    c .union .ensures ∙ ap₂ (λ (x y : ℕ → Bool). either x y) (c .before .before .moved-word2 .ensures) (c .before .moved-word3 .ensures)
+    ∙ words-images (a .mask .low) (a .mask .high) (a .size) (λ i. getD (imagesPart (now (a .chart))) (128 * a .m + i) 0) (to start) (λ i. getD (imagesPart (now (a .chart))) (128 * a .m + 64 + i) 0) (omega arith)
+    (λ i h. place start i (omega arith)) (λ i h. behind start i ∙ place start (64 + i) (omega arith))
 
 pub moved-mask-spec : {M : Type 1} → statement M
 moved-mask-spec =
     tie.close
     (tie.spec
-    Inv-loop
-    μ-loop
-    empty-requires
-    next-cell-requires
-    loop-holds
-    mul-image-at
-    add-image-at
-    image-at-requires
-    with-cell-requires
-    add-next-cell
-    next-cell-requires-2
-    loop-less
-    loop-again
-    returns)
+    mul-moved-word
+    moved-word-requires
+    returns
+    mul-moved-word-2
+    moved-word-requires-2
+    mul-moved-word-3
+    add-moved-word
+    sub-moved-word
+    moved-word-requires-3
+    union-requires
+    returns-2)

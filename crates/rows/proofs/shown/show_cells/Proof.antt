@@ -14,10 +14,10 @@ use Rattle.rows.proofs.shown.show_cells.Statement.{statement}
 use Rattle.rows.proofs.shown.show_cells.Tie as tie
 
 abbrev Inv-loop : tie.InvT-loop
-Inv-loop d chart last shown₀ c₀ shown c = (length shown ≡ length shown₀) × (c ≤ d .cells) × Shown c (take (d .places) (scansPart chart)) last shown
+Inv-loop d chart last shown₀ c₀ shown c = (length shown ≡ length shown₀) × (c ≤ d .size) × Shown c (take (d .places) (scansPart chart)) last shown
 
 abbrev μ-loop : tie.MeasureT-loop
-μ-loop d chart last shown₀ c₀ shown c = d .cells - c
+μ-loop d chart last shown₀ c₀ shown c = d .size - c
 
 loop-holds : tie.Need-loop-holds Inv-loop μ-loop
 loop-holds c = (search needs, omega arith, record { piece = below-none _; copy = below-none _ })
@@ -81,7 +81,7 @@ returns c =
     let at-loop = c .before .before in
     let l = at-loop .loop in
     let a = at-loop .before .before .before .before .args in
-    let e : l .c ≡ a .d .cells = omega arith in
+    let e : l .c ≡ a .d .size = omega arith in
     subst (λ (n : ℕ). Shown n (take (a .d .places) (scansPart (now (a .chart)))) (now (a .last)) (l .shown)) e (l .inv .2)
 
 pub show-cells-spec : {M : Type 1} → statement M

@@ -12,12 +12,12 @@ use Rattle.definitions.specs.Refusals.{gridOf, sidesOf, placementCount}
 use Rattle.shape.specs.Grids.{Whole, asGrid}
 use Rattle.shape.specs.Scans.{asOrder}
 use Rattle.shape.proofs.PlaceLaws.{volume-small}
-use Rattle.placements.specs.Tables.{recordsOf, lentIn}
+use Rattle.placements.specs.Pieces.{recordsOf, lentIn}
 use Rattle.placements.specs.Counting.{OnBoard}
 use Rattle.placements.proofs.RefusalLaws.{sides-small, grid-is, grid-whole}
 use Rattle.placements.proofs.CountingLaws.{Lent, lent-passes, board-fits}
 use Rattle.rows.specs.Boards.{Numbered}
-use Rattle.rows.proofs.BuildSystemLaws.{places-below, numbered-board, images-few, rows-are, rows-few, rows-first, rows-behind, built-lent}
+use Rattle.rows.proofs.BuildSystemLaws.{places-below, numbered-board, images-few, rows-are, rows-few, rows-in-range, rows-behind, built-lent}
 use Rattle.rows.proofs.system.build_lent.Statement.{statement}
 use Rattle.rows.proofs.system.build_lent.Tie as tie
 
@@ -37,7 +37,7 @@ to-turned c = c .before .before .before .before .before
 abbrev to-mirrored : tie.After-build-rows → tie.After-board-images2
 to-mirrored c = c .before .before .before .before .before
 
-abbrev to-rows : tie.After-chain-rows → tie.After-build-rows
+abbrev to-rows : tie.After-range-rows → tie.After-build-rows
 to-rows c = c .before .before .before .before .before
 
 -- ---- what is lent, and the board
@@ -69,11 +69,11 @@ board-is c =
 abbrev order : tie.After-plan-axis-order → List ℕ
 order c = asOrder (c .plan-axis-order .result)
 
-cells-on : (c : tie.After-plan-axis-order) → (let a = to-start (c .before) .args in OnBoard (order c) (gridOf (now (a .bytes)) (a .board)) (now (a .places)) (a .counts .cells))
+cells-on : (c : tie.After-plan-axis-order) → (let a = to-start (c .before) .args in OnBoard (order c) (gridOf (now (a .bytes)) (a .board)) (now (a .places)) (a .counts .size))
 cells-on c =
     let z = to-start (c .before) in
     let a = z .args in
-    subst (λ (o : List ℕ). OnBoard o (gridOf (now (a .bytes)) (a .board)) (now (a .places)) (a .counts .cells))
+    subst (λ (o : List ℕ). OnBoard o (gridOf (now (a .bytes)) (a .board)) (now (a .places)) (a .counts .size))
     (ap axes (sym (c .before .before .sides-of .ensures)) ∙ sym (c .plan-axis-order .ensures)) (z .pre .0 .1 .onBoard)
 
 scans-room : (z : tie.Start) → volume (gridOf (now (z .args .bytes)) (z .args .board) .sides) ≤ 512
@@ -86,20 +86,20 @@ numbers c =
     let o = c .before .before in
     let z = to-start (to-board c) in
     let a = z .args in
-    numbered-board (order o) (gridOf (now (a .bytes)) (a .board)) (now (a .places)) (c .number-places .last .1 .1 .0) (a .counts .cells) 512 (cells-on o) (scans-room z) (c .number-places .ensures)
+    numbered-board (order o) (gridOf (now (a .bytes)) (a .board)) (now (a .places)) (c .number-places .last .1 .1 .0) (a .counts .size) 512 (cells-on o) (scans-room z) (c .number-places .ensures)
 
 -- what the images ask of the board
 board-ready : (c : tie.After-number-places)
     → (let a = to-start (to-board c) .args in let o = order (c .before .before) in
     Whole (to-board c .before .sides-of .result) (now (to-board c .cells-of .result)) × Numbered o (boardGrid (to-board c)) (c .number-places .last .1 .1 .0)
-    × OnBoard o (boardGrid (to-board c)) (now (a .places)) (a .counts .cells))
+    × OnBoard o (boardGrid (to-board c)) (now (a .places)) (a .counts .size))
 board-ready c =
     let f = to-board c in
     let a = to-start f .args in
     let o = order (c .before .before) in (
       board-whole f,
       subst (λ (g : Grid). Numbered o g (c .number-places .last .1 .1 .0)) (sym (board-is f)) (numbers c),
-      subst (λ (g : Grid). OnBoard o g (now (a .places)) (a .counts .cells)) (sym (board-is f)) (cells-on (c .before .before)),
+      subst (λ (g : Grid). OnBoard o g (now (a .places)) (a .counts .size)) (sym (board-is f)) (cells-on (c .before .before)),
     )
 
 turns-few : (c : tie.After-board-images) → c .board-images .result ≤ 24
@@ -107,7 +107,7 @@ turns-few c =
     let n = to-numbers c in
     let f = to-board n in
     images-few (now (to-start f .args .images)) (c .board-images .last .1 .1 .1 .1 .1 .1 .1 .1 .0) (order (n .before .before)) (boardGrid f) 0
-    (c .board-images .result) (to-start f .args .counts .cells) 0 24
+    (c .board-images .result) (to-start f .args .counts .size) 0 24
     (c .board-images .ensures)
 
 -- the words after the rows are written, and the rows are few
@@ -134,7 +134,7 @@ number-places-requires c κs =
     let o = c .before in
     let z = to-start (o .before) in
     let on = cells-on o in
-    (on .few, on .within, places-below (order o) (gridOf (now (z .args .bytes)) (z .args .board)) (now (z .args .places)) (z .args .counts .cells) 512 on (scans-room z))
+    (on .few, on .within, places-below (order o) (gridOf (now (z .args .bytes)) (z .args .board)) (now (z .args .places)) (z .args .counts .size) 512 on (scans-room z))
 
 slice-aggregate-board-images : tie.Need-slice-aggregate-board-images
 slice-aggregate-board-images c = search needs
@@ -162,8 +162,8 @@ build-rows-requires c κs =
     let z = to-start (to-board n) in
     ((z .pre .0 .0, z .pre .0 .1, z .pre .1 .0, z .pre .1 .1, numbers n), omega (arith, z .pre .0 .2, z .pre .1 .2))
 
-chain-rows-requires : tie.Need-chain-rows-requires
-chain-rows-requires c κs =
+range-rows-requires : tie.Need-range-rows-requires
+range-rows-requires c κs =
     let r = c .before .before .before .before in
     let z = from-rows r in
     let w = r .build-rows in
@@ -171,7 +171,7 @@ chain-rows-requires c κs =
       omega (arith, small, w .kept .1 .1 .1 .1 .1 .1 .1 .1 .1 .0, z .pre .1 .2),
       small,
       z .pre .1 .3,
-      rows-first (tray z) (z .pre .0 .3) (few z) (now (z .args .work)) (written r) (w .result) (w .ensures),
+      rows-in-range (tray z) (z .pre .0 .3) (few z) (now (z .args .work)) (written r) (w .result) (w .ensures),
     )
 
 sub-t38 : tie.Need-sub-t38
@@ -188,8 +188,8 @@ same-length-3 c = search needs
 
 returns : tie.Need-returns
 returns c =
-    let chains = c .before .before .before .before in
-    let rows = to-rows chains in
+    let ranges = c .before .before in
+    let rows = to-rows ranges in
     let mirrored = to-mirrored rows in
     let turned = to-turned mirrored in
     let n = to-numbers turned in
@@ -197,13 +197,12 @@ returns c =
     let z = to-start f in
     let a = z .args in
     let w = rows .build-rows in
-    let last = chains .chain-rows .last .0 in
-    built-lent (recordsOf (a .t)) (a .board) (now (a .bytes)) (order (n .before .before)) (boardGrid f) (board-is f) (now (a .places)) (a .counts .cells)
-    (cells-on (n .before .before)) (now (a .work)) last (chains .chain-rows .last .1 .1 .0) (now (a .images)) (turned .board-images .last .1 .1 .1 .1 .1 .1 .1 .1 .0) (mirrored .board-images2 .last .1 .1 .1 .1 .1 .1 .1 .1 .0) (w .result)
+    built-lent (recordsOf (a .t)) (a .board) (now (a .bytes)) (order (n .before .before)) (boardGrid f) (board-is f) (now (a .places)) (a .counts .size)
+    (cells-on (n .before .before)) (now (a .work)) (written rows) (ranges .range-rows .last .1 .1 .0) (now (a .images)) (turned .board-images .last .1 .1 .1 .1 .1 .1 .1 .1 .0) (mirrored .board-images2 .last .1 .1 .1 .1 .1 .1 .1 .1 .0) (w .result)
     (turned .board-images .result) (mirrored .board-images2 .result)
-    (chains .chain-rows .ensures .1 ∙ rows-are (tray z) (z .pre .0 .3) (few z) (now (a .work)) (written rows) (w .result) (w .ensures))
-    (turned .board-images .ensures) (mirrored .board-images2 .ensures) (chains .chain-rows .ensures .0)
-    (rows-behind (tray z) (z .pre .0 .3) (few z) (now (a .work)) (written rows) (w .result) (w .ensures) last (chains .chain-rows .ensures .2))
+    (rows-are (tray z) (z .pre .0 .3) (few z) (now (a .work)) (written rows) (w .result) (w .ensures))
+    (turned .board-images .ensures) (mirrored .board-images2 .ensures) (ranges .range-rows .ensures)
+    (rows-behind (tray z) (z .pre .0 .3) (few z) (now (a .work)) (written rows) (w .result) (w .ensures))
 
 pub build-lent-spec : {M : Type 1} → statement M
 build-lent-spec =
@@ -220,7 +219,7 @@ build-lent-spec =
     board-images-requires-2
     slice-aggregate-build-rows
     build-rows-requires
-    chain-rows-requires
+    range-rows-requires
     sub-t38
     same-length
     same-length-2

@@ -13,20 +13,20 @@ use Rattle.definitions.specs.Grid.{Sides, volume}
 use Rattle.definitions.specs.Stripping.{FitsIn}
 use Rattle.shape.specs.Coords.{asSides}
 use Rattle.shape.proofs.PlaceLaws.{volume-small}
-use Rattle.placements.specs.Tables.{recordsOf}
+use Rattle.placements.specs.Pieces.{recordsOf}
 use Rattle.placements.specs.Stripping.{lentPlace}
 use Rattle.placements.proofs.CountingLaws.{Lent, lent-passes}
 use Rattle.rows.specs.Built.{frameAt}
 use Rattle.rows.specs.declared.Dims.{Dims}
 use Rattle.rows.proofs.KindListLaws.{zeros-small}
-use Rattle.rows.proofs.LayingLaws.{laid-chained, laid-charted, laid-system}
+use Rattle.rows.proofs.LayingLaws.{laid-ranged, laid-charted, laid-system}
 use Rattle.rows.proofs.BuildSystemLaws.{part-below, new-below, new-scans, system-framed}
 use Rattle.rows.proofs.system.build_system.Statement.{statement}
 use Rattle.rows.proofs.system.build_system.Tie as tie
 
 -- ---- from a place of the code back to an earlier one
 abbrev to-start : tie.After-build-lent → tie.Start
-to-start c = c .before .before .before .before .before .before .before .before .before .before .before
+to-start c = c .before .before .before .before .before .before .before .before .before .before .before .before
 
 abbrev to-built : tie.After-list-kinds → tie.After-build-lent
 to-built c = c .before .before .before .before .before .before
@@ -61,11 +61,11 @@ fits c =
     let z = from-sides c in
     subst (λ (s : Sides). FitsIn (frameAt (z .args .lent) (z .args .at)) s) (sym (c .sides-of .ensures)) (z .pre .1 .0 .1)
 
-below : (c : tie.After-sides-of) → (let a = from-sides c .args in T (all (λ i. ltb i (volume (asSides (c .sides-of .result)))) (take (a .counts .cells) (now (a .places)))))
+below : (c : tie.After-sides-of) → (let a = from-sides c .args in T (all (λ i. ltb i (volume (asSides (c .sides-of .result)))) (take (a .counts .size) (now (a .places)))))
 below c =
     let z = from-sides c in
     let a = z .args in
-    part-below (recordsOf (a .t)) (a .board) (now (a .bytes)) (frameAt (a .lent) (a .at)) (asSides (c .sides-of .result)) (c .sides-of .ensures) (fits c) (now (a .places)) (a .counts .cells)
+    part-below (recordsOf (a .t)) (a .board) (now (a .bytes)) (frameAt (a .lent) (a .at)) (asSides (c .sides-of .result)) (c .sides-of .ensures) (fits c) (now (a .places)) (a .counts .size)
     (z .pre .0 .1 .onBoard)
 
 slice-aggregate-build-lent : tie.Need-slice-aggregate-build-lent
@@ -83,7 +83,7 @@ slice-aggregate-list-kinds c = search needs
 list-kinds-requires : tie.Need-list-kinds-requires
 list-kinds-requires c κs =
     let z = to-start (c .before .before .before .before .before) in
-    (z .pre .0 .0, z .pre .0 .1 .areKinds, few z .1, omega (arith, few z .0), zeros-small)
+    (z .pre .0 .0, z .pre .1 .0 .2, z .pre .0 .1 .areKinds, few z .1, omega (arith, few z .0), zeros-small)
 
 slice-aggregate-list-pieces : tie.Need-slice-aggregate-list-pieces
 slice-aggregate-list-pieces c = search needs
@@ -91,7 +91,7 @@ slice-aggregate-list-pieces c = search needs
 list-pieces-requires : tie.Need-list-pieces-requires
 list-pieces-requires c κs =
     let z = to-start (to-built (c .before .before)) in
-    (z .pre .0 .0, z .pre .0 .1 .areKinds, few z .1, search needs)
+    (z .pre .0 .0, z .pre .1 .0 .2, z .pre .0 .1 .areKinds, few z .1, search needs)
 
 sides-of-requires : tie.Need-sides-of-requires
 sides-of-requires c κs = search needs
@@ -114,7 +114,7 @@ number-places-requires c κs =
       on .few,
       omega (arith, put .put-back .kept .0, on .within),
       new-below (recordsOf (a .t)) (a .board) (now (a .bytes)) (frameAt (a .lent) (a .at)) (asSides (sides .sides-of .result)) (sides .sides-of .ensures) (fits sides)
-          (now (a .places)) (a .counts .cells) on (put .put-back .last .0) (put .put-back .ensures) 512 (room z),
+          (now (a .places)) (a .counts .size) on (put .put-back .last .0) (put .put-back .ensures) 512 (room z),
     )
 
 volume-of-requires : tie.Need-volume-of-requires
@@ -144,8 +144,8 @@ lay-chart-requires c κs =
       b .build-lent .kept .1 .1 .1 .1 .1 .1 .1 .1 .0,
       b .build-lent .kept .1 .1 .1 .1 .1 .1 .1 .1 .1 .0,
       numbered .number-places .kept .1 .1 .0,
-      kinds .list-kinds .kept .1 .1 .1 .1 .1 .0,
-      pieces .list-pieces .kept .1 .1 .1 .1 .1 .0,
+      kinds .list-kinds .kept .1 .1 .1 .1 .1 .1 .0,
+      pieces .list-pieces .kept .1 .1 .1 .1 .1 .1 .0,
       to-start b .pre .1 .1 .3,
       b .build-lent .ensures .few,
     )
@@ -178,38 +178,38 @@ returns c =
     let on = z .pre .0 .1 .onBoard in
     let built = b .build-lent in
     let after = built .last .1 .1 .1 .1 .1 .1 .1 .0 in
-    let heads = built .last .1 .1 .1 .1 .1 .1 .1 .1 .0 in
+    let starts = built .last .1 .1 .1 .1 .1 .1 .1 .1 .0 in
     let images = built .last .1 .1 .1 .1 .1 .1 .1 .1 .1 .0 in
     let scans = numbered .number-places .last .1 .1 .0 in
-    let ks = kinds .list-kinds .last .1 .1 .1 .1 .1 .0 in
-    let ps = pieces .list-pieces .last .1 .1 .1 .1 .1 .0 in
+    let ks = kinds .list-kinds .last .1 .1 .1 .1 .1 .1 .0 in
+    let ps = pieces .list-pieces .last .1 .1 .1 .1 .1 .1 .0 in
     let chart = laid .lay-chart .last .1 .1 .1 .1 .1 .1 .0 in
     let long = laid .lay-chart .kept .1 .1 .1 .1 .1 .1 .0 ∙ z .pre .1 .1 .3 in
     let size = v .volume-of .ensures .0 in
     let d : Dims =
     record {
-      cells = a .counts .cells;
+      size = a .counts .size;
       rows = built .result .rows;
       kinds = a .counts .kinds;
       turns = built .result .turns;
       mirrorings = built .result .mirrorings;
       places = v .volume-of .result;
-      pieces = a .t .n;
+      pieces = a .t .count;
     } in
     let new =
-    new-scans (recordsOf (a .t)) (a .board) bytes f (asSides (sides .sides-of .result)) (sides .sides-of .ensures) (fits sides) (now (a .places)) (a .counts .cells) on (put .put-back .last .0)
+    new-scans (recordsOf (a .t)) (a .board) bytes f (asSides (sides .sides-of .result)) (sides .sides-of .ensures) (fits sides) (now (a .places)) (a .counts .size) on (put .put-back .last .0)
     (put .put-back .ensures) 512 (room z) scans (numbered .number-places .ensures) in (
       record {
-        system = laid-system d after heads images scans ks ps chart (laid .lay-chart .ensures .0) long (few z .0) (lent z .few) (on .few) (built .ensures .few) (omega (arith, size, room z))
+        system = laid-system d after starts images scans ks ps chart (laid .lay-chart .ensures .0) long (few z .0) (lent z .few) (on .few) (built .ensures .few) (omega (arith, size, room z))
             (built .kept .1 .1 .1 .1 .1 .1 .1 .1 .1 .0) (numbered .number-places .kept .1 .1 .0)
-            ∙ system-framed (recordsOf (a .t)) (a .board) bytes f d (now (a .work)) after heads images ks ps scans (built .ensures) (kinds .list-kinds .ensures .0) (pieces .list-pieces .ensures)
+            ∙ system-framed (recordsOf (a .t)) (a .board) bytes f d (now (a .work)) after starts images ks ps scans (built .ensures) (kinds .list-kinds .ensures .0) (pieces .list-pieces .ensures)
             (ap (λ (n : ℕ). take n scans) size ∙ new);
-        chained = laid-chained d after heads images scans ks ps chart (laid .lay-chart .ensures .0) long (built .ensures .chained);
-        charted = laid-charted d after heads images scans ks ps chart (laid .lay-chart .ensures .0) long (laid .lay-chart .ensures .1) (kinds .list-kinds .ensures .1);
+        ranged = laid-ranged d after starts images scans ks ps chart (laid .lay-chart .ensures .0) long (built .ensures .ranged);
+        charted = laid-charted d after starts images scans ks ps chart (laid .lay-chart .ensures .0) long (laid .lay-chart .ensures .1) (kinds .list-kinds .ensures .1);
         places = size;
         behind = built .ensures .behind;
       },
-      put .put-back .ensures ∙ ap (λ (s : Sides). map (lentPlace s f) (take (a .counts .cells) (now (a .places))) ++ drop (a .counts .cells) (now (a .places))) (sides .sides-of .ensures),
+      put .put-back .ensures ∙ ap (λ (s : Sides). map (lentPlace s f) (take (a .counts .size) (now (a .places))) ++ drop (a .counts .size) (now (a .places))) (sides .sides-of .ensures),
     )
 
 pub build-system-spec : {M : Type 1} → statement M

@@ -36,12 +36,12 @@ returns c =
     let kinds = pieces .before .before .before .before in
     let scans = kinds .before .before .before .before in
     let images = scans .before .before .before .before in
-    let heads = images .before .before .before .before .before in
-    let known = heads .before .before .before in
+    let starts = images .before .before .before .before .before in
+    let known = starts .before .before .before in
     let z = known .before .before .before .before .before in
     let a = z .args in (
-      laid-parts (a .d) (now (a .heads)) (now (a .images)) (now (a .scans)) (now (a .kinds)) (now (a .pieces)) (now (a .chart)) (heads .lay-numbers .last .1 .1 .0)
-          (images .lay-bytes .last .1 .1 .0) (scans .lay-bytes2 .last .1 .1 .0) (kinds .lay-numbers2 .last .1 .1 .0) (pieces .lay-bytes3 .last .1 .1 .0) (z .pre .6) (heads .lay-numbers .ensures)
+      laid-parts (a .d) (now (a .starts)) (now (a .images)) (now (a .scans)) (now (a .kinds)) (now (a .pieces)) (now (a .chart)) (starts .lay-numbers .last .1 .1 .0)
+          (images .lay-bytes .last .1 .1 .0) (scans .lay-bytes2 .last .1 .1 .0) (kinds .lay-numbers2 .last .1 .1 .0) (pieces .lay-bytes3 .last .1 .1 .0) (z .pre .6) (starts .lay-numbers .ensures)
           (images .lay-bytes .ensures) (scans .lay-bytes2 .ensures) (kinds .lay-numbers2 .ensures) (pieces .lay-bytes3 .ensures),
       λ i. omega (arith, known .shared-slice-known5 .given i),
     )

@@ -10,7 +10,7 @@ use Rattle.definitions.specs.Outcomes.{outcomeOf}
 use Rattle.definitions.specs.declared.Listing.{Listing}
 use Rattle.definitions.specs.declared.Listing.the-variants as listing
 use Rattle.definitions.proofs.StartLaws.{meets-from}
-use Rattle.placements.specs.Tables.{recordsOf}
+use Rattle.placements.specs.Pieces.{recordsOf}
 use Rattle.solver.specs.Lent.{callWith}
 use Rattle.solver.specs.Preparing.{Prepares, Stands}
 use Rattle.solver.specs.declared.prepare.Prepared.{Prepared}
@@ -40,7 +40,7 @@ unfolding Prepares
 stands c =
     let p = at-prepare c in
     let a = entry p .args in
-    subst (λ (r : Prepared). Prepares r (recordsOf (a .t)) (a .board) (now (a .bytes)) (a .config) (length (now (a .links))) (now (a .work)) (p .prepare .last .1 .1 .1 .1 .1 .0) (p .prepare .last .1 .1 .1 .1 .1 .1 .0))
+    subst (λ (r : Prepared). Prepares r (recordsOf (a .t)) (a .board) (now (a .bytes)) (a .config) (length (now (a .links))) (now (a .work)) _ (p .prepare .last .1 .1 .1 .1 .1 .0) (p .prepare .last .1 .1 .1 .1 .1 .1 .0))
     (c .before .prepared2 .given .1) (p .prepare .ensures)
 
 slice-aggregate-prepare : tie.Need-slice-aggregate-prepare
@@ -100,7 +100,7 @@ returns c =
     let a = entry p .args in
     let why = prepared .prepared .given .0 .0 in
     let rs = recordsOf (a .t) in
-    let r = subst (λ (r : Prepared). Prepares r rs (a .board) (now (a .bytes)) (a .config) (length (now (a .links))) (now (a .work)) (p .prepare .last .1 .1 .1 .1 .1 .0) (p .prepare .last .1 .1 .1 .1 .1 .1 .0))
+    let r = subst (λ (r : Prepared). Prepares r rs (a .board) (now (a .bytes)) (a .config) (length (now (a .links))) (now (a .work)) _ (p .prepare .last .1 .1 .1 .1 .1 .0) (p .prepare .last .1 .1 .1 .1 .1 .1 .0))
     (prepared .prepared .given .1) (p .prepare .ensures) in
     let call = callWith rs (a .board) (now (a .bytes)) (a .config) (now (a .answers)) (now (a .work)) (now (a .links)) in
     let e = ap (λ (w : List ℕ). outcomeOf (listing.Refused why) (now (a .answers)) w (now (a .links))) (r .untouched)

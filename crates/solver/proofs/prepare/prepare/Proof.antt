@@ -10,7 +10,7 @@ use Rattle.definitions.specs.Refusals.{firstThatApplies, placementCount}
 use Rattle.shape.specs.Coords.{asSides, Fit}
 use Rattle.placements.specs.Counting.{Accepted9, CountsOf}
 use Rattle.placements.specs.Stages.{verdictNumber}
-use Rattle.placements.specs.Tables.{recordsOf, trayIn}
+use Rattle.placements.specs.Pieces.{recordsOf, trayIn}
 use Rattle.placements.proofs.AcceptedLaws.{early-lent, early-work, placements-few}
 use Rattle.placements.proofs.CountingLaws.{board-fits, count-rows, counts-decide, counts-stripped, early-decides, lent-passes, refused-not}
 use Rattle.placements.proofs.RefusalLaws.{sides-small}
@@ -31,13 +31,13 @@ abbrev start : tie.After-strip-tray → tie.Start
 start c = entry (tested c .before .before)
 
 abbrev stripped : tie.After-count-tray → tie.After-strip-tray
-stripped c = c .before .before .before .before .before .before .before .before
+stripped c = c .before .before .before .before .before .before .before .before .before
 
 abbrev counted : tie.After-refusal-of-counts → tie.After-count-tray
-counted c = c .before .before .before .before
+counted c = c .before .before .before .before .before
 
 abbrev sided : tie.After-build-system-arg2 → tie.After-sides-of
-sided c = c .before .before .before .before .before .before
+sided c = c .before .before .before .before .before .before .before
 
 -- rows 2 to 13 have passed
 past : (c : tie.After-enum-told) → (let a = entry (c .before .before) .args in firstThatApplies (firstRows (recordsOf (a .t)) (a .board) (now (a .bytes)) (a .config) (length (now (a .work))) (a .links)) ≡ 0)
@@ -53,7 +53,7 @@ long c = early-work _ _ _ _ _ _ (past c)
 
 -- the counts are those of the tray that is listed
 counts-are : (c : tie.After-count-tray) → (let a = start (stripped c) .args in CountsOf (compile (trayIn (recordsOf (a .t)) (a .board) (now (a .bytes)))) (c .count-tray .result))
-counts-are c = let a = start (stripped c) .args in counts-stripped (a .t) (a .board) (now (a .bytes)) (stripped c .strip-tray .ensures) (c .count-tray .ensures)
+counts-are c = let a = start (stripped c) .args in counts-stripped (a .t) (a .board) (now (a .bytes)) (stripped c .strip-tray .ensures .0) (c .count-tray .ensures .0)
 
 -- the whole table's number is that of rows 14 and 15
 number-is : (c : tie.After-refusal-of-counts) → (let a = start (stripped (counted c)) .args in verdictNumber (c .refusal-of-counts .result) ≡ refusalBy (recordsOf (a .t)) (a .board) (now (a .bytes)) (a .config) (length (now (a .work))) (a .links))
@@ -101,6 +101,9 @@ slice-aggregate-count-tray-3 c = search needs
 slice-aggregate-count-tray-4 : tie.Need-slice-aggregate-count-tray-4
 slice-aggregate-count-tray-4 c = search needs
 
+slice-aggregate-count-tray-5 : tie.Need-slice-aggregate-count-tray-5
+slice-aggregate-count-tray-5 c = search needs
+
 count-tray-requires : tie.Need-count-tray-requires
 count-tray-requires c κs = search needs
 
@@ -128,6 +131,9 @@ slice-aggregate-build-system-3 c = search needs
 slice-aggregate-build-system-4 : tie.Need-slice-aggregate-build-system-4
 slice-aggregate-build-system-4 c = search needs
 
+slice-aggregate-build-system-5 : tie.Need-slice-aggregate-build-system-5
+slice-aggregate-build-system-5 c = search needs
+
 build-system-requires : tie.Need-build-system-requires
 build-system-requires c κs =
     let sides = sided c in
@@ -136,14 +142,17 @@ build-system-requires c κs =
     let strips = stripped at in
     let z = start strips in
     let a = z .args in
-    let s = strips .strip-tray .ensures in
+    let s = strips .strip-tray .ensures .0 in
     let ok = accepted (tested strips) in
     let enough = long (tested strips) in
     let k = few told in
     let same = counts-are at .placements in
     let fit : Fit (asSides (sides .sides-of .result)) = subst Fit (sym (sides .sides-of .ensures)) (sides-small (a .board) (board-fits _ _ _ (lent-passes (a .t) (a .board) (now (a .bytes)) ok) .0)) in (
-      (s .accepted, at .count-tray .ensures, omega arith, rows-stripped _ _ _ s (at .count-tray .ensures) (now (a .work)) ok (omega arith) enough),
-      ((fit, part-fits _ _ _ s _ (sides .sides-of .ensures)), (at .count-tray .kept .1 .1 .1 .1 .0 ∙ search needs, at .count-tray .kept .1 .1 .1 .1 .1 .0 ∙ search needs, enough, z .pre)),
+      (s .accepted, at .count-tray .ensures .0, omega arith, rows-stripped _ _ _ s (at .count-tray .ensures .0) (now (a .work)) ok (omega arith) enough),
+      (
+        (fit, part-fits _ _ _ s _ (sides .sides-of .ensures), at .count-tray .ensures .1),
+        (at .count-tray .kept .1 .1 .1 .1 .1 .0 ∙ search needs, at .count-tray .kept .1 .1 .1 .1 .1 .1 .0 ∙ search needs, enough, z .pre),
+      ),
     )
 
 returns : tie.Need-returns
@@ -154,13 +163,14 @@ returns c =
     record {
       first = sym (ap verdictNumber (told .before2 .given .1)) ∙ r .ensures ∙ sym (early-decides _ _ _ _ _ _ _ (λ e. refused-not (r .result) (told .before2 .given .1) (r .ensures ∙ e)));
       untouched = refl;
+      uncharted = refl;
     }
 
 returns-2 : tie.Need-returns-2
 unfolding Prepares
 returns-2 c =
     let told = c .before in
-    record { first = sym (ap verdictNumber (told .counted .given .1)) ∙ number-is (told .before .before); untouched = refl }
+    record { first = sym (ap verdictNumber (told .counted .given .1)) ∙ number-is (told .before .before); untouched = refl; uncharted = refl }
 
 same-length : tie.Need-same-length
 same-length c = search needs
@@ -177,8 +187,8 @@ returns-3 c =
     let at = counted (told .before .before) in
     let strips = stripped at in
     let a = start strips .args in
-    system-stands (a .t) (a .board) (now (a .bytes)) (strips .strip-tray .ensures) (a .config) (a .links) (sides .sides-of .result) (sides .sides-of .ensures)
-    (now (a .work)) _ _ (built .build-system .result) (accepted (tested strips)) (built .build-system .kept .1 .1 .1 .1 .1 .1 .1 .1 .1 .0) (long (tested strips)) (passed told) (few told)
+    system-stands (a .t) (a .board) (now (a .bytes)) (strips .strip-tray .ensures .0) (a .config) (a .links) (sides .sides-of .result) (sides .sides-of .ensures)
+    (now (a .work)) _ _ (built .build-system .result) (accepted (tested strips)) (built .build-system .kept .1 .1 .1 .1 .1 .1 .1 .1 .1 .1 .0) (long (tested strips)) (passed told) (few told)
     (built .build-system .ensures .0)
 
 pub prepare-spec : {M : Type 1} → statement M
@@ -194,6 +204,7 @@ prepare-spec =
     slice-aggregate-count-tray-2
     slice-aggregate-count-tray-3
     slice-aggregate-count-tray-4
+    slice-aggregate-count-tray-5
     count-tray-requires
     refusal-of-counts-requires
     enum-known-counted
@@ -203,6 +214,7 @@ prepare-spec =
     slice-aggregate-build-system-2
     slice-aggregate-build-system-3
     slice-aggregate-build-system-4
+    slice-aggregate-build-system-5
     build-system-requires
     returns
     returns-2

@@ -2,7 +2,7 @@
 use mathlib.Core.Path.{_≡_, sym, ap, _∙_}
 use denote.Ref.{now}
 use Rattle.definitions.specs.Refusals.{firstThatApplies}
-use Rattle.placements.specs.Tables.{recordsOf}
+use Rattle.placements.specs.Pieces.{recordsOf}
 use Rattle.placements.specs.Stages.{verdictNumber, lentRows, configRows}
 use Rattle.placements.proofs.CountingLaws.{refused-not, lent-decides, config-decides, slices-decide}
 use borrow.Author.Needs.{needs}

@@ -1,4 +1,4 @@
--- `page` meets its contract: the slice of records is lent to `taken`, and the table that comes back goes to the page call over a table, whose outcome is that
+-- `page` meets its contract: the slice of records is lent to `taken`, and the pieces that come back go to the page call over pieces, whose outcome is that
 -- of the slice; the user's sentences follow from the outcome. Each `&mut` is given up for good, and what structs and enums own is made anew where it is asked
 -- for. Assumes nothing.
 use mathlib.Core.Path.{_≡_, refl, _∙_, ap}
@@ -44,7 +44,7 @@ use Rattle.definitions.specs.Outcomes.{outcomeOf}
 use Rattle.definitions.specs.Refusals.{Call}
 use Rattle.definitions.specs.Starts.{Meets, outcomeFrom}
 use Rattle.definitions.proofs.StartLaws.{meets-from}
-use Rattle.placements.specs.Tables.{recordsOf, tableOf}
+use Rattle.placements.specs.Pieces.{recordsOf, piecesOf}
 use Rattle.solver.specs.Lent.{callWith}
 use Rattle.solver.proofs.RecordLaws.{outcome-same}
 use Rattle.solver.proofs.Calls.{_▸_, calls-fact, calls-lasts, first-said, says-two}
@@ -60,9 +60,9 @@ use Rattle.definitions.proofs.Record.Laws as Record·′
 use Rattle.definitions.specs.declared.Start.{Start}
 use Rattle.definitions.proofs.Start as Start·
 use Rattle.definitions.proofs.Start.Laws as Start·′
-use Rattle.placements.specs.declared.Table.{Table}
-use Rattle.placements.proofs.Table as Table·
-use Rattle.placements.proofs.Table.Laws as Table·′
+use Rattle.placements.specs.declared.Pieces.{Pieces}
+use Rattle.placements.proofs.Pieces as Pieces·
+use Rattle.placements.proofs.Pieces.Laws as Pieces·′
 use Rattle.solver.proofs.records.taken as taken
 use Rattle.solver.proofs.records.taken.Symbol as taken-def
 use Rattle.solver.proofs.records.taken.Symbol.{name as #taken}
@@ -203,30 +203,30 @@ module _ {M : Type 1} (𝓤 : URA M) (H : Heap 𝓤) (A : Atoms 𝓤) (W : Given
   abbrev to-taken : Taken 𝓤 H A mem run .Ghost
   to-taken = ((κs-taken, (q0, tt), tt, args-taken, at-taken), tt)
 
-  abbrev Said-taken : Table → Type 0
-  Said-taken t = t ≡ tableOf (now pieces)
+  abbrev Said-taken : Pieces → Type 0
+  Said-taken t = t ≡ piecesOf (now pieces)
 
-  said-taken : (t : Table) → ent 𝓤 (ensured 𝓤 H A taken.ended (taken.clauses 𝓤 H A mem run) κs-taken args-taken tt t) (fact 𝓤 (Said-taken t))
+  said-taken : (t : Pieces) → ent 𝓤 (ensured 𝓤 H A taken.ended (taken.clauses 𝓤 H A mem run) κs-taken args-taken tt t) (fact 𝓤 (Said-taken t))
   said-taken t = exE 𝓤 _ (λ ws. snd∗ 𝓤 (sem 𝓤 H A (lasts taken.ended κs-taken args-taken ws)) (fact 𝓤 (Said-taken t)))
 
   -- what `pages::page` is called with, and says
   abbrev κs-of : Lfts 5
   κs-of = (κ1, (κ2, (κ3, (κ4, (κ5, tt)))))
 
-  abbrev args-of : Table → Args of.signature κs-of
+  abbrev args-of : Pieces → Args of.signature κs-of
   args-of t = (t, (board, (bytes, (config, (start, (last, (answers, (work, (links, tt)))))))))
 
   abbrev at-of : Val → Vals of.signature κs-of
   at-of u-t = u-t ∷ [] ▸ v-board ∷ [] ▸ v-bytes ∷ [] ▸ v-config ∷ [] ▸ v-start ∷ [] ▸ v-last ∷ [] ▸ v-answers ∷ [] ▸ v-work ∷ [] ▸ v-links ∷ [] ▸ tt
 
-  abbrev to-of : Table → Val → Of 𝓤 H A mem run .Ghost
+  abbrev to-of : Pieces → Val → Of 𝓤 H A mem run .Ghost
   to-of t u-t = ((κs-of, (q1, (q2, (q3, (q4, (q5, tt))))), tt, (args-of t), (at-of u-t)), tt)
 
-  abbrev Said-of : Table → Listing → Last → Type 0
+  abbrev Said-of : Pieces → Listing → Last → Type 0
   Said-of t r zs = outcomeOf r (last-answers zs) (last-work zs) (last-links zs) ≡
       outcomeFrom start (now last) (call (recordsOf t))
 
-  abbrev More-of : Table → Listing → Last → Type 0
+  abbrev More-of : Pieces → Listing → Last → Type 0
   More-of t r zs = Meets start (now last) (call (recordsOf t))
       (outcomeOf r (last-answers zs) (last-work zs) (last-links zs))
 
@@ -236,14 +236,14 @@ module _ {M : Type 1} (𝓤 : URA M) (H : Heap 𝓤) (A : Atoms 𝓤) (W : Given
   abbrev Ends-meets : Listing → List ℕ → List ℕ → List ℕ → Type 0
   Ends-meets r zs-answers zs-work zs-links = Meets start (now last) (call (now pieces)) (outcomeOf r zs-answers zs-work zs-links)
 
-  -- the table stands for the slice
-  is-outcome : (t : Table) (r : Listing) (zs : Last) → Said-taken t → Said-of t r zs
+  -- the pieces stand for the slice
+  is-outcome : (t : Pieces) (r : Listing) (zs : Last) → Said-taken t → Said-of t r zs
       → Ends-outcome r (last-answers zs) (last-work zs) (last-links zs)
   is-outcome t r zs t-is e =
-      e ∙ ap (λ (a : Table). outcomeFrom start (now last) (call (recordsOf a))) t-is
+      e ∙ ap (λ (a : Pieces). outcomeFrom start (now last) (call (recordsOf a))) t-is
       ∙ outcome-same board (now bytes) config (now answers) (now work) (now links) start (now last) (now pieces)
 
-  does-meet : (t : Table) (r : Listing) (zs : Last) → Said-taken t → Said-of t r zs
+  does-meet : (t : Pieces) (r : Listing) (zs : Last) → Said-taken t → Said-of t r zs
       → Ends-meets r (last-answers zs) (last-work zs) (last-links zs)
   does-meet t r zs t-is e = meets-from start (now last) (call (now pieces)) _ (is-outcome t r zs t-is e)
 
@@ -263,7 +263,7 @@ module _ {M : Type 1} (𝓤 : URA M) (H : Heap 𝓤) (A : Atoms 𝓤) (W : Given
         (qed W (Tok-taken ∷ ‵ (owns (typesAt (taken.signature .params) κs-taken) args-taken at-taken) ∷ []) ∵ join ! $ frame ! $ done !) $
         frame ! $ done !
 
-    goes-of : (t : Table) (u-t : Val) → Is Table·.the-row t (u-t ∷ []) →
+    goes-of : (t : Pieces) (u-t : Val) → Is Pieces·.the-row t (u-t ∷ []) →
         ent 𝓤 (⋆ 𝓤 H A (Tok-of ∷ ‵ Own-answers ∷ ‵ Own-work ∷ ‵ Own-links ∷ ‵ Own-bytes ∷ ‵ Own-last ∷ []))
         (sep 𝓤 (Of 𝓤 H A mem run .pre (to-of t u-t)) (sep 𝓤 (sem 𝓤 H A Own-bytes) (sem 𝓤 H A Own-last)))
     goes-of t u-t is-t =
@@ -275,7 +275,7 @@ module _ {M : Type 1} (𝓤 : URA M) (H : Heap 𝓤) (A : Atoms 𝓤) (W : Given
         owned ! Config·.the-row (Is Config·.the-row) (LL.makes Config·.the-type Config·′.the-plain 𝓤 H A) config _ is-config $ fjoin ! $
         move ! (2 ∷ 0 ∷ []) $ fjoin ! $
         owned ! Record·.the-row (Is Record·.the-row) (LL.makes Record·.the-type Record·′.the-plain 𝓤 H A) board _ is-board $ fjoin ! $
-        owned ! Table·.the-row (Is Table·.the-row) (LL.makes Table·.the-type Table·′.the-plain 𝓤 H A) t _ is-t $ fjoin ! $ move ! (3 ∷ 0 ∷ []) $
+        owned ! Pieces·.the-row (Is Pieces·.the-row) (LL.makes Pieces·.the-type Pieces·′.the-plain 𝓤 H A) t _ is-t $ fjoin ! $ move ! (3 ∷ 0 ∷ []) $
         use2 W (raw (Of 𝓤 H A mem run .pre (to-of t u-t)))
         (qed W (Tok-of ∷ ‵ (owns (typesAt (of.signature .params) κs-of) (args-of t) (at-of u-t)) ∷ []) ∵ join ! $ frame ! $ done !) $
         move ! (0 ∷ 2 ∷ 1 ∷ []) $ frame ! $ done !
@@ -338,12 +338,12 @@ module _ {M : Type 1} (𝓤 : URA M) (H : Heap 𝓤) (A : Atoms 𝓤) (W : Given
           -- `taken`
           nothing ! $ move ! (12 ∷ 0 ∷ []) $ join ! $ move ! (0 ∷ 6 ∷ []) $ join ! $
           use1 W (raw (Taken 𝓤 H A mem run .pre to-taken) ⊛ ‵ Own-pieces) goes-taken $ split ! $
-          calls-fact ! fm (Taken 𝓤 H A mem run) known-taken to-taken Tok-taken Table·.the-row
+          calls-fact ! fm (Taken 𝓤 H A mem run) known-taken to-taken Tok-taken Pieces·.the-row
           (ensured 𝓤 H A taken.ended (taken.clauses 𝓤 H A mem run) κs-taken args-taken tt)
           Said-taken (λ u. id⊢ 𝓤 _) said-taken
           (and-then ! (load ! (from ! (stop !)) (look ! 42 refl)) (no-more !)) (λ u-t t e-t is-t.
           drop ! $ split ! $ move ! (1 ∷ []) $ drop ! $
-          land ! (from ! (stop !)) (init ! 24 refl (LL.lawful Table·.the-type Table·′.the-laws 𝓤 H A W .typed t (u-t ∷ []) is-t .0)) $
+          land ! (from ! (stop !)) (init ! 24 refl (LL.lawful Pieces·.the-type Pieces·′.the-laws 𝓤 H A W .typed t (u-t ∷ []) is-t .0)) $
           -- `pages::page`
           assigns ! (addr ! (from ! (fld ! refl (hop ! (look-in ! 30 (sub ! 0 refl (whole !))) (stop !))))) (from ! (stop !)) (init ! 22 refl (tt, tt)) $
           assigns ! (agg ! (and-then ! (load ! (from ! (stop !)) (look ! 22 refl))

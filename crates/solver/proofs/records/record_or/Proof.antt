@@ -40,7 +40,7 @@ use denote.Triple.Spec.{Meets, tripleOf}
 use denote.Triple.Table.{entered}
 use denote.Triple.Walked.{says, Stays, stay-none, stay-none-slice, walkOf, goes-none, goes-none-slice, Walks, ends-at, walked, walk-meets}
 use denote.Exit.{yes}
-use Rattle.placements.specs.Tables.{noRecord}
+use Rattle.placements.specs.Pieces.{noRecord}
 use Rattle.definitions.specs.declared.Record.{Record}
 use Rattle.definitions.proofs.Record as T
 use Rattle.definitions.proofs.Record.Laws as T′
