@@ -1,19 +1,18 @@
-/* Record and answer in C. The wood of a record lies in what was padding, so records made before it have the same size and the same
+/* Record and answer of include/ferghuul.h. The wood of a record lies in what was padding, so records made before it have the same size and the same
    fields in the same places, and a zeroed one has wood 0; so does `missing` of an answer, behind `further`. Compiling this holds the
    layout (C11). Linked with the static library, it takes an engine, an identification and two woods, and prints the listing of two
    cells packed by two pieces of one cell, one copy each, in these woods; before that it holds the page of records made as they were
    before to that of records with wood 0, and afterwards it asks for the page behind each entry and behind what is none. Status 1 on
    a difference. layout.sh does both, and holds the listings to the model. */
-#include <stdbool.h>
-#include <stddef.h>
-#include <stdint.h>
+#include "ferghuul.h"
+
 #include <stdio.h>
 #include <stdlib.h>
 #include <string.h>
 
-typedef struct { size_t a, b, c; uint32_t count; uint8_t wood; size_t start; } Record;
+typedef ferghuul_record Record;
 typedef struct { size_t a, b, c; uint32_t count; size_t start; } RecordBefore;
-typedef struct { uint32_t number; size_t written; bool further, missing; } Answer;
+typedef ferghuul_answer Answer;
 typedef struct { uint32_t number; size_t written; bool further; } AnswerBefore;
 
 _Static_assert(sizeof(Record) == 40 && sizeof(RecordBefore) == 40, "a record has 40 bytes");
@@ -31,17 +30,8 @@ _Static_assert(offsetof(Answer, written) == 8 && offsetof(AnswerBefore, written)
 _Static_assert(offsetof(Answer, further) == 16 && offsetof(AnswerBefore, further) == 16, "further");
 _Static_assert(offsetof(Answer, missing) == 17, "missing");
 
-Answer ferghuul_page(
-    const Record *pieces, size_t piece_count, Record board,
-    const uint8_t *bytes, size_t byte_count,
-    uint8_t engine, bool turned, bool mirrored,
-    bool behind, uint64_t skip, const uint8_t *last, size_t last_bytes,
-    uint8_t *answers, size_t answer_bytes,
-    uint64_t *work, size_t words,
-    uint16_t *links, size_t numbers);
-
-static uint64_t work[8192];
-static uint16_t links[32768];
+static uint64_t work[FERGHUUL_WORK];
+static uint16_t links[FERGHUUL_LINKS];
 
 /* Both cells of the board, then two pieces of one cell, one copy each. */
 static const uint8_t cells[4] = {1, 1, 1, 1};
@@ -55,7 +45,7 @@ static Page page_from(const uint8_t *last, size_t size, const Record pieces[2], 
     memset(page.answers, 170, sizeof page.answers);
     page.answer = ferghuul_page(pieces, 2, board, cells, sizeof cells, engine, turned, false,
                                 last != NULL, last != NULL ? 77 : 0, last, size,
-                                page.answers, sizeof page.answers, work, 8192, links, 32768);
+                                page.answers, sizeof page.answers, work, FERGHUUL_WORK, links, FERGHUUL_LINKS);
     return page;
 }
 
@@ -128,7 +118,7 @@ int main(int argc, char **argv) {
         fputs("layout fast|knuth none|turned WOOD WOOD\n", stderr);
         return 2;
     }
-    uint8_t engine = strcmp(argv[1], "knuth") == 0 ? 3 : 2;
+    uint8_t engine = strcmp(argv[1], "knuth") == 0 ? FERGHUUL_KNUTH : FERGHUUL_FAST;
     bool turned = strcmp(argv[2], "turned") == 0;
     uint8_t one = (uint8_t)atoi(argv[3]), other = (uint8_t)atoi(argv[4]);
 

@@ -1,64 +1,13 @@
 //! The page call of the static library, and trays as it takes them.
 
+pub mod cases;
+pub mod clock;
+pub mod side_by_side;
+
+use ferghuul::call;
 use oracle::tray::{Engine, Grid, Tray};
 
-#[repr(C)]
-#[derive(Clone, Copy)]
-pub struct Record {
-    pub a: usize,
-    pub b: usize,
-    pub c: usize,
-    pub count: u32,
-    pub wood: u8,
-    pub start: usize,
-}
-
-#[repr(C)]
-#[derive(Clone, Copy, Debug, PartialEq, Eq)]
-pub struct Answer {
-    pub number: u32,
-    pub written: usize,
-    pub further: bool,
-    pub missing: bool,
-}
-
-impl Answer {
-    /// An accepted call's: a page with so many answers, and whether a further one follows.
-    pub const fn page(written: usize, further: bool) -> Answer {
-        Answer { number: 0, written, further, missing: false }
-    }
-
-    pub const fn refused(number: u32) -> Answer {
-        Answer { number, written: 0, further: false, missing: false }
-    }
-
-    /// No entry of the list equals the one that was lent, to begin behind it.
-    pub const MISSING: Answer = Answer { number: 0, written: 0, further: false, missing: true };
-}
-
-extern "C" {
-    // A slice is passed as its address and its length.
-    fn ferghuul_page(
-        pieces: *const Record,
-        piece_count: usize,
-        board: Record,
-        bytes: *const u8,
-        byte_count: usize,
-        engine: u8,
-        turned: bool,
-        mirrored: bool,
-        behind: bool,
-        skip: u64,
-        last: *const u8,
-        last_bytes: usize,
-        answers: *mut u8,
-        answer_bytes: usize,
-        work: *mut u64,
-        words: usize,
-        links: *mut u16,
-        numbers: usize,
-    ) -> Answer;
-}
+pub use ferghuul::call::{Answer, Record};
 
 /// Where a page begins: at an entry, by its number, or behind an entry, by its bytes.
 #[derive(Clone, Copy, Debug)]
@@ -116,28 +65,9 @@ impl Lent {
             Start::Skip(skip) => (false, skip, &[STAIN; 3][..]),
             Start::Behind(last) => (true, 1, last),
         };
-        unsafe {
-            ferghuul_page(
-                self.pieces.as_ptr(),
-                self.pieces.len(),
-                self.board,
-                self.bytes.as_ptr(),
-                self.bytes.len(),
-                self.engine_number(),
-                self.turned,
-                self.mirrored,
-                behind,
-                skip,
-                last.as_ptr(),
-                last.len(),
-                answers.as_mut_ptr(),
-                answers.len(),
-                work.as_mut_ptr(),
-                work.len(),
-                links.as_mut_ptr(),
-                links.len(),
-            )
-        }
+        let config = call::Config { engine: self.engine_number(), turned: self.turned, mirrored: self.mirrored };
+        let start = call::Start { behind, skip, last };
+        call::page(&self.pieces, self.board, &self.bytes, config, start, answers, work, links)
     }
 }
 

@@ -1,4 +1,4 @@
-//! What the original's shape.rs and utils.rs make of some grids, in the form that the program crate `shapes` prints: its stored output.
+//! What the original's shape.rs and utils.rs make of some grids, in the form that the program crate `show_shapes` prints: its stored output.
 use crate::shape::{Coord, Shape, MIRROR_TRANSFORMS, TRANSFORMS};
 use crate::utils::{coord_iterator, AxisOrder};
 

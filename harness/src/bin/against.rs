@@ -12,6 +12,7 @@
 use std::io::{self, Read};
 use std::process::ExitCode;
 
+use harness::cases::Cases;
 use harness::{box_cells, Answer, Lent, Start, STAIN};
 use oracle::layers;
 use oracle::listing::refused;
@@ -34,18 +35,10 @@ struct Asked {
 fn main() -> io::Result<ExitCode> {
     let mut stream = vec![];
     io::stdin().read_to_end(&mut stream)?;
-    let (mut rest, mut held, mut asked, mut differences) = (&stream[..], [0; 2], Asked::default(), 0);
+    let (mut held, mut asked, mut differences) = ([0; 2], Asked::default(), 0);
     let (mut bare, mut mixed, mut boxed) = (0, 0, 0);
-    while !rest.is_empty() {
-        let end = rest.iter().position(|&byte| byte == b'\n').unwrap();
-        let header = String::from_utf8_lossy(&rest[..end]).to_string();
-        let fields: Vec<&str> = header.split('\t').collect();
-        let (long, longer): (usize, usize) = (fields[2].parse().unwrap(), fields[3].parse().unwrap());
-        let file = &rest[end + 1..end + 1 + long];
-        let expected = std::str::from_utf8(&rest[end + 1 + long..end + 1 + long + longer]).unwrap();
-        rest = &rest[end + 1 + long + longer..];
-
-        let Some(tray) = tray::parse(file, tray::config_of_file) else {
+    for case in (Cases { rest: &stream }) {
+        let Some(tray) = tray::parse(case.file, tray::config_of_file) else {
             continue;
         };
         held[usize::from(tray.config.engine == Engine::Knuth)] += 1;
@@ -55,9 +48,9 @@ fn main() -> io::Result<ExitCode> {
         let mut random = Random::new(held[0], held[1]);
         let mut lent = Lent::new(&tray);
         lent.board.wood = random.between(1, 255) as u8;
-        if let Err(what) = hold(&mut lent, expected, &mut random, &mut asked) {
+        if let Err(what) = hold(&mut lent, case.expected, &mut random, &mut asked) {
             differences += 1;
-            println!("{}: {what}", fields[1]);
+            println!("{}: {what}", case.name);
         }
     }
     let [fast, knuth] = held;
