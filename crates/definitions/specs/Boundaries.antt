@@ -1,6 +1,6 @@
 -- What the marked lines leave open, as tables that antt computes (proofs/BoundaryLaws): each refusal and its boundary; pairs of refusals that apply at
 -- once; the slices afterwards; the counts of 14 and 15 (trays at their limits are too large to compute here); pages, also from behind an entry; files. More lists and pages, of trays
--- that take longer, are in the crate corners.
+-- that take longer, are in the crate examples.
 use Prim.Native.Nat.{ℕ, zero, suc, _+_, _*_, _/_, _%_}
 use Prim.Native.String.{String}
 use mathlib.Core.Bool.{Bool, true, false, _&&_}

@@ -25,7 +25,7 @@ stateBy s left covered rs =
 unfoldable pub fastBelow : System → Identify → State → List (List ℕ)
 fastBelow s i t = entries s i (search (fastChoices (s .rows)) (s .size) t)
 
--- a search goes on below a state: no cell is uncovered, or the first that is can be covered. proofs/AheadLaws: where it does not, nothing is listed below.
+-- a search goes on below a state: no cell is uncovered, or the first that is can be covered. proofs/ChoiceLaws: where it does not, nothing is listed below.
 unfoldable pub goesOn : System → State → Bool
 goesOn s t = isEmpty (t .free) || not (isEmpty (fastChoices (s .rows) t))
 
