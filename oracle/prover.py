@@ -708,7 +708,7 @@ use mathlib.Core.Bool.{Bool, true, false, not, cond, _&&_}
 use mathlib.Core.List.{List, [], _∷_, _++_, map}
 use lib.Dec.{eqb}
 use lib.ListN.{length, drop, replicate}
-use Rattle.definitions.specs.Lists.{same, joined, each}
+use Rattle.lists.specs.Lists.{same, joined, each}
 use Rattle.definitions.specs.Refusals.{Call, refusal}
 use Rattle.definitions.specs.Outcomes.{Outcome, outcome}
 use Rattle.definitions.specs.declared.Record.{Record}
@@ -824,7 +824,7 @@ class Prover:
             needed = below[crate].replace(",", " ").split()
             ahead += [name for name in needed if name in below and name not in ahead]
         lines = "".join("%s:%s\n" % (crate, below[crate]) for crate in ahead)
-        self.write("crates.txt", lines + "sample: definitions\n")
+        self.write("crates.txt", lines + "sample: definitions lists\n")
         specs = os.path.join(folder, "crates", "definitions", "specs")
         self.names = computed_names(specs)
 
@@ -850,7 +850,7 @@ class Prover:
             "use mathlib.Core.List.{List, [], _∷_}\n",
             "use lib.Dec.{T, eqb}\n",
             "use lib.ListN.{getD, take, drop}\n",
-            "use Rattle.definitions.specs.Lists.{all}\n",
+            "use Rattle.lists.specs.Lists.{all}\n",
             "use Rattle.definitions.specs.declared.SolverKind.the-variants."
             "{Auto, Naive, Fast, KnuthAlgorithm}\n",
         ]

@@ -1,6 +1,5 @@
 -- The tables of Boundaries, computed. Assumes nothing.
 use mathlib.Core.Bool.{_&&_}
-use mathlib.Core.List.{[], _∷_}
 use lib.Dec.{T}
 use Rattle.lists.specs.Lists.{all}
 use Rattle.definitions.specs.Grid.{setDown, sameCell, box, volume, byteAt, gridWith, filledCells, sidesThenCells, sameGrid, gridAhead}
@@ -20,24 +19,11 @@ use Rattle.definitions.specs.Files.{callOn, fieldsOf, field, linesOf, is
 use Rattle.definitions.specs.Starts.{pageFrom, isEntry, noEntry, acceptedBehind, outcomeBehind, outcomeFrom}
 use Rattle.definitions.specs.Fillings.{lists, holds}
 use Rattle.definitions.specs.declared.SolverKind.the-variants.{Fast, KnuthAlgorithm}
-use Rattle.definitions.specs.Boundaries.{refusals, largeBoards, isGiven, afterwards, isLeft, afterwardsBehind, isLeftBehind, counts, isCounted, pages, isPaged, resumed, isResumed, files, isPrinted, moreFillings, fastFillings}
+use Rattle.definitions.specs.Boundaries.{refusals, isGiven, counts, isCounted, pages, isPaged, resumed, isResumed, files, isPrinted, moreFillings, fastFillings}
 
 pub refusals-hold : T (all isGiven refusals)
 unfolding refusals isGiven sameCell box volume byteAt gridWith filledCells sidesThenCells sameGrid gridAhead side coordinate fromEnd mapSides mapCell axisOf flipOf inverse mapGrid permutations transform parity turns mirrorings mirror axisAhead axes cellAhead scan scanNumber variants smallest sameForm formAhead sorted forms mirroredForm copiesOf partnerOf kindsOf origin lies reaches fits placementsAt placementsOf compile rank ahead samePlacement covering used limits placed coversOnce withinCopies isPacking compared smaller kindAfter cellAfter moved image symmetries turnedImages mirroredImages images kept start possible choose search fastChoices identifiesTurned sizes allCells kind0First fastList tallyAhead tallies knuthChoices knuthList packings listed taken copyOn answer page sidesOf gridOf lentOf stripTray trayOf setDown along corner span spanned strip frameOf ownFrame identifies identifyOf isSide sidesFit cellsLie areBits someFilled filledWhere isTight copyCount boardCellCount isPorted isKnuth placementCount rowsOf linkCount table refusal answersOf answerSize capacity pageOf overStart refused accepted outcome
 refusals-hold = tt
-
-pub large-boards-hold : T (all isGiven largeBoards)
-unfolding largeBoards isGiven sameCell box volume byteAt gridWith filledCells sidesThenCells sameGrid gridAhead side coordinate fromEnd mapSides mapCell axisOf flipOf inverse mapGrid permutations transform parity turns mirrorings mirror axisAhead axes cellAhead scan scanNumber variants smallest sameForm formAhead sorted forms mirroredForm copiesOf partnerOf kindsOf origin lies reaches fits placementsAt placementsOf compile rank ahead samePlacement covering used limits placed coversOnce withinCopies isPacking compared smaller kindAfter cellAfter moved image symmetries turnedImages mirroredImages images kept start possible choose search fastChoices identifiesTurned sizes allCells kind0First fastList tallyAhead tallies knuthChoices knuthList packings listed taken copyOn answer page sidesOf gridOf lentOf stripTray trayOf setDown along corner span spanned strip frameOf ownFrame identifies identifyOf isSide sidesFit cellsLie areBits someFilled filledWhere isTight copyCount boardCellCount isPorted isKnuth placementCount rowsOf linkCount table refusal answersOf answerSize capacity pageOf overStart refused accepted outcome
-large-boards-hold = tt
-
-pub afterwards-hold : T (all isLeft afterwards)
-unfolding afterwards isLeft cleared sameCell box volume byteAt gridWith filledCells sidesThenCells sameGrid gridAhead side coordinate fromEnd mapSides mapCell axisOf flipOf inverse mapGrid permutations transform parity turns mirrorings mirror axisAhead axes cellAhead scan scanNumber variants smallest sameForm formAhead sorted forms mirroredForm copiesOf partnerOf kindsOf origin lies reaches fits placementsAt placementsOf compile rank ahead samePlacement covering used limits placed coversOnce withinCopies isPacking compared smaller kindAfter cellAfter moved image symmetries turnedImages mirroredImages images kept start possible choose search fastChoices identifiesTurned sizes allCells kind0First fastList tallyAhead tallies knuthChoices knuthList packings listed taken copyOn answer page sidesOf gridOf lentOf stripTray trayOf setDown along corner span spanned strip frameOf ownFrame identifies identifyOf isSide sidesFit cellsLie areBits someFilled filledWhere isTight copyCount boardCellCount isPorted isKnuth placementCount rowsOf linkCount table refusal answersOf answerSize capacity pageOf overStart refused accepted outcome
-afterwards-hold = tt
-
--- an entry, and none
-pub afterwards-behind-hold : T (all (λ x. isLeftBehind (0 ∷ 0 ∷ []) x && isLeftBehind (0 ∷ 1 ∷ []) x) afterwardsBehind)
-unfolding afterwardsBehind isLeftBehind outcomeFrom outcomeBehind acceptedBehind isEntry noEntry pageFrom cleared sameCell box volume byteAt gridWith filledCells sidesThenCells sameGrid gridAhead side coordinate fromEnd mapSides mapCell axisOf flipOf inverse mapGrid permutations transform parity turns mirrorings mirror axisAhead axes cellAhead scan scanNumber variants smallest sameForm formAhead sorted forms mirroredForm copiesOf partnerOf kindsOf origin lies reaches fits placementsAt placementsOf compile rank ahead samePlacement covering used limits placed coversOnce withinCopies isPacking compared smaller kindAfter cellAfter moved image symmetries turnedImages mirroredImages images kept start possible choose search fastChoices identifiesTurned sizes allCells kind0First fastList tallyAhead tallies knuthChoices knuthList packings listed taken copyOn answer page sidesOf gridOf lentOf stripTray trayOf setDown along corner span spanned strip frameOf ownFrame identifies identifyOf isSide sidesFit cellsLie areBits someFilled filledWhere isTight copyCount boardCellCount isPorted isKnuth placementCount rowsOf linkCount table refusal answersOf answerSize capacity pageOf overStart refused accepted outcome
-afterwards-behind-hold = tt
 
 pub counts-hold : T (all isCounted counts)
 unfolding counts isCounted callOn sameCell box volume byteAt gridWith filledCells sidesThenCells sameGrid gridAhead side coordinate fromEnd mapSides mapCell axisOf flipOf inverse mapGrid permutations transform parity turns mirrorings mirror axisAhead axes cellAhead scan scanNumber variants smallest sameForm formAhead sorted forms mirroredForm copiesOf partnerOf kindsOf origin lies reaches fits placementsAt placementsOf compile rank ahead samePlacement covering used limits placed coversOnce withinCopies isPacking compared smaller kindAfter cellAfter moved image symmetries turnedImages mirroredImages images kept start possible choose search fastChoices identifiesTurned sizes allCells kind0First fastList tallyAhead tallies knuthChoices knuthList packings listed taken copyOn answer page sidesOf gridOf lentOf stripTray trayOf setDown along corner span spanned strip frameOf ownFrame identifies identifyOf isSide sidesFit cellsLie areBits someFilled filledWhere isTight copyCount boardCellCount isPorted isKnuth placementCount rowsOf linkCount table refusal answersOf answerSize capacity pageOf overStart refused accepted outcome

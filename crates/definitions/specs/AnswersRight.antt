@@ -1,5 +1,5 @@
 -- Document 01, "Answer", cell by cell: what stands where in a packing's answer, said without the function that makes it. (The demands ask only that answers are bytes, of
--- one length, and differ: with piece and copy number swapped, the box read z slowest, or copies dealt in reverse they would still hold.) Proved in proofs/AnswersRightLaws.
+-- one length, and differ: with piece and copy number swapped, the box read z slowest, or copies dealt in reverse they would still hold.) Proved in AnswersRightLaws (theorems).
 use Prim.Native.Nat.{ℕ, _*_, _<_}
 use mathlib.Core.Bool.{_&&_}
 use mathlib.Core.List.{List, [], _∷_, map, List·Memᴰ}

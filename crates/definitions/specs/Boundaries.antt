@@ -1,16 +1,15 @@
 -- What the marked lines leave open, as tables that antt computes (proofs/BoundaryLaws): each refusal and its boundary; pairs of refusals that apply at
--- once; the slices afterwards; the counts of 14 and 15 (trays at their limits are too large to compute here); pages, also from behind an entry; files. More lists and pages, of trays
--- that take longer, are in the crate examples.
+-- once; the counts of 14 and 15 (trays at their limits are too large to compute here); pages, also from behind an entry; files; lists. What takes longer
+-- is in the crate examples: lists and pages, the slices afterwards, boards at the limit of 9.
 use Prim.Native.Nat.{ℕ, zero, suc, _+_, _*_, _/_, _%_}
 use Prim.Native.String.{String}
 use mathlib.Core.Bool.{Bool, true, false, _&&_}
-use mathlib.Core.List.{List, [], _∷_, _++_}
+use mathlib.Core.List.{List, [], _∷_}
 use lib.Dec.{eqb}
 use lib.ListN.{replicate}
 use Rattle.lists.specs.Lists.{same}
 use Rattle.definitions.specs.Placements.{compile}
 use Rattle.definitions.specs.Refusals.{Call, trayOf, placementCount, linkCount, refusal}
-use Rattle.definitions.specs.Outcomes.{Outcome, outcome}
 use Rattle.definitions.specs.Starts.{outcomeFrom}
 use Rattle.definitions.specs.Texts.{text}
 use Rattle.definitions.specs.Fillings.{Line, piece, inWood, board, M, D, none, turned, mirrored, lists, shows}
@@ -159,73 +158,8 @@ refusals =
     gives 0 (slices 8192 0 plain) ∷
     []
 
--- 9: 128 filled board cells are taken, 129 are not; 8 comes before, 10 after. The piece is too large for the board, so that nothing more is computed.
-abbrev pub bar : ℕ → Record
-bar n = at n 1 1 8 0
-
-unfoldable pub largeBoards : List Expected
-largeBoards =
-    gives 0 (lending (at 0 8 8 3 0) (bar 1 ∷ []) (replicate 128 1 ++ replicate 64 0)) ∷
-    gives 9 (lending (at 0 8 8 3 0) (bar 1 ∷ []) (replicate 129 1 ++ replicate 63 0)) ∷
-    gives 8 (lending (at 0 8 8 3 0) (bar 129 ∷ []) (replicate 129 1 ++ replicate 63 0)) ∷
-    gives 9 (asking false true Fast (lending (at 0 8 8 3 0) (bar 1 ∷ []) (replicate 129 1 ++ replicate 63 0))) ∷
-    gives 0 (lending (at 0 8 8 3 0) [] (replicate 128 1 ++ replicate 64 0)) ∷
-    gives 9 (asking false true Fast (lending (at 0 8 8 3 0) [] (replicate 129 1 ++ replicate 63 0))) ∷
-    []
-
 unfoldable pub isGiven : Expected → Bool
 isGiven x = eqb (refusal (x .call)) (x .number)
-
--- ---- the slices afterwards
--- what an outcome leaves: equal numbers, one after the other
-pub record Left : Type 0 where
-  pub call : Call
-  pub number : ℕ
-  pub answers : List ℕ
-  pub work : List ℕ
-  pub links : List ℕ
-
-abbrev pub leaves : Call → ℕ → List ℕ → List ℕ → List ℕ → Left
-leaves l n a w k = record { call = l; number = n; answers = a; work = w; links = k }
-
-abbrev pub roomy : SolverKind → Call → Call
-roomy e l =
-    record {
-      pieces = l .pieces;
-      board = l .board;
-      bytes = l .bytes;
-      config = record { «identify_transformed_answers» = false; «identify_mirrored_answers» = false; solver = e };
-      skip = 0;
-      answers = 7 ∷ 7 ∷ 7 ∷ [];
-      work = replicate 8194 7;
-      links = replicate 32769 7;
-    }
-
-unfoldable pub afterwards : List Left
-afterwards =
-    leaves (roomy Fast plain) 0 (0 ∷ 0 ∷ 7 ∷ []) (replicate 8192 0 ++ 7 ∷ 7 ∷ []) (replicate 32769 7) ∷
-    leaves (roomy KnuthAlgorithm plain) 0 (0 ∷ 0 ∷ 7 ∷ []) (replicate 8192 0 ++ 7 ∷ 7 ∷ []) (replicate 32768 0 ++ 7 ∷ []) ∷
-    leaves (roomy Auto plain) 11 (7 ∷ 7 ∷ 7 ∷ []) (replicate 8194 7) (replicate 32769 7) ∷
-    leaves (roomy Fast bare) 0 (255 ∷ 255 ∷ 7 ∷ []) (replicate 8192 0 ++ 7 ∷ 7 ∷ []) (replicate 32769 7) ∷
-    leaves (roomy KnuthAlgorithm bare) 0 (255 ∷ 255 ∷ 7 ∷ []) (replicate 8192 0 ++ 7 ∷ 7 ∷ []) (replicate 32768 0 ++ 7 ∷ []) ∷
-    []
-
-abbrev pub leftBy : Left → Outcome → Bool
-leftBy x o = eqb (o .number) (x .number) && (same (o .answers) (x .answers) && (same (o .work) (x .work) && same (o .links) (x .links)))
-
-unfoldable pub isLeft : Left → Bool
-isLeft x = leftBy x (outcome (x .call))
-
--- behind the last entry of a list, and behind what is none: the search has run, and nothing is written
-unfoldable pub afterwardsBehind : List Left
-afterwardsBehind =
-    leaves (roomy Fast plain) 0 (7 ∷ 7 ∷ 7 ∷ []) (replicate 8192 0 ++ 7 ∷ 7 ∷ []) (replicate 32769 7) ∷
-    leaves (roomy KnuthAlgorithm plain) 0 (7 ∷ 7 ∷ 7 ∷ []) (replicate 8192 0 ++ 7 ∷ 7 ∷ []) (replicate 32768 0 ++ 7 ∷ []) ∷
-    leaves (roomy Auto plain) 11 (7 ∷ 7 ∷ 7 ∷ []) (replicate 8194 7) (replicate 32769 7) ∷
-    []
-
-unfoldable pub isLeftBehind : List ℕ → Left → Bool
-isLeftBehind last x = leftBy x (outcomeFrom Behind last (x .call))
 
 -- ---- the counts of 14 and 15
 -- a tray, its placements and its links
@@ -402,12 +336,10 @@ files =
 unfoldable pub isPrinted : Printed → Bool
 isPrinted x = same (packed (x .read)) (x .prints)
 
--- ---- two more trays, for both engines
--- a packing of handed pieces alone, whose partner is not in the box: each mirrored image lacks all its placements; a piece of five cells
+-- ---- more trays, for both engines
 unfoldable pub moreFillings : List Line
 moreFillings =
-    mirrored (board 2 2 2 (cells 8 11111111)) (piece 2 2 2 2 (cells 8 11100100) ∷ [])
-    ((0 ∷ 0 ∷ 0 ∷ 1 ∷ 0 ∷ 1 ∷ 0 ∷ 1 ∷ 0 ∷ 0 ∷ 0 ∷ 0 ∷ 0 ∷ 1 ∷ 0 ∷ 0 ∷ []) ∷ []) ∷
+    -- a piece of five cells
     none (board 1 1 5 (cells 5 11111)) (piece 1 1 1 5 (cells 5 11111) ∷ []) ((0 ∷ 0 ∷ 0 ∷ 0 ∷ 0 ∷ 0 ∷ 0 ∷ 0 ∷ 0 ∷ 0 ∷ []) ∷ []) ∷
     -- document 02, A5: one shape in two woods is two kinds, the smaller wood first (and placed first, where it has one copy); in one wood one kind; grids come
     -- before woods
@@ -415,16 +347,14 @@ moreFillings =
     turned (board 1 1 2 (cells 2 11)) (inWood 9 (M 1) ∷ inWood 2 (M 1) ∷ []) ((1 ∷ 0 ∷ 0 ∷ 0 ∷ []) ∷ []) ∷
     none (board 1 1 2 (cells 2 11)) (inWood 7 (M 1) ∷ inWood 7 (M 1) ∷ []) ((0 ∷ 0 ∷ 1 ∷ 0 ∷ []) ∷ []) ∷
     none (board 1 1 3 (cells 3 111)) (D 1 ∷ inWood 9 (M 1) ∷ []) ((1 ∷ 0 ∷ 0 ∷ 0 ∷ 0 ∷ 0 ∷ []) ∷ (0 ∷ 0 ∷ 0 ∷ 0 ∷ 1 ∷ 0 ∷ []) ∷ []) ∷
-    -- mirror partners, in one wood and in two
-    mirrored (board 2 2 2 (cells 8 11111111)) (inWood 1 (piece 2 2 2 2 (cells 8 11100100)) ∷ inWood 1 (piece 2 2 2 2 (cells 8 11100010)) ∷ [])
-    ((1 ∷ 0 ∷ 1 ∷ 1 ∷ 1 ∷ 1 ∷ 1 ∷ 1 ∷ 1 ∷ 0 ∷ 1 ∷ 1 ∷ 1 ∷ 0 ∷ 1 ∷ 0 ∷ []) ∷ []) ∷
-    mirrored (board 2 2 2 (cells 8 11111111)) (piece 2 2 2 2 (cells 8 11100100) ∷ inWood 1 (piece 2 2 2 2 (cells 8 11100010)) ∷ [])
-    ((0 ∷ 0 ∷ 0 ∷ 1 ∷ 0 ∷ 1 ∷ 0 ∷ 1 ∷ 0 ∷ 0 ∷ 0 ∷ 0 ∷ 0 ∷ 1 ∷ 0 ∷ 0 ∷ []) ∷ (1 ∷ 0 ∷ 1 ∷ 1 ∷ 1 ∷ 1 ∷ 1 ∷ 1 ∷ 1 ∷ 0 ∷ 1 ∷ 1 ∷ 1 ∷ 0 ∷ 1 ∷ 0 ∷ []) ∷ []) ∷
     []
 
--- ---- a tray where kind 0, the single cell, placed first decides Fast's order; Knuth's is the other way round
+-- ---- and for Fast alone: kind 0, the single cell, placed first decides its order (Knuth's is the other way round); a packing of handed pieces whose
+-- partner is not in the box: each mirrored image lacks all its placements
 unfoldable pub fastFillings : List Line
 fastFillings =
     turned (board 1 1 6 (cells 6 111011)) (M 1 ∷ D 1 ∷ piece 1 1 1 3 (cells 3 101) ∷ [])
     ((2 ∷ 0 ∷ 0 ∷ 0 ∷ 2 ∷ 0 ∷ 255 ∷ 255 ∷ 1 ∷ 0 ∷ 1 ∷ 0 ∷ []) ∷ (1 ∷ 0 ∷ 1 ∷ 0 ∷ 2 ∷ 0 ∷ 255 ∷ 255 ∷ 2 ∷ 0 ∷ 0 ∷ 0 ∷ []) ∷ []) ∷
+    mirrored (board 2 2 2 (cells 8 11111111)) (piece 2 2 2 2 (cells 8 11100100) ∷ [])
+    ((0 ∷ 0 ∷ 0 ∷ 1 ∷ 0 ∷ 1 ∷ 0 ∷ 1 ∷ 0 ∷ 0 ∷ 0 ∷ 0 ∷ 0 ∷ 1 ∷ 0 ∷ 0 ∷ []) ∷ []) ∷
     []

@@ -1,5 +1,5 @@
 -- The demands as statements over the definitions of call, packing, move and page, for anything that runs calls: run l is what it makes of the call l.
--- proofs/DemandLaws shows that the definitions' own outcome meets them all; so code meets them whose contract is one equation with that outcome.
+-- DemandLaws (theorems) shows that the definitions' own outcome meets them all; so code meets them whose contract is one equation with that outcome.
 use Prim.Native.Nat.{ℕ, _+_, _-_, _*_, _<_, _≤_, min}
 use mathlib.Core.Bool.{false, cond}
 use mathlib.Core.List.{List, [], _++_, map, List·Memᴰ, Perm}

@@ -1,5 +1,5 @@
 -- Document 02, A1, a tray with an empty box: "An empty list of pieces should be taken: a board without filled cells has the one empty packing, every other
--- board has none. 1 no longer occurs." Said, as the demands are, of anything that runs calls; proofs/EmptyBoxLaws shows it of the definitions' own outcome.
+-- board has none. 1 no longer occurs." Said, as the demands are, of anything that runs calls; EmptyBoxLaws (theorems) shows it of the definitions' own outcome.
 use Prim.Native.Nat.{ℕ}
 use mathlib.Core.Bool.{cond}
 use mathlib.Core.List.{List, [], _∷_}

@@ -1,7 +1,7 @@
 -- Document 02, A4, empty outer layers carry no meaning: what a stripped grid is, said by its filled cells; that the tray which is listed is the lent one,
 -- stripped, with its board where it lay; that answers are those of the stripped tray, put back into the lent box; and that 7 is gone. (The demands speak of
 -- the tray that is listed: they would hold with another shape for a piece, or with the board put back in a wrong corner.) Statements only; proved in
--- proofs/StrippedLaws and TrayLaws.
+-- StrippedLaws and TrayLaws (theorems).
 use Prim.Native.Nat.{ℕ, _<_}
 use mathlib.Core.List.{[], map}
 use mathlib.Core.Logic.{_⊎_, _≢_}

@@ -104,7 +104,8 @@ isGridIn n line =
 unfoldable pub isConfig : List ℕ → Bool
 isConfig line =
     eqb (length (fieldsOf line)) 3 && (same (field line 0) (text "config")
-    && ((same (field line 1) (text "fast") || same (field line 1) (text "knuth")) && (same (field line 2) (text "none") || (same (field line 2) (text "turned") || same (field line 2) (text "mirrored")))))
+    && ((same (field line 1) (text "fast") || same (field line 1) (text "knuth"))
+    && (same (field line 2) (text "none") || (same (field line 2) (text "turned") || same (field line 2) (text "mirrored")))))
 
 unfoldable pub isBoard : List ℕ → Bool
 isBoard line = eqb (length (fieldsOf line)) 5 && (same (field line 0) (text "board") && isGridIn 1 line)

@@ -1,8 +1,8 @@
 -- Document 01, "The things themselves": "A grid has three sides a, b, c (x, y, z) and one byte a cell, 1 filled or 0, x slowest, z fastest."
 use Prim.Native.Nat.{ℕ, _+_, _*_, _<_}
-use mathlib.Core.Bool.{Bool, true, false, _&&_}
-use mathlib.Core.List.{List, [], _∷_, map}
-use lib.Dec.{ltb, eqb}
+use mathlib.Core.Bool.{Bool, _&&_}
+use mathlib.Core.List.{List, _∷_, map}
+use lib.Dec.{eqb}
 use lib.ListN.{getD}
 use Rattle.lists.specs.Lists.{each, below, keep, same, less}
 

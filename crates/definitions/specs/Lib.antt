@@ -29,3 +29,4 @@ pub mod Printed
 pub mod EmptyBox
 pub mod Fillings
 pub mod Boundaries
+pub mod Steps

@@ -1,6 +1,6 @@
 -- Document 01, "Maps": "The 48 signed axis permutations stand in a constant table, 24 turns and 24 mirrorings, as `enumerate_transforms` builds them."
 use Prim.Native.Nat.{ℕ, _+_, _-_, _/_, _%_}
-use mathlib.Core.Bool.{Bool, true, false, cond, _&&_}
+use mathlib.Core.Bool.{Bool, cond, _&&_}
 use mathlib.Core.List.{List, [], _∷_, _++_, map}
 use lib.Dec.{eqb, leb, ltb}
 use lib.ListN.{getD}

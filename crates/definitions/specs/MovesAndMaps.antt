@@ -1,12 +1,11 @@
 -- Sequences of moves and the 48 maps: every sequence acts as one of the 48, and each of the 48 is the action of some sequence. Statements only; proved in
--- proofs/MapNumberLaws.
+-- MapNumberLaws (theorems).
 use Prim.Native.Nat.{ℕ, _<_}
-use mathlib.Core.Bool.{Bool}
 use mathlib.Core.List.{List}
 use mathlib.Core.Path.{_≡_}
 use lib.Dec.{T}
 use Rattle.definitions.specs.Grid.{Sides, Cell, Grid, InBox, volume}
-use Rattle.definitions.specs.Maps.{Map, mapOf, mapSides, mapCell, mapGrid, isMirroring}
+use Rattle.definitions.specs.Maps.{mapOf, mapSides, mapCell, mapGrid, isMirroring}
 use Rattle.definitions.specs.Moves.{Move, sidesAfterAll, cellAfterAll, gridAfter, isOdd, areTurns}
 use Rattle.definitions.specs.Refusals.{areBits}
 use lib.ListN.{length}

@@ -16,7 +16,8 @@ use Rattle.definitions.specs.Refusals.{Call, sidesOf, trayOf, identifyOf
 use Rattle.definitions.specs.declared.SolverKind.{SolverKind}
 use Rattle.definitions.specs.declared.Refusal.{Refusal}
 use Rattle.definitions.specs.declared.Refusal.the-variants.{TooManyPieces, SideOutOfRange, CellsOutsideBytes, CellNotZeroOrOne, PieceWithoutFilledCell}
-use Rattle.definitions.specs.declared.Refusal.the-variants.{TooManyCopies, TooManyBoardCells, MirroredWithoutTurned, EngineNotPorted, WorkTooShort, LinksTooShort, TooManyPlacements, TooManyLinks}
+use Rattle.definitions.specs.declared.Refusal.the-variants.{TooManyCopies, TooManyBoardCells, MirroredWithoutTurned, EngineNotPorted, WorkTooShort}
+use Rattle.definitions.specs.declared.Refusal.the-variants.{LinksTooShort, TooManyPlacements, TooManyLinks}
 use Rattle.definitions.specs.declared.Listing.{Listing}
 use Rattle.definitions.specs.declared.Listing.the-variants as listing
 

@@ -1,7 +1,7 @@
 -- Document 01, "Packing": "A set of placements that covers each filled board cell once, no other cell, and uses no kind beyond its copies."
 -- (A placement's cells are filled board cells, so no other cell is covered.)
 use Prim.Native.Nat.{ℕ}
-use mathlib.Core.Bool.{Bool, true, false, _&&_}
+use mathlib.Core.Bool.{Bool, _&&_}
 use mathlib.Core.List.{List, [], _∷_, map}
 use lib.Dec.{T, leb, eqb}
 use lib.ListN.{length, getD}

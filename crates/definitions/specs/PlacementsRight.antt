@@ -1,6 +1,6 @@
 -- That the definitions of kinds and placements forget nothing and invent nothing, said by moves, cells and woods alone: a kind's placements are exactly its
 -- pieces' grids after sequences of quarter turns, set down on filled board cells, each once; its copies are exactly those lent. (A definition that forgot
--- placements would satisfy the demands, since packings, covers and images all speak of the placements that there are.) Proved in proofs/PlacementLaws.
+-- placements would satisfy the demands, since packings, covers and images all speak of the placements that there are.) Proved in PlacementLaws (theorems).
 use Prim.Native.Nat.{ℕ, _<_}
 use mathlib.Core.Bool.{Bool, _&&_, _||_}
 use mathlib.Core.List.{List, [], _∷_, map, List·Memᴰ}

@@ -1,5 +1,5 @@
 -- What `pack` prints for an accepted file, held to demand 3: a line for each answer of the one list, in its order and numbered from 0, and last how many there are.
--- Proved in proofs/MeetLaws; proofs/WholeLaws of the crate `output` says it of the bytes that the program's steps make.
+-- Proved in MeetLaws (theorems); proofs/WholeLaws of the crate `output` says it of the bytes that the program's steps make.
 use Prim.Native.Nat.{ℕ, _<_, _≤_, _^_}
 use mathlib.Core.List.{List, _++_, map}
 use mathlib.Core.Path.{_≡_}

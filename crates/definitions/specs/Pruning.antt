@@ -1,6 +1,5 @@
 -- Where a search may leave a branch early. Nothing here is of document 01: these are the engines' lists with such branches left out, and the claim that
--- what is listed stays as it is. Proved in proofs/PruningLaws.
-use Prim.Native.Nat.{ℕ}
+-- what is listed stays as it is. Proved in PruningLaws (theorems).
 use mathlib.Core.Bool.{Bool, true, false, cond, not, _&&_, _||_}
 use mathlib.Core.List.{List, [], _∷_, map}
 use mathlib.Core.Path.{_≡_}

@@ -1,6 +1,6 @@
 -- Document 01, utils.rs: "Scan order: the longest side of the board's box is compared first; of equal sides, z before y before x."
 use Prim.Native.Nat.{ℕ}
-use mathlib.Core.Bool.{Bool, true, false, _&&_, _||_}
+use mathlib.Core.Bool.{Bool, _&&_, _||_}
 use mathlib.Core.List.{List, [], _∷_, map}
 use lib.Dec.{ltb, eqb}
 use Rattle.lists.specs.Lists.{sort, less, before}

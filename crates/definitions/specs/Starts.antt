@@ -1,6 +1,6 @@
 -- Where a page starts: at an entry of the list, by its number, which is document 01's skip, or behind an entry that is lent, so that a listing in pages does
 -- not search anew what it has passed. What a call for either returns and leaves; what the code of a page call shows; and the user's sentences about one call.
--- proofs/StartLaws shows that the outcome defined here meets the sentences.
+-- StartLaws (theorems) shows that the outcome defined here meets the sentences.
 use Prim.Native.Nat.{ℕ, suc, _<_}
 use mathlib.Core.Bool.{Bool, true, false, cond, not, _&&_}
 use mathlib.Core.List.{List, []}
@@ -72,7 +72,7 @@ noEntry l =
       links = linksAfter l;
     }
 
--- The outcome of a call for what lies behind an entry of its list. proofs/StartLaws: behind entry k it is document 01's outcome with skip k + 1.
+-- The outcome of a call for what lies behind an entry of its list. StartLaws (theorems): behind entry k it is document 01's outcome with skip k + 1.
 unfoldable pub acceptedBehind : List ℕ → Call → Outcome
 acceptedBehind last l =
     let yes = acceptedWith (pageFrom last true l) l in

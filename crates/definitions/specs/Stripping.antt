@@ -1,5 +1,5 @@
 -- Document 02, A4: "Strip empty outer layers from pieces and board .. a board with no filled cell keeps its box." An empty layer between filled ones is part of
--- the shape and stays. specs/EmptyLayers says what a stripped grid is without this definition; proofs/StrippingLaws and StrippedLaws prove it.
+-- the shape and stays. specs/EmptyLayers says what a stripped grid is without this definition; StrippingLaws and StrippedLaws (theorems) prove it.
 use Prim.Native.Nat.{ℕ, suc, _+_, _-_, _≤_, min, max}
 use mathlib.Core.Bool.{cond}
 use mathlib.Core.List.{List, [], _∷_, map}

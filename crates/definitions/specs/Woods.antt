@@ -1,5 +1,5 @@
 -- Document 02, A5, beech and walnut: what woods forbid, and what they leave as it was; what is said of calls is said, as the demands are, of anything that
--- runs them. Statements only; proved in proofs/WoodLaws.
+-- runs them. Statements only; proved in WoodLaws (theorems).
 use Prim.Native.Nat.{ℕ}
 use mathlib.Core.List.{List, map, List·Memᴰ}
 use mathlib.Core.Path.{_≡_}

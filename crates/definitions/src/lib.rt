@@ -1,4 +1,5 @@
-// The types that a call takes and hands back. Document 01 is written as definitions in specs/, and these types meet them there.
+// The types that a call takes and hands back. Document 01 is written as definitions in specs/, and these types meet them there; proofs/ has only tables
+// that are computed of them. What follows from the definitions is the crate theorems.
 ghost use mathlib.Core.Path.{_≡_};
 ghost use Rattle.definitions.specs.Outcomes.{numberOf};
 

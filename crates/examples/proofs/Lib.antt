@@ -1,1 +1,2 @@
 pub mod ExampleLaws
+pub mod BoundaryLaws

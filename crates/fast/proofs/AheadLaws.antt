@@ -26,7 +26,7 @@ use Rattle.kept.proofs.ReadyLaws as laws
 use Rattle.fast.specs.Searching.{uncovered, stateBy, goesOn}
 use Rattle.fast.proofs.ChoiceLaws.{chosenAt, none-left, other-cell}
 use Rattle.fast.proofs.SearchingLaws.{goes-any, fits, fits-apart, fits-possible, child-state, first-uncovered, none-uncovered, some-uncovered}
-use Rattle.fast.proofs.TurnLaws.{rows-many, size-is, row-is, row-cells, start-is, start-up, start-before, start-behind, start-few, start-range}
+use Rattle.fast.proofs.TurnLaws.{rows-many, size-is, row-is, row-cells, row-first, range-within, start-is, start-up, start-before, start-behind, start-few, start-range}
 
 -- ---- the look at a state
 some-kept : {A : Type 0} (xs : List A) {x : A} → List·Memᴰ x xs → isEmpty xs ≡ false
@@ -79,11 +79,8 @@ module _ {d : Dims} {work chart : List ℕ} (left : List ℕ) (covered : Mask) (
         (holds (possible t q) (sym (test-is r h) ∙ fit))
 
     module _ (k : ℕ) (kind : k < d .kinds) where
-      range-within : 128 * k + c + 1 ≤ 2048
-      range-within = let a = laws.few-kinds d work chart (ready .lawful) in let b = few in omega arith
-
       pub ahead-within : (128 * k + c ≤ 2048) × (128 * k + c + 1 ≤ 2048)
-      ahead-within = let a = range-within in (omega arith, a)
+      ahead-within = let b = few in range-within ready k c kind (omega arith)
 
       module _ (start end : ℕ) (begins : start ≡ getD chart (128 * k + c) 0) (ends : end ≡ getD chart (128 * k + c + 1) 0) where
         start-at : start ≡ startOf (S .rows) (128 * k + c)
@@ -101,13 +98,6 @@ module _ {d : Dims} {work chart : List ℕ} (left : List ℕ) (covered : Mask) (
             let f = ready .rowsFit in
             (omega arith, omega arith)
 
-        row-first : (r : ℕ) → r < d .rows → rowAt work r .p < 128
-        row-first r l =
-            let q = laws.row-in d work chart r l in
-            let a = ready .lawful .row (rowAt work r) q .onBoard (rowAt work r .p) (ready .lawful .row (rowAt work r) q .coversP) in
-            let b = ready .lawful .fewCells in
-            omega arith
-
         -- a row of the range can be placed
         pub goes-found : 0 < getD left k 0 → any (λ r. apart 128 (has (maskAt work r)) (has covered)) (from start (end - start)) ≡ true → true ≡ goesOn S t
         unfolding goesOn fastChoices
@@ -122,7 +112,7 @@ module _ {d : Dims} {work chart : List ℕ} (left : List ℕ) (covered : Mask) (
             let row : r < d .rows = omega arith in
             let u = start-behind ready (128 * k + c) r (omega arith) row in
             let v = start-before ready (128 * k + c + 1) r (omega arith) in
-            let p = row-first r row in
+            let p = row-first ready r row in
             let l = few in
             let q : rowAt work r .kind ≡ k = omega arith in
             let at : rowAt work r .p ≡ c = omega arith in

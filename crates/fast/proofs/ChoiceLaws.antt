@@ -15,12 +15,12 @@ use Rattle.lists.proofs.ListLaws.{any-at, keep-at, keep-append, keep-shorter, e
 use Rattle.lists.proofs.RangeLaws.{member-of}
 use Rattle.definitions.specs.Placements.{Placement}
 use Rattle.definitions.specs.Kept.{Identify}
+use Rattle.definitions.specs.Emission.{Listed}
 use Rattle.definitions.specs.Orders.{State, possible, choose, search, fastChoices}
 use Rattle.rows.specs.Systems.{System}
-use Rattle.rows.specs.Answering.{answerBy}
 use Rattle.rows.specs.Lawful.{Lawful}
 use Rattle.kept.specs.Normal.{rowOf, noRow, normal}
-use Rattle.kept.specs.Entries.{numbersOf, entries}
+use Rattle.kept.specs.Entries.{numbersOf, entries, entryBy}
 use Rattle.fast.specs.Searching.{fastBelow, goesOn}
 
 -- ---- lists
@@ -36,13 +36,13 @@ empty-same (x ∷ xs) a b c h = absurd (omega arith)
 pub entries-append : (s : System) (i : Identify) (L M : List (List Placement)) → entries s i (L ++ M) ≡ entries s i L ++ entries s i M
 unfolding entries
 entries-append s i L M =
-    ap (λ (K : List (List Placement)). map (answerBy s) K) (keep-append (λ P. normal s i (numbersOf s P)) L M)
-    ∙ map-append (answerBy s) (keep (λ P. normal s i (numbersOf s P)) L) (keep (λ P. normal s i (numbersOf s P)) M)
+    ap (λ (K : List (List Placement)). map (entryBy s) K) (keep-append (λ P. normal s i (numbersOf s P)) L M)
+    ∙ map-append (entryBy s) (keep (λ P. normal s i (numbersOf s P)) L) (keep (λ P. normal s i (numbersOf s P)) M)
 
 pub entries-each : {A : Type 0} (s : System) (i : Identify) (f : A → List (List Placement)) (xs : List A) → entries s i (each xs f) ≡ each xs (λ x. entries s i (f x))
 unfolding entries
 entries-each s i f [] = refl
-entries-each s i f (x ∷ xs) = entries-append s i (f x) (each xs f) ∙ ap (λ (l : List (List ℕ)). entries s i (f x) ++ l) (entries-each s i f xs)
+entries-each s i f (x ∷ xs) = entries-append s i (f x) (each xs f) ∙ ap (λ (l : List Listed). entries s i (f x) ++ l) (entries-each s i f xs)
 
 -- ---- fuel
 module _ (rows : List Placement) (covers-p : (q : Placement) → List·Memᴰ q rows → List·Memᴰ (q .p) (q .cells)) where
@@ -97,7 +97,7 @@ keep-pass test d qs (suc n) a fail = by-order (length qs) a past (here (keep-pas
 abbrev pub chosenAt : State → Placement → Bool
 chosenAt t q = any (eqb (q .p)) (take 1 (t .free)) && possible t q
 
-unfoldable pub choicesFrom : System → Identify → State → ℕ → List (List ℕ)
+unfoldable pub choicesFrom : System → Identify → State → ℕ → List Listed
 choicesFrom s i t r = each (keep (chosenAt t) (drop r (s .rows))) (λ q. fastBelow s i (choose t q))
 
 pub leaf-lists : (s : System) (i : Identify) (t : State) → isEmpty (t .free) ≡ true → fastBelow s i t ≡ entries s i (t .chosen ∷ [])

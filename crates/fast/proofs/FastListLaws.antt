@@ -22,14 +22,15 @@ use Rattle.definitions.specs.Kept.Identify.{None, Turned, Mirrored}
 use Rattle.definitions.specs.Orders.{State, start, choose, search, fastChoices, identifiesTurned, allCells, kind0First, fastList, packings, listed}
 use Rattle.definitions.specs.Pruning.{movedAhead, alwaysMirrorable, isPruned, fastPruned}
 use Rattle.definitions.specs.Answers.{answer}
+use Rattle.definitions.specs.Emission.{answersIn}
 use Rattle.definitions.specs.Outcomes.{answersOf}
 use Rattle.definitions.specs.Refusals.{Call, trayOf, refusal}
 use Rattle.definitions.specs.declared.SolverKind.the-variants.{Fast}
-use Rattle.definitions.proofs.PackingLaws.{ahead-trans, ahead-irrefl}
-use Rattle.definitions.proofs.SearchLaws.{from-start-sound}
-use Rattle.definitions.proofs.EngineLaws.{fast-fair, fastSearch, firsts, has-first}
-use Rattle.definitions.proofs.PruningLaws.{fast-unchanged}
-use Rattle.definitions.proofs.GeometryLaws.{W}
+use Rattle.theorems.proofs.PackingLaws.{ahead-trans, ahead-irrefl}
+use Rattle.theorems.proofs.SearchLaws.{from-start-sound}
+use Rattle.theorems.proofs.EngineLaws.{fast-fair, fastSearch, firsts, has-first}
+use Rattle.theorems.proofs.PruningLaws.{fast-unchanged}
+use Rattle.theorems.proofs.GeometryLaws.{W}
 use Rattle.rows.specs.Systems.{System, cellImages, systemOf, kindBy, cellsBy, movedBy, rowWith}
 use Rattle.kept.specs.Normal.{noRow, rowOf, imageOf}
 use Rattle.kept.specs.Entries.{entries, startBy}
@@ -110,7 +111,7 @@ module _ (l : Call) (ok : refusal l ≡ 0) where
   start-same = refl
 
   -- ---- Fast's list
-  fast-plain : (i : Identify) → kind0First C i ≡ false → fastBelow S i (start C) ≡ map (answer C) (listed C i Fast)
+  fast-plain : (i : Identify) → kind0First C i ≡ false → answersIn (fastBelow S i (start C)) ≡ map (answer C) (listed C i Fast)
   unfolding fastBelow systemOf listed packings fastList
   fast-plain i e =
       entries-same l ok i plain (from-start-sound C (W l ok) (fastChoices rows) (fast-fair C (W l ok)))
@@ -203,10 +204,10 @@ module _ (l : Call) (ok : refusal l ≡ 0) where
       go true p q f = ap not (f tt)
       go false p q f = refl
 
-  fast-first : (i : Identify) → kind0First C i ≡ true → fastFirst S i (start C) ≡ map (answer C) (listed C i Fast)
+  fast-first : (i : Identify) → kind0First C i ≡ true → answersIn (fastFirst S i (start C)) ≡ map (answer C) (listed C i Fast)
   unfolding fastFirst systemOf fastPruned fastSearch firsts kind0First
   fast-first i e =
-      ap (entries S i) (sym (each-map (rowOf S) F (firstRows S i)) ∙ ap (λ (qs : List Placement). each qs F) (first-rows i))
+      ap (λ (L : List (List Placement)). answersIn (entries S i L)) (sym (each-map (rowOf S) F (firstRows S i)) ∙ ap (λ (qs : List Placement). each qs F) (first-rows i))
       ∙ entries-same l ok i after packed
       ∙ ap (λ (b : Bool). map (answer C) (keep (kept C i) (cond b after plain))) (sym e)
       ∙ ap (map (answer C)) (fast-unchanged l ok i)
@@ -239,11 +240,11 @@ module _ (l : Call) (ok : refusal l ≡ 0) where
           let first = keep-of (λ (q : Placement). eqb (q .kind) 0) rows (k .0) (and-left (eqb (x .0 .kind) 0) (not (isPruned C i (x .0))) (k .1)) in
           has-first C (W l ok) one enough (x .0) first P (x .2) .0
 
-  -- ---- both: the engine's list is the document's
-  pub fast-answers : (i : Identify) → fastAnswers (systemOf (trayOf l)) i ≡ answersOf (trayOf l) i Fast
+  -- ---- both: the engine's list has the answers of the document's
+  pub fast-answers : (i : Identify) → answersIn (fastAnswers (systemOf (trayOf l)) i) ≡ answersOf (trayOf l) i Fast
   unfolding fastAnswers answersOf
-  fast-answers i = ap (λ (t : State). cond (firstBy S i) (fastFirst S i t) (fastBelow S i t)) start-same ∙ go (firstBy S i) (first-same (trayOf l) i)
+  fast-answers i = ap (λ (t : State). answersIn (cond (firstBy S i) (fastFirst S i t) (fastBelow S i t))) start-same ∙ go (firstBy S i) (first-same (trayOf l) i)
     where
-      go : (b : Bool) → b ≡ kind0First C i → cond b (fastFirst S i (start C)) (fastBelow S i (start C)) ≡ map (answer C) (listed C i Fast)
+      go : (b : Bool) → b ≡ kind0First C i → answersIn (cond b (fastFirst S i (start C)) (fastBelow S i (start C))) ≡ map (answer C) (listed C i Fast)
       go true e = fast-first i (sym e)
       go false e = fast-plain i (sym e)

@@ -1,3 +1,4 @@
+pub mod StateLaws
 pub mod ChoiceLaws
 pub mod SearchingLaws
 pub mod UnmetLaws

@@ -7,18 +7,17 @@ use mathlib.Core.Path.{_≡_, refl, sym, ap, ap₂, _∙_, subst}
 use native.Mathlib.Omega.{arith}
 use borrow.Author.Tests.{ltb-true, lt-ltb, le-ltb, le-leb, lt-leb, eq-eqb, ne-eqb, not-true, not-false}
 use lib.Dec.{ltb, leb, eqb, lt→ltb}
-use lib.ListN.{length, getD, take, set, length-set}
-use lib.Seq.{take-suc-set, getD-set-same, set-set, set-getD}
+use lib.ListN.{length, getD, take, set}
 use Rattle.lists.specs.Lists.{all, any, below, from, keep, each}
 use Rattle.lists.proofs.TestLaws.{and-both}
-use Rattle.lists.proofs.ListLaws.{any-map, any-same, all-same, getD-pos, keep-fails}
+use Rattle.lists.proofs.ListLaws.{any-map, any-same, all-same, keep-fails}
 use Rattle.lists.proofs.RangeLaws.{from-end, from-next, from-at, below-at, getD-of}
 use Rattle.definitions.specs.Placements.{Placement}
 use Rattle.definitions.specs.Kept.{Identify}
 use Rattle.definitions.specs.Orders.{State, possible, choose, search, fastChoices}
 use Rattle.definitions.specs.Refusals.{identifies}
-use Rattle.definitions.specs.Emission.{Emitted, emits}
-use Rattle.definitions.proofs.EmissionLaws.{emits-append, emits-done}
+use Rattle.definitions.specs.Emission.{Emitted, Listed, emits}
+use Rattle.theorems.proofs.EmissionLaws.{emits-append, emits-done, emits-none}
 use Rattle.masks.specs.Masks.{has, either, nothing}
 use Rattle.masks.specs.declared.Mask.{Mask}
 use Rattle.masks.proofs.MaskLaws.{hit2-zero, apart-of}
@@ -31,11 +30,13 @@ use Rattle.kept.specs.Ready.{Ready, OfRows}
 use Rattle.kept.specs.Entries.{entries}
 use Rattle.fast.specs.Searching.{Searching, fastBelow, stateBy}
 use Rattle.fast.specs.Pruned.{movedBefore, alwaysMirrorableBy, prunedBy, firstRows, fastFirst}
+use Rattle.fast.specs.States.{stateLength, leftPart, putRow, takeCopy}
 use Rattle.rows.specs.declared.Dims.{Dims}
 use Rattle.kept.proofs.ReadyLaws.{kinds-many, rows-many, few-cells, row-is, row-in, row-cells, rows-kinds, image-is}
 use Rattle.kept.proofs.NormalRowLaws.{row-of-in}
 use Rattle.fast.proofs.SearchingLaws.{fits, fits-possible, child-state, child-searching}
 use Rattle.fast.proofs.UnmetLaws.{untried, unmet}
+use Rattle.fast.proofs.StateLaws.{placed-length, placed-left, placed-path}
 use Rattle.fast.proofs.ChoiceLaws.{entries-append}
 
 -- ---- each kind has a mirror partner with as many copies
@@ -166,10 +167,10 @@ module _ (s : System) (r : ℕ) (turned mirrored : Bool) where
 entries-each : (s : System) (i : Identify) (f : ℕ → List (List Placement)) (xs : List ℕ) → entries s i (each xs f) ≡ each xs (λ x. entries s i (f x))
 unfolding entries
 entries-each s i f [] = refl
-entries-each s i f (x ∷ xs) = entries-append s i (f x) (each xs f) ∙ ap (λ (l : List (List ℕ)). entries s i (f x) ++ l) (entries-each s i f xs)
+entries-each s i f (x ∷ xs) = entries-append s i (f x) (each xs f) ∙ ap (λ (l : List Listed). entries s i (f x) ++ l) (entries-each s i f xs)
 
 -- of n rows, what the rows of kind 0 from r on list
-unfoldable pub firstFrom : System → Identify → State → ℕ → ℕ → List (List ℕ)
+unfoldable pub firstFrom : System → Identify → State → ℕ → ℕ → List Listed
 firstFrom s i t n r = each (keep (λ q. eqb (rowOf s q .kind) 0 && not (prunedBy s i q)) (from r (n - r))) (λ q. fastBelow s i (choose t (rowOf s q)))
 
 module _ (s : System) (i : Identify) (t : State) (n : ℕ) where
@@ -204,21 +205,19 @@ module _ (s : System) (i : Identify) (t : State) (n : ℕ) where
           → emits capacity (firstFrom s i t n r) x ≡ z → emits capacity (firstFrom s i t n (r + 1)) y ≡ z
       first-emitted y h e f g k =
           ap (emits capacity (firstFrom s i t n (r + 1))) g ∙ sym (emits-append capacity (fastBelow s i (choose t (rowOf s r))) (firstFrom s i t n (r + 1)) x)
-          ∙ ap (λ (l : List (List ℕ)). emits capacity l x) (sym (first-next h e f)) ∙ k
+          ∙ ap (λ (l : List Listed). emits capacity l x) (sym (first-next h e f)) ∙ k
 
       first-passed : r < n → rowOf s r .kind ≡ 0 → prunedBy s i r ≡ true → emits capacity (firstFrom s i t n r) x ≡ z → emits capacity (firstFrom s i t n (r + 1)) x ≡ z
-      first-passed h e f k = ap (λ (l : List (List ℕ)). emits capacity l x) (sym (first-past h e f)) ∙ k
+      first-passed h e f k = ap (λ (l : List Listed). emits capacity l x) (sym (first-past h e f)) ∙ k
 
       pub first-full : x .further ≡ true → emits capacity (firstFrom s i t n r) x ≡ z → x ≡ z
       first-full f k = sym (emits-done capacity (firstFrom s i t n r) x f) ∙ k
 
       pub first-over : n ≤ r → emits capacity (firstFrom s i t n r) x ≡ z → x ≡ z
-      unfolding emits
-      first-over h k = ap (λ (l : List (List ℕ)). emits capacity l x) (sym (first-end h)) ∙ k
+      first-over h k = sym (emits-none capacity x) ∙ ap (λ (l : List Listed). emits capacity l x) (sym (first-end h)) ∙ k
 
       pub first-left : ((q : ℕ) → r ≤ q → q < n → 0 < rowOf s q .kind) → emits capacity (firstFrom s i t n r) x ≡ z → x ≡ z
-      unfolding emits
-      first-left f k = ap (λ (l : List (List ℕ)). emits capacity l x) (sym (first-others f)) ∙ k
+      first-left f k = sym (emits-none capacity x) ∙ ap (λ (l : List Listed). emits capacity l x) (sym (first-others f)) ∙ k
 
 -- ---- row r, of kind 0, chosen first
 abbrev pub nothingCovered : Mask
@@ -231,14 +230,6 @@ with-nothing m = ap (λ (f : ℕ → Bool). either f (has m)) (sym hit2-zero)
 nothing-has : (p : ℕ) → has nothingCovered p ≡ false
 unfolding nothing
 nothing-has p = ap (λ (f : ℕ → Bool). f p) hit2-zero
-
--- a copy that was taken, put back
-pub copy-back : (left old new : List ℕ) → left ≡ old → 0 < getD old 0 0 → new ≡ set left 0 (getD left 0 0 - 1) → set new 0 (getD new 0 0 + 1) ≡ old
-copy-back left old new e h f =
-    let k = getD-pos old 0 h in
-    let g : new ≡ set old 0 (getD old 0 0 - 1) = f ∙ ap (λ (l : List ℕ). set l 0 (getD l 0 0 - 1)) e in
-    let v : getD old 0 0 - 1 + 1 ≡ getD old 0 0 = omega arith in
-    rw (g, getD-set-same old 0 (getD old 0 0 - 1) 0 k, set-set old 0 (getD old 0 0 - 1) (getD old 0 0 - 1 + 1), v) (set-getD old 0 0)
 
 module _ (d : Dims) (work chart : List ℕ) (ready : Ready d work chart) (r : ℕ) (h : r < d .rows) where
   abbrev sys : System
@@ -300,35 +291,42 @@ module _ (d : Dims) (work chart : List ℕ) (ready : Ready d work chart) (r : �
             (λ a. first-emitted sys i begun (d .rows) r capacity x z x h first-kind (not-true (prunedBy sys i r) (a .0)) (sym (hides (a .2) (a .1))) k)
             (untried (not (prunedBy sys i r)) (x .waiting) (showsRow (ownedIn (piecesPart chart) (d .pieces)) shown (rowAt work r)) f)
 
-    module _ (path : List ℕ) (long : length path ≡ 128) where
-      one-row : take 1 (set path 0 r) ≡ r ∷ []
-      one-row = take-suc-set path 0 r (omega arith)
+    -- the state with it chosen: of a state with the copies of the first
+    module _ (state₀ state placed : List ℕ) (same : leftPart state ≡ leftPart state₀) (long : length state ≡ stateLength) (is : placed ≡ putRow (takeCopy state 0) 0 r) where
+      abbrev left₀ : List ℕ
+      left₀ = leftPart state₀
 
-      pub first-path : OfRows d (set path 0 r) 1
+      one-row : take 1 placed ≡ r ∷ []
+      one-row = placed-path state placed 0 0 r is long (omega arith) (omega arith)
+
+      one-fewer : leftPart placed ≡ set left₀ 0 (getD left₀ 0 0 - 1)
+      one-fewer = placed-left state placed 0 0 r is long (omega arith) (omega arith) ∙ ap (λ (l : List ℕ). set l 0 (getD l 0 0 - 1)) same
+
+      pub first-path : OfRows d placed 1
       first-path =
           record {
-            within = rw (length-set path 0 r) (omega arith);
+            within = (let e = placed-length state placed 0 0 r is long (omega arith) (omega arith) in omega arith);
             few = omega arith;
             areRows = rw one-row (and-both (ltb r (d .rows)) true (lt→ltb r (d .rows) h) tt);
           }
 
-      module _ (left₀ left : List ℕ) (mask : Mask) (e : left ≡ left₀) (m : mask ≡ maskAt work r) where
-        pub first-state : stateBy (systemIn d work chart) (set left 0 (getD left 0 0 - 1)) mask (take 1 (set path 0 r))
-            ≡ choose (stateBy (systemIn d work chart) left₀ nothingCovered []) (rowOf (systemIn d work chart) r)
+      module _ (mask : Mask) (m : mask ≡ maskAt work r) where
+        pub first-state : stateBy (systemIn d work chart) (leftPart placed) mask (take 1 placed)
+            ≡ choose (stateBy (systemIn d work chart) (leftPart state₀) nothingCovered []) (rowOf (systemIn d work chart) r)
         first-state =
-            ap (λ (l : List ℕ). stateBy sys (set l 0 (getD l 0 0 - 1)) mask (take 1 (set path 0 r))) e
-            ∙ ap (λ (x : Mask). stateBy sys (set left₀ 0 (getD left₀ 0 0 - 1)) x (take 1 (set path 0 r))) m
+            ap (λ (l : List ℕ). stateBy sys l mask (take 1 placed)) one-fewer
+            ∙ ap (λ (x : Mask). stateBy sys (set left₀ 0 (getD left₀ 0 0 - 1)) x (take 1 placed)) m
             ∙ ap (stateBy sys (set left₀ 0 (getD left₀ 0 0 - 1)) (maskAt work r)) one-row
             ∙ ap (λ (k : ℕ). stateBy sys (set left₀ k (getD left₀ k 0 - 1)) (maskAt work r) (r ∷ [])) (sym first-kind)
             ∙ child-state sys (ready .lawful) left₀ nothingCovered (maskAt work r) [] r in-rows row-mask (maskAt work r) (with-nothing (maskAt work r))
 
-        pub first-searching : Searching (systemIn d work chart) left₀ nothingCovered [] → 0 < getD left₀ 0 0
-            → Searching (systemIn d work chart) (set left 0 (getD left 0 0 - 1)) mask (take 1 (set path 0 r))
+        pub first-searching : Searching (systemIn d work chart) (leftPart state₀) nothingCovered [] → 0 < getD (leftPart state₀) 0 0
+            → Searching (systemIn d work chart) (leftPart placed) mask (take 1 placed)
         first-searching all some =
             let law = ready .lawful .row (rowOf sys r) (row-of-in sys r in-rows) in
             let p = rowOf sys r .p in
-            subst (λ (l : List ℕ). Searching sys (set l 0 (getD l 0 0 - 1)) mask (take 1 (set path 0 r))) (sym e)
-            (subst (λ (x : Mask). Searching sys (set left₀ 0 (getD left₀ 0 0 - 1)) x (take 1 (set path 0 r))) (sym m)
+            subst (λ (l : List ℕ). Searching sys l mask (take 1 placed)) (sym one-fewer)
+            (subst (λ (x : Mask). Searching sys (set left₀ 0 (getD left₀ 0 0 - 1)) x (take 1 placed)) (sym m)
             (subst (Searching sys (set left₀ 0 (getD left₀ 0 0 - 1)) (maskAt work r)) (sym one-row)
             (subst (λ (k : ℕ). Searching sys (set left₀ k (getD left₀ k 0 - 1)) (maskAt work r) (r ∷ [])) first-kind
             (child-searching sys (ready .lawful) left₀ nothingCovered (maskAt work r) [] r in-rows row-mask (maskAt work r) (with-nothing (maskAt work r))

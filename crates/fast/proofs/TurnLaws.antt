@@ -1,4 +1,4 @@
--- The laws of Fast's search over the slices of a row system: the leaf, the loops over the rows of a cell, a call, and what it puts back. Assumes nothing.
+-- The laws of Fast's search over the slices of a row system: the leaf, the loops over the rows of a cell, and a call. Assumes nothing.
 use Prim.Native.Nat.{ℕ, _+_, _-_, _*_, _≤_, _<_}
 use mathlib.Core.Bool.{Bool, true, false, not, _&&_, _||_}
 use mathlib.Core.List.{List, [], _∷_, _++_}
@@ -6,17 +6,15 @@ use mathlib.Core.Logic.{_⊎_, inl, inr, ⊎-elim}
 use mathlib.Core.Path.{_≡_, refl, sym, ap, ap₂, _∙_, subst}
 use native.Mathlib.Omega.{arith}
 use lib.Dec.{T, ltb, lt→ltb}
-use lib.ListN.{length, getD, take, set, length-set}
-use lib.Seq.{length-take-le, getD-take, take-take, take-set-le, set-set, set-getD, getD-set-same}
+use lib.ListN.{length, getD, take, set}
+use lib.Seq.{length-take-le, getD-take}
 use Rattle.lists.specs.Lists.{all, isEmpty}
 use Rattle.lists.proofs.TestLaws.{and-left, and-right, and-both, by-eq}
-use Rattle.lists.proofs.ListLaws.{take-set-next}
-use Rattle.kept.proofs.NormalRowLaws.{row-of-in}
 use Rattle.definitions.specs.Placements.{Placement}
 use Rattle.definitions.specs.Kept.{Identify}
 use Rattle.definitions.specs.Orders.{State, possible, choose}
-use Rattle.definitions.specs.Emission.{Emitted, emits}
-use Rattle.definitions.proofs.EmissionLaws.{emits-append}
+use Rattle.definitions.specs.Emission.{Emitted, Listed, emits}
+use Rattle.theorems.proofs.EmissionLaws.{emits-append, emits-none}
 use Rattle.masks.specs.Masks.{has, either, apart, FirstOpen}
 use Rattle.masks.specs.declared.Mask.{Mask}
 use Rattle.rows.specs.Charts.{scansPart, piecesPart}
@@ -28,6 +26,7 @@ use Rattle.kept.specs.Normal.{rowOf}
 use Rattle.kept.specs.Ready.{Ready, OfRows, Fillable}
 use Rattle.kept.specs.Emission.{emitKept}
 use Rattle.fast.specs.Searching.{fastBelow, uncovered, stateBy, Searching, goesOn}
+use Rattle.fast.specs.States.{stateLength, leftPart, putRow, takeCopy}
 use Rattle.rows.specs.declared.Dims.{Dims}
 use Rattle.fast.proofs.ChoiceLaws.{chosenAt, choicesFrom, dead-lists, leaf-lists, all-choices, choices-end, choices-skip, choices-take, choices-pass, none-left, other-cell}
 use Rattle.rows.proofs.RowRangeLaws.{rangeOf, start-most, before-start, starts-up, from-start, range-of}
@@ -35,24 +34,13 @@ use Rattle.kept.proofs.LeafLaws.{packing-emits}
 use Rattle.kept.proofs.ReadyLaws as laws
 use Rattle.fast.proofs.SearchingLaws.{goes-same, fits, fits-apart, first-uncovered, none-uncovered, some-uncovered, fits-possible, child-state, child-less, child-searching, fillable}
 use Rattle.fast.proofs.UnmetLaws.{untried, unmet}
+use Rattle.fast.proofs.StateLaws.{placed-length, placed-left, placed-path}
 
 -- of three tests one fails: one of the first two, or the third
 not-tried : (a b c : Bool) → (a && (b && c)) ≡ false → ((a && b) ≡ false) ⊎ ((a ≡ true) × (c ≡ false))
 not-tried false b c e = inl refl
 not-tried true false c e = inl refl
 not-tried true true c e = inr (refl, e)
-
--- ---- one copy fewer, and put back
-one-more : (left left₁ : List ℕ) (k : ℕ) → left₁ ≡ set left k (getD left k 0 - 1) → k < length left → 0 < getD left k 0 → getD left₁ k 0 + 1 ≡ getD left k 0
-one-more left left₁ k e h l = let a : getD left₁ k 0 ≡ getD left k 0 - 1 = ap (λ (x : List ℕ). getD x k 0) e ∙ getD-set-same left k (getD left k 0 - 1) 0 h in omega arith
-
-put-back : (left left₁ : List ℕ) (k : ℕ) → left₁ ≡ set left k (getD left k 0 - 1) → k < length left → 0 < getD left k 0 → set left₁ k (getD left₁ k 0 + 1) ≡ left
-put-back left left₁ k e h l =
-    ap (λ (n : ℕ). set left₁ k n) (one-more left left₁ k e h l) ∙ ap (λ (x : List ℕ). set x k (getD left k 0)) e ∙ set-set left k (getD left k 0 - 1) (getD left k 0) ∙ set-getD left k 0
-
-pub path-back : (path path₁ : List ℕ) (n r : ℕ) → take (n + 1) path₁ ≡ take (n + 1) (set path n r) → take n path₁ ≡ take n path
-path-back path path₁ n r e =
-    sym (take-take n (n + 1) path₁ (omega arith)) ∙ ap (λ (l : List ℕ). take n l) e ∙ take-take n (n + 1) (set path n r) (omega arith) ∙ take-set-le n path n r (omega arith)
 
 module _ {d : Dims} {work chart : List ℕ} (ready : Ready d work chart) where
   abbrev S : System
@@ -97,6 +85,17 @@ module _ {d : Dims} {work chart : List ℕ} (ready : Ready d work chart) where
   unfolding rowAt
   row-cells r h = ap (λ (q : Placement). q .cells) (row-is r h)
 
+  pub row-first : (r : ℕ) → r < d .rows → rowAt work r .p < 128
+  row-first r l =
+      let q = laws.row-in d work chart r l in
+      let a = ready .lawful .row (rowAt work r) q .onBoard (rowAt work r .p) (ready .lawful .row (rowAt work r) q .coversP) in
+      let b = ready .lawful .fewCells in
+      omega arith
+
+  -- the two ends of the range of a kind's rows at a cell stand in the chart
+  pub range-within : (k c : ℕ) → k < d .kinds → c < 128 → (128 * k + c ≤ 2048) × (128 * k + c + 1 ≤ 2048)
+  range-within k c h g = let a = laws.few-kinds d work chart (ready .lawful) in (omega arith, omega arith)
+
   module _ {left path : List ℕ} {n : ℕ} {covered : Mask} (of-rows : OfRows d path n) (h : Searching S left covered (take n path)) where
     abbrev t : State
     t = stateBy S left covered (take n path)
@@ -118,7 +117,7 @@ module _ {d : Dims} {work chart : List ℕ} (ready : Ready d work chart) where
     leaf-emits i capacity c e o l =
         let z = size-is in
         packing-emits S (ready .lawful) (take n path) all-rows (h .apart) i capacity e
-        ∙ sym (ap (λ (L : List (List ℕ)). emits capacity L e) (leaf-lists S i t (ap (λ (l : List ℕ). isEmpty l) (none-uncovered (S .size) covered c o (omega arith)))))
+        ∙ sym (ap (λ (L : List Listed). emits capacity L e) (leaf-lists S i t (ap (λ (l : List ℕ). isEmpty l) (none-uncovered (S .size) covered c o (omega arith)))))
 
 -- ---- cell c is the first that is left
 pub record Opened (d : Dims) (work chart left path : List ℕ) (n : ℕ) (covered : Mask) (c : ℕ) : Type 0 where
@@ -150,7 +149,7 @@ module _ {d : Dims} {work chart left path : List ℕ} {n : ℕ} {covered : Mask}
   first : take 1 (the-state .free) ≡ c ∷ []
   first = let z = size-is (x .ready) in let f = few in ap (λ (l : List ℕ). take 1 l) (free-is (x .ready) (x .ofRows) (x .searching)) ∙ first-uncovered (the-system .size) covered c (x .first) (omega arith) (omega arith)
 
-  room-left : n < 128
+  pub room-left : n < 128
   room-left =
       let a = some-uncovered (the-state .free) c first .1 in
       let f = ap (λ (l : List ℕ). length l) (free-is (x .ready) (x .ofRows) (x .searching)) in
@@ -160,13 +159,6 @@ module _ {d : Dims} {work chart left path : List ℕ} {n : ℕ} {covered : Mask}
       omega arith
 
   -- ---- the rows at the cell, kind by kind
-  row-first : (r : ℕ) → r < d .rows → rowAt work r .p < 128
-  row-first r l =
-      let q = laws.row-in d work chart r l in
-      let a = x .ready .lawful .row (rowAt work r) q .onBoard (rowAt work r .p) (x .ready .lawful .row (rowAt work r) q .coversP) in
-      let b = x .ready .lawful .fewCells in
-      omega arith
-
   -- rows from a to below b are passed, where each is at another cell, or has no copy left
   passed : (i : Identify) (a b : ℕ) → a ≤ b → ((r : ℕ) → a ≤ r → r < b → r < d .rows → rowAt work r .p ≡ c → getD left (rowAt work r .kind) 0 ≡ 0)
       → choicesFrom the-system i the-state a ≡ choicesFrom the-system i the-state b
@@ -188,25 +180,24 @@ module _ {d : Dims} {work chart left path : List ℕ} {n : ℕ} {covered : Mask}
     pub loop-starts : emits capacity (choicesFrom the-system i the-state (startOf (the-system .rows) (128 * 0 + c))) e ≡ emits capacity (fastBelow the-system i the-state) e
     loop-starts =
         let b : length (the-state .free) ≤ the-system .size = let w = x .searching .room in let z = ap (λ (l : List ℕ). length l) (free-is (x .ready) (x .ofRows) (x .searching)) in omega arith in
-        ap (λ (L : List (List ℕ)). emits capacity L e)
+        ap (λ (L : List Listed). emits capacity L e)
         (sym (passed i 0 (startOf (the-system .rows) (128 * 0 + c)) (omega arith) (λ r u v w g. absurd (let k = start-before (x .ready) (128 * 0 + c) r v in omega arith)))
         ∙ all-choices the-system (x .ready .lawful) i the-state (some-uncovered (the-state .free) c first .0) b)
 
     -- no row is of a kind behind the last
     pub loop-ends : (k : ℕ) (whole : Emitted) → d .kinds ≤ k → emits capacity (choicesFrom the-system i the-state (startOf (the-system .rows) (128 * k + c))) e ≡ whole → e ≡ whole
-    unfolding emits
     loop-ends k whole h g =
         let m = rows-many (x .ready) in
-        sym (ap (λ (L : List (List ℕ)). emits capacity L e)
+        sym (emits-none capacity e) ∙ sym (ap (λ (L : List Listed). emits capacity L e)
         (passed i (startOf (the-system .rows) (128 * k + c)) (d .rows) (start-few (x .ready) (128 * k + c))
-        (λ r u v w p. absurd (let a = start-behind (x .ready) (128 * k + c) r u w in let b = laws.row-kind d work chart (x .ready .lawful) r w in let f = row-first r w in omega arith))
+        (λ r u v w p. absurd (let a = start-behind (x .ready) (128 * k + c) r u w in let b = laws.row-kind d work chart (x .ready .lawful) r w in let f = row-first (x .ready) r w in omega arith))
         ∙ choices-end the-system i the-state (d .rows) (omega arith))) ∙ g
 
     -- a kind without copies left is passed; and behind the rows of a kind those of the next come
     pub kind-passes : (k : ℕ) (whole : Emitted) → getD left k 0 ≡ 0 → emits capacity (choicesFrom the-system i the-state (startOf (the-system .rows) (128 * k + c))) e ≡ whole
         → emits capacity (choicesFrom the-system i the-state (startOf (the-system .rows) (128 * (k + 1) + c))) e ≡ whole
     kind-passes k whole none g =
-        sym (ap (λ (L : List (List ℕ)). emits capacity L e)
+        sym (ap (λ (L : List Listed). emits capacity L e)
         (passed i (startOf (the-system .rows) (128 * k + c)) (startOf (the-system .rows) (128 * (k + 1) + c)) (start-up (x .ready) (128 * k + c) (128 * (k + 1) + c) (omega arith))
         (λ r u v w p.
         let a = start-behind (x .ready) (128 * k + c) r u w in
@@ -218,25 +209,19 @@ module _ {d : Dims} {work chart left path : List ℕ} {n : ℕ} {covered : Mask}
         → emits capacity (choicesFrom the-system i the-state (startOf (the-system .rows) (128 * (k + 1) + c))) e ≡ whole
     kind-ends k r whole is g =
         let f = cell-below in
-        sym (ap (λ (L : List (List ℕ)). emits capacity L e)
+        sym (ap (λ (L : List Listed). emits capacity L e)
         (ap (choicesFrom the-system i the-state) is
         ∙ passed i (startOf (the-system .rows) (128 * k + c + 1)) (startOf (the-system .rows) (128 * (k + 1) + c)) (start-up (x .ready) (128 * k + c + 1) (128 * (k + 1) + c) (omega arith))
         (λ r u v w p.
         absurd (let a = start-behind (x .ready) (128 * k + c + 1) r u w in let b = start-before (x .ready) (128 * (k + 1) + c) r v in omega arith)))) ∙ g
 
-  pub kinds-in-left : d .kinds ≤ length left
-  kinds-in-left = let a = laws.kinds-many d work chart in let b = x .searching .enough in omega arith
-
   -- the rows of a kind at the cell
   module _ (k : ℕ) (kind : k < d .kinds) where
-    range-within : 128 * k + c + 1 ≤ 2048
-    range-within = let a = laws.few-kinds d work chart (x .ready .lawful) in let b = cell-below in omega arith
-
-    pub kind-in-left : k < length left
-    kind-in-left = let a = kinds-in-left in omega arith
+    pub kind-few : k < 16
+    kind-few = let a = laws.few-kinds d work chart (x .ready .lawful) in omega arith
 
     pub starts-within : (128 * k + c ≤ 2048) × (128 * k + c + 1 ≤ 2048)
-    starts-within = let a = range-within in (omega arith, a)
+    starts-within = range-within (x .ready) k c kind cell-below
 
     module _ (first end : ℕ) (begins : first ≡ getD chart (128 * k + c) 0) (ends : end ≡ getD chart (128 * k + c + 1) 0) where
       pub begins-is : first ≡ startOf (the-system .rows) (128 * k + c)
@@ -255,7 +240,7 @@ module _ {d : Dims} {work chart left path : List ℕ} {n : ℕ} {covered : Mask}
           let row : r < d .rows = let m = start-few (x .ready) (128 * k + c + 1) in omega arith in
           let u = start-behind (x .ready) (128 * k + c) r (omega arith) row in
           let v = start-before (x .ready) (128 * k + c + 1) r (omega arith) in
-          let f = row-first r row in
+          let f = row-first (x .ready) r row in
           let g = cell-below in
           (row, omega arith, omega arith)
 
@@ -270,8 +255,8 @@ module _ {d : Dims} {work chart left path : List ℕ} {n : ℕ} {covered : Mask}
     kind-is : rowOf the-system r .kind ≡ rowAt work r .kind
     kind-is = ap (λ (q : Placement). q .kind) (row-is (x .ready) r row)
 
-    pub kind-in : rowAt work r .kind < length left
-    kind-in = let a = x .ready .lawful .row (rowOf the-system r) (row-of-in the-system r row-in-rows) .ofKind in let b = kind-is in let w = x .searching .enough in omega arith
+    row-kind-few : rowAt work r .kind < 16
+    row-kind-few = let a = laws.row-kind d work chart (x .ready .lawful) r row in let b = laws.few-kinds d work chart (x .ready .lawful) in omega arith
 
     pub first-small : rowAt work r .p < 128
     first-small = let b = cell-below in omega arith
@@ -285,7 +270,7 @@ module _ {d : Dims} {work chart left path : List ℕ} {n : ℕ} {covered : Mask}
     misses : fits left covered (maskAt work r) (rowAt work r .kind) ≡ false → (i : Identify) (capacity : ℕ) (e : Emitted)
         → emits capacity (choicesFrom the-system i the-state (r + 1)) e ≡ emits capacity (choicesFrom the-system i the-state r) e
     misses f i capacity e =
-        sym (ap (λ (L : List (List ℕ)). emits capacity L e) (choices-pass the-system i the-state c first r row-in-rows at-row (sym test-is ∙ f)))
+        sym (ap (λ (L : List Listed). emits capacity L e) (choices-pass the-system i the-state c first r row-in-rows at-row (sym test-is ∙ f)))
 
     takes : fits left covered (maskAt work r) (rowAt work r .kind) ≡ true → (i : Identify)
         → choicesFrom the-system i the-state r ≡ fastBelow the-system i (choose the-state (rowOf the-system r)) ++ choicesFrom the-system i the-state (r + 1)
@@ -302,7 +287,7 @@ module _ {d : Dims} {work chart left path : List ℕ} {n : ℕ} {covered : Mask}
           ap (emits capacity rest)
           (sym (unmet the-system (x .ready .lawful) left covered (take n path) (all-rows (x .ready) (x .ofRows) (x .searching)) (x .searching) r row-in-rows (sym test-is ∙ f) last shown sh
           (ap (λ (q : Placement). showsRow (ownedIn (piecesPart chart) (d .pieces)) shown q) (row-is (x .ready) r row) ∙ v) i capacity e w is))
-          ∙ sym (emits-append capacity here rest e) ∙ ap (λ (L : List (List ℕ)). emits capacity L e) (sym (takes f i))
+          ∙ sym (emits-append capacity here rest e) ∙ ap (λ (L : List Listed). emits capacity L e) (sym (takes f i))
 
       -- or the search does not go on below it
       dead : fits left covered (maskAt work r) (rowAt work r .kind) ≡ true → goesOn the-system (choose (stateBy the-system left covered []) (rowAt work r)) ≡ false
@@ -311,7 +296,7 @@ module _ {d : Dims} {work chart left path : List ℕ} {n : ℕ} {covered : Mask}
       dead f g i capacity e =
           let none = dead-lists the-system i (choose the-state (rowOf the-system r))
           (ap (λ (q : Placement). goesOn the-system (choose the-state q)) (row-is (x .ready) r row) ∙ goes-same the-system left covered (take n path) (rowAt work r) ∙ g) in
-          sym (ap (λ (L : List (List ℕ)). emits capacity L e) (takes f i ∙ ap (λ (L : List (List ℕ)). L ++ choicesFrom the-system i the-state (r + 1)) none))
+          sym (ap (λ (L : List Listed). emits capacity L e) (takes f i ∙ ap (λ (L : List Listed). L ++ choicesFrom the-system i the-state (r + 1)) none))
 
       pub turn-passes : 0 < getD left (rowAt work r .kind) 0 → (i : Identify) (capacity : ℕ) (e whole : Emitted) → e .last ≡ last
           → (apart 128 (has (maskAt work r)) (has covered)
@@ -354,7 +339,7 @@ module _ {d : Dims} {work chart left path : List ℕ} {n : ℕ} {covered : Mask}
               (subst (λ (y : List ℕ). Searching the-system (set left (rowOf the-system r .kind) (getD left (rowOf the-system r .kind) 0 - 1)) more y) (sym p)
               (child-searching the-system (x .ready .lawful) left covered (maskAt work r) (take n path) r row-in-rows (row-cells (x .ready) r row) more union c at-row is-open in-size (x .searching) fit-row))
 
-          call-rows : length path′ ≡ 128 → OfRows d path′ (n + 1)
+          call-rows : n + 1 ≤ length path′ → OfRows d path′ (n + 1)
           call-rows e =
               let a = room-left in
               record {
@@ -378,48 +363,33 @@ module _ {d : Dims} {work chart left path : List ℕ} {n : ℕ} {covered : Mask}
               ∙ child-state the-system (x .ready .lawful) left covered (maskAt work r) (take n path) r row-in-rows (row-cells (x .ready) r row) more union in
               ap (emits capacity (choicesFrom the-system i the-state (r + 1))) (g ∙ ap (λ (y : State). emits capacity (fastBelow the-system i y) e) s)
               ∙ sym (emits-append capacity (fastBelow the-system i (choose the-state (rowOf the-system r))) (choicesFrom the-system i the-state (r + 1)) e)
-              ∙ ap (λ (L : List (List ℕ)). emits capacity L e) (sym (takes fit i))
+              ∙ ap (λ (L : List Listed). emits capacity L e) (sym (takes fit i))
               ∙ w
 
--- ---- a row of the cell that fits, with the copies and the path as the loop has them
-pub record Placing (d : Dims) (work left₀ path₀ left path : List ℕ) (n : ℕ) (covered : Mask) (c r k : ℕ) : Type 0 where
-  pub sameLeft : left ≡ left₀
-  pub samePath : take n path ≡ take n path₀
-  pub long : length path ≡ 128
+-- ---- a row of the cell that fits, with the copies and the path of the state as the loop has them
+pub record Placing (d : Dims) (work state₀ state : List ℕ) (n : ℕ) (covered : Mask) (c r k : ℕ) : Type 0 where
+  pub sameLeft : leftPart state ≡ leftPart state₀
+  pub samePath : take n state ≡ take n state₀
+  pub long : length state ≡ stateLength
   pub row : r < d .rows
   pub at : rowAt work r .p ≡ c
-  pub some : 0 < getD left₀ k 0
+  pub some : 0 < getD (leftPart state₀) k 0
   pub clear : apart 128 (has (maskAt work r)) (has covered) ≡ true
   pub kind : k ≡ rowAt work r .kind
 
-module _ {d : Dims} {work chart left₀ path₀ left path : List ℕ} {n : ℕ} {covered : Mask} {c r k : ℕ}
-    (x : Opened d work chart left₀ path₀ n covered c) (y : Placing d work left₀ path₀ left path n covered c r k) where
-  pub place-in : k < length left
-  place-in = let a = kind-in x r (y .row) (y .at) in let e = ap (λ (l : List ℕ). length l) (y .sameLeft) in let f = y .kind in omega arith
+module _ {d : Dims} {work chart state₀ state : List ℕ} {n : ℕ} {covered : Mask} {c r k : ℕ}
+    (x : Opened d work chart (leftPart state₀) state₀ n covered c) (y : Placing d work state₀ state n covered c r k) where
+  abbrev left₀ : List ℕ
+  left₀ = leftPart state₀
 
-  pub place-left : 0 < getD left k 0
+  pub place-kind : k < 16
+  place-kind = let a = row-kind-few x r (y .row) (y .at) in let f = y .kind in omega arith
+
+  pub place-left : 0 < getD (leftPart state) k 0
   place-left = subst (λ (l : List ℕ). 0 < getD l k 0) (sym (y .sameLeft)) (y .some)
-
-  pub place-path : n < length path
-  place-path = let a = room-left x in let l = y .long in omega arith
-
-  pub back-in : (left₁ : List ℕ) → left₁ ≡ set left k (getD left k 0 - 1) → k < length left₁
-  back-in left₁ e = let a = place-in in let b = ap (λ (l : List ℕ). length l) e ∙ length-set left k (getD left k 0 - 1) in omega arith
-
-  pub back-count : (left₁ : List ℕ) → left₁ ≡ set left k (getD left k 0 - 1) → getD left₁ k 0 + 1 ≡ getD left k 0
-  back-count left₁ e = one-more left left₁ k e place-in place-left
-
-  pub back-left : (left₁ : List ℕ) → left₁ ≡ set left k (getD left k 0 - 1) → set left₁ k (getD left₁ k 0 + 1) ≡ left₀
-  back-left left₁ e = put-back left left₁ k e place-in place-left ∙ y .sameLeft
 
   fit₀ : fits left₀ covered (maskAt work r) (rowAt work r .kind) ≡ true
   fit₀ = fits-apart left₀ covered (maskAt work r) (rowAt work r .kind) (subst (λ (j : ℕ). 0 < getD left₀ j 0) (y .kind) (y .some)) ∙ y .clear
-
-  left-is : set left k (getD left k 0 - 1) ≡ set left₀ (rowAt work r .kind) (getD left₀ (rowAt work r .kind) 0 - 1)
-  left-is = ap₂ (λ (l : List ℕ) (j : ℕ). set l j (getD l j 0 - 1)) (y .sameLeft) (y .kind)
-
-  path-is : take (n + 1) (set path n r) ≡ take n path₀ ++ (r ∷ [])
-  path-is = take-set-next path n r place-path ∙ ap (λ (l : List ℕ). l ++ (r ∷ [])) (y .samePath)
 
   module _ (more m : Mask) (is-mask : m ≡ maskAt work r) (union : has more ≡ either (has covered) (has m)) where
     union-is : has more ≡ either (has covered) (has (maskAt work r))
@@ -428,14 +398,25 @@ module _ {d : Dims} {work chart left₀ path₀ left path : List ℕ} {n : ℕ} 
     pub place-falls : length (uncovered (d .size) more) < length (uncovered (d .size) covered)
     place-falls = call-less x r (y .row) (y .at) fit₀ more union-is
 
-    pub place-searching : Searching (systemIn d work chart) (set left k (getD left k 0 - 1)) more (take (n + 1) (set path n r))
-    place-searching = call-searching x r (y .row) (y .at) fit₀ more union-is (set left k (getD left k 0 - 1)) (set path n r) left-is path-is
+    -- the state with the row chosen
+    module _ (placed : List ℕ) (is : placed ≡ putRow (takeCopy state k) n r) where
+      left-is : leftPart placed ≡ set left₀ (rowAt work r .kind) (getD left₀ (rowAt work r .kind) 0 - 1)
+      left-is =
+          placed-left state placed k n r is (y .long) place-kind (room-left x) ∙ ap₂ (λ (l : List ℕ) (j : ℕ). set l j (getD l j 0 - 1)) (y .sameLeft) (y .kind)
 
-    pub place-rows : OfRows d (set path n r) (n + 1)
-    place-rows = call-rows x r (y .row) (y .at) fit₀ more union-is (set left k (getD left k 0 - 1)) (set path n r) left-is path-is (length-set path n r ∙ y .long)
+      path-is : take (n + 1) placed ≡ take n state₀ ++ (r ∷ [])
+      path-is = placed-path state placed k n r is (y .long) place-kind (room-left x) ∙ ap (λ (l : List ℕ). l ++ (r ∷ [])) (y .samePath)
 
-    pub place-turns : (i : Identify) (capacity : ℕ) (e e′ whole : Emitted)
-        → e′ ≡ emits capacity (fastBelow (systemIn d work chart) i (stateBy (systemIn d work chart) (set left k (getD left k 0 - 1)) more (take (n + 1) (set path n r)))) e
-        → emits capacity (choicesFrom (systemIn d work chart) i (stateBy (systemIn d work chart) left₀ covered (take n path₀)) r) e ≡ whole
-        → emits capacity (choicesFrom (systemIn d work chart) i (stateBy (systemIn d work chart) left₀ covered (take n path₀)) (r + 1)) e′ ≡ whole
-    place-turns = turn x r (y .row) (y .at) fit₀ more union-is (set left k (getD left k 0 - 1)) (set path n r) left-is path-is
+      pub place-searching : Searching (systemIn d work chart) (leftPart placed) more (take (n + 1) placed)
+      place-searching = call-searching x r (y .row) (y .at) fit₀ more union-is (leftPart placed) placed left-is path-is
+
+      pub place-rows : OfRows d placed (n + 1)
+      place-rows =
+          call-rows x r (y .row) (y .at) fit₀ more union-is (leftPart placed) placed left-is path-is
+          (let a = placed-length state placed k n r is (y .long) place-kind (room-left x) in let b = room-left x in omega arith)
+
+      pub place-turns : (i : Identify) (capacity : ℕ) (e e′ whole : Emitted)
+          → e′ ≡ emits capacity (fastBelow (systemIn d work chart) i (stateBy (systemIn d work chart) (leftPart placed) more (take (n + 1) placed))) e
+          → emits capacity (choicesFrom (systemIn d work chart) i (stateBy (systemIn d work chart) (leftPart state₀) covered (take n state₀)) r) e ≡ whole
+          → emits capacity (choicesFrom (systemIn d work chart) i (stateBy (systemIn d work chart) (leftPart state₀) covered (take n state₀)) (r + 1)) e′ ≡ whole
+      place-turns = turn x r (y .row) (y .at) fit₀ more union-is (leftPart placed) placed left-is path-is

@@ -20,9 +20,9 @@ use Rattle.definitions.specs.Placements.{Placement}
 use Rattle.definitions.specs.Packing.{ahead, used}
 use Rattle.definitions.specs.Kept.{Identify}
 use Rattle.definitions.specs.Orders.{State, possible, choose, search, fastChoices}
-use Rattle.definitions.specs.Emission.{Emitted, emits}
-use Rattle.definitions.proofs.PackingLaws.{ahead-trans, ahead-irrefl}
-use Rattle.definitions.proofs.EmissionLaws.{emits-unmet}
+use Rattle.definitions.specs.Emission.{Emitted, Listed, emits}
+use Rattle.theorems.proofs.PackingLaws.{ahead-trans, ahead-irrefl}
+use Rattle.theorems.proofs.EmissionLaws.{emits-unmet}
 use Rattle.masks.specs.Masks.{has}
 use Rattle.masks.specs.declared.Mask.{Mask}
 use Rattle.rows.specs.Systems.{System}
@@ -31,7 +31,7 @@ use Rattle.rows.specs.Lawful.{Lawful}
 use Rattle.rows.specs.Shown.{Shown, showsRow}
 use Rattle.rows.proofs.ShownLaws.{answer-shows}
 use Rattle.kept.specs.Normal.{rowOf, ofKind, sortRows, normal}
-use Rattle.kept.specs.Entries.{entries, numbersOf, putAll}
+use Rattle.kept.specs.Entries.{entries, entryBy, numbersOf, putAll}
 use Rattle.kept.proofs.LeafLaws.{packing-sorted}
 use Rattle.kept.proofs.SortingLaws.{sort-keep, sort-rows-at}
 use Rattle.fast.specs.Searching.{Searching, fastBelow, stateBy}
@@ -201,19 +201,20 @@ module _ (s : System) (law : Lawful s) (left : List ℕ) (covered : Mask) (rs : 
       only x (inr m) c k l = absurd (not-yet x m c k l)
 
   module _ (last shown : List ℕ) (sh : Shown (s .size) (s .scans) last shown) (hidden : showsRow (s .pieces) shown (rowOf s r) ≡ false) (i : Identify) where
-    others : (x : List ℕ) → List·Memᴰ x (fastBelow s i (choose t q)) → same x last ≡ false
-    unfolding fastBelow entries
+    others : (x : Listed) → List·Memᴰ x (fastBelow s i (choose t q)) → same (x .answer) last ≡ false
+    unfolding fastBelow entries entryBy
     others x m =
         let L = search (fastChoices (s .rows)) (s .size) (choose t q) in
-        let y = Memᴰ·of-map (answerBy s) (keep (λ P. normal s i (numbersOf s P)) L) m in
+        let y = Memᴰ·of-map (entryBy s) (keep (λ P. normal s i (numbersOf s P)) L) m in
         let z = keep-at (λ (P : List Placement). normal s i (numbersOf s P)) L (y .1) in
         let v = found s q (s .size) (choose t q) begun (z .0) in
         let b = law .row q (row-of-in s r row) .ofKind in
         let few = v .1 .few in
         let e = law .copiesEach (q .kind) b in
-        is-false (same x last) (λ w.
-        true≢false (sym (answer-shows s law (v .0 .chosen) q (v .1 .isIn) (row-of-in s r row) (v .1 .alone) (omega arith) last shown sh (ap (answerBy s) (sym (v .2)) ∙ y .2 ∙ same→eq x last w)) ∙ hidden))
+        let is : answerBy s (v .0 .chosen) ≡ x .answer = ap (answerBy s) (sym (v .2)) ∙ ap (λ (z : Listed). z .answer) (y .2) in
+        is-false (same (x .answer) last) (λ w.
+        true≢false (sym (answer-shows s law (v .0 .chosen) q (v .1 .isIn) (row-of-in s r row) (v .1 .alone) (omega arith) last shown sh (is ∙ same→eq (x .answer) last w)) ∙ hidden))
 
     -- what lies below it is not what is waited for
     pub unmet : (capacity : ℕ) (e : Emitted) → e .waiting ≡ true → e .last ≡ last → emits capacity (fastBelow s i (choose (stateBy s left covered rs) (rowOf s r))) e ≡ e
-    unmet capacity e w is = emits-unmet capacity (fastBelow s i (choose t q)) e w (λ x m. ap (same x) is ∙ others x m)
+    unmet capacity e w is = emits-unmet capacity (fastBelow s i (choose t q)) e w (λ x m. ap (same (x .answer)) is ∙ others x m)

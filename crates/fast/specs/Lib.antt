@@ -1,3 +1,4 @@
+pub mod States
 pub mod Searching
 pub mod Pruned
 pub mod Listing

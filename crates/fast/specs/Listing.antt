@@ -1,4 +1,4 @@
--- What Fast lists over a row system. proofs/FastListLaws: over the system of an accepted tray it is document 01's list.
+-- What Fast lists over a row system. proofs/FastListLaws: over the system of an accepted tray its answers are document 01's list.
 use Prim.Native.Nat.{ℕ, _+_, _*_}
 use mathlib.Core.Bool.{Bool, _&&_, cond}
 use mathlib.Core.List.{List, map}
@@ -6,6 +6,7 @@ use lib.Dec.{eqb}
 use lib.ListN.{length, getD}
 use Rattle.lists.specs.Lists.{below, sum}
 use Rattle.definitions.specs.Kept.{Identify}
+use Rattle.definitions.specs.Emission.{Listed}
 use Rattle.definitions.specs.Orders.{identifiesTurned}
 use Rattle.rows.specs.Charts.{kindsPart}
 use Rattle.rows.specs.Systems.{System}
@@ -26,5 +27,5 @@ unfoldable pub firstBy : System → Identify → Bool
 firstBy s i = identifiesTurned i && (eqb (getD (s .copies) 0 0) 1 && eqb (totalCells s) (s .size))
 
 -- the list
-unfoldable pub fastAnswers : System → Identify → List (List ℕ)
+unfoldable pub fastAnswers : System → Identify → List Listed
 fastAnswers s i = cond (firstBy s i) (fastFirst s i (startBy s)) (fastBelow s i (startBy s))

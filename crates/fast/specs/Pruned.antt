@@ -5,6 +5,7 @@ use mathlib.Core.List.{List}
 use lib.Dec.{ltb, eqb}
 use lib.ListN.{length, getD}
 use Rattle.lists.specs.Lists.{all, any, below, keep, each}
+use Rattle.definitions.specs.Emission.{Listed}
 use Rattle.definitions.specs.Orders.{State, choose, search, fastChoices}
 use Rattle.definitions.specs.Kept.{Identify}
 use Rattle.definitions.specs.Kept.Identify.{None, Turned, Mirrored}
@@ -31,5 +32,5 @@ prunedBy s Mirrored r =
 unfoldable pub firstRows : System → Identify → List ℕ
 firstRows s i = keep (λ r. eqb (rowOf s r .kind) 0 && not (prunedBy s i r)) (below (length (s .rows)))
 
-unfoldable pub fastFirst : System → Identify → State → List (List ℕ)
+unfoldable pub fastFirst : System → Identify → State → List Listed
 fastFirst s i t = entries s i (each (firstRows s i) (λ r. search (fastChoices (s .rows)) (s .size) (choose t (rowOf s r))))

@@ -6,6 +6,7 @@ use mathlib.Core.Path.{_≡_}
 use lib.ListN.{length, getD, take}
 use Rattle.lists.specs.Lists.{keep, below, isEmpty, Apart}
 use Rattle.definitions.specs.Kept.{Identify}
+use Rattle.definitions.specs.Emission.{Listed}
 use Rattle.definitions.specs.Orders.{State, search, fastChoices}
 use Rattle.masks.specs.Masks.{has}
 use Rattle.masks.specs.declared.Mask.{Mask}
@@ -22,7 +23,7 @@ stateBy s left covered rs =
     record { left = take (length (s .copies)) left; free = uncovered (s .size) covered; chosen = putAll [] (map (rowOf s) rs) }
 
 -- what Fast lists below a state
-unfoldable pub fastBelow : System → Identify → State → List (List ℕ)
+unfoldable pub fastBelow : System → Identify → State → List Listed
 fastBelow s i t = entries s i (search (fastChoices (s .rows)) (s .size) t)
 
 -- a search goes on below a state: no cell is uncovered, or the first that is can be covered. proofs/ChoiceLaws: where it does not, nothing is listed below.

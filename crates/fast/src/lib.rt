@@ -5,3 +5,4 @@
 pub mod listing;
 mod pruning;
 mod search;
+mod state;

@@ -12,8 +12,10 @@ ghost use Rattle.rows.specs.Systems.{systemIn};
 ghost use Rattle.kept.specs.Emission.{emittedOf, identified};
 ghost use Rattle.kept.specs.Ready.{Ready};
 ghost use Rattle.fast.specs.Listing.{cellsIn, fastAnswers};
+ghost use Rattle.fast.specs.States.{leftPart, pathPart, stateLength};
 use super::pruning;
 use super::search;
+use super::state;
 use kept::emission::Emission;
 use kept::emission::Wanted;
 use masks::Mask;
@@ -54,16 +56,16 @@ fn is_kind_0_first(d: Dims, chart: &[u16], turned: bool) -> bool
     cells_of_all(chart, d.kinds) == d.size
 }
 
-// The copies of each kind; what lies behind them stays.
-fn all_left(chart: &[u16], n: usize, left: &mut [u8])
-    requires { ⌜ (n ≤ 16) × Charted (now chart) × (n ≤ length (now left)) ⌝ }
+// All copies of each kind are left; the path, and what lies behind the kinds, stay.
+fn all_left(chart: &[u16], n: usize, state: &mut [u16])
+    requires { ⌜ (n ≤ 16) × Charted (now chart) × (length (now state) ≡ stateLength) ⌝ }
     ensures { λ _. do
       let copies = map (λ k. getD (kindsPart (now (chart .entry))) (3 * k) 0) (below n)
-      ⌜ now (left .exit) ≡ copies ++ drop n (now (left .entry)) ⌝ }
+      ⌜ now (state .exit) ≡ pathPart (now (state .entry)) ++ (copies ++ drop n (leftPart (now (state .entry)))) ⌝ }
 {
     let mut k = 0;
     while k < n {
-        left[k] = chart::copies_of(chart, k) as u8;
+        state::set_left(state, k, chart::copies_of(chart, k) as u16);
         k += 1;
     }
 }
@@ -84,32 +86,19 @@ pub fn list(
       let old = emittedOf e (now (last .entry)) (now (answers .entry))
       ⌜ emittedOf r (now (last .entry)) (now (answers .exit)) ≡ emits (wanted .capacity) (fastAnswers S (identified wanted)) old ⌝ }
 {
-    let mut left = [0u8; 16];
-    all_left(chart, d.kinds, &mut left);
+    let mut state = [0u16; 144];
+    all_left(chart, d.kinds, &mut state);
     let mut shown = [0u8; 256];
     shown::show_cells(d, chart, last, &mut shown);
-    let mut path = [0u16; 128];
     if is_kind_0_first(d, chart, wanted.turned) {
-        return pruning::search_first(
-            d,
-            work,
-            chart,
-            wanted,
-            &mut left,
-            &mut path,
-            last,
-            &shown,
-            answers,
-            e,
-        );
+        return pruning::search_first(d, work, chart, wanted, &mut state, last, &shown, answers, e);
     }
     search::search(
         d,
         work,
         chart,
         wanted,
-        &mut left,
-        &mut path,
+        &mut state,
         0,
         Mask::empty(),
         last,

@@ -17,7 +17,9 @@ ghost use Rattle.kept.specs.Normal.{imageOf};
 ghost use Rattle.kept.specs.Ready.{Ready, Restored};
 ghost use Rattle.fast.specs.Searching.{Searching, stateBy};
 ghost use Rattle.fast.specs.Pruned.{alwaysMirrorableBy, fastFirst, prunedBy};
+ghost use Rattle.fast.specs.States.{leftPart, stateLength};
 use super::search;
+use super::state;
 use kept::emission::Emission;
 use kept::emission::Wanted;
 use rows::Dims;
@@ -114,23 +116,22 @@ pub fn search_first(
     work: &[u64],
     chart: &[u16],
     wanted: Wanted,
-    left: &mut [u8],
-    path: &mut [u16],
+    state: &mut [u16],
     last: &[u8],
     shown: &[u8],
     answers: &mut [u8],
     e: Emission,
 ) -> Emission
-    requires { ⌜ Ready d (now work) (now chart) × (length (now path) ≡ 128) × (length (now shown) ≡ 256)
+    requires { ⌜ Ready d (now work) (now chart) × (length (now state) ≡ stateLength) × (length (now shown) ≡ 256)
         × Shown (d .size) (take (d .places) (scansPart (now chart))) (now last) (now shown) × (wanted .capacity * (2 * d .places) ≤ length (now answers))
-        × (0 < getD (now left) 0 0) ⌝ }
-    requires { ⌜ Searching (systemIn d (now work) (now chart)) (now left) (record { low = 0; high = 0 }) [] ⌝ }
+        × (0 < getD (leftPart (now state)) 0 0) ⌝ }
+    requires { ⌜ Searching (systemIn d (now work) (now chart)) (leftPart (now state)) (record { low = 0; high = 0 }) [] ⌝ }
     ensures page { λ r. do
       let S = systemIn d (now (work .entry)) (now (chart .entry))
-      let state = stateBy S (now (left .entry)) (record { low = 0; high = 0 }) []
+      let t = stateBy S (leftPart (now (state .entry))) (record { low = 0; high = 0 }) []
       let old = emittedOf e (now (last .entry)) (now (answers .entry))
-      ⌜ emittedOf r (now (last .entry)) (now (answers .exit)) ≡ emits (wanted .capacity) (fastFirst S (identified wanted) state) old ⌝ }
-    ensures restored { λ _. ⌜ (now (left .exit) ≡ now (left .entry)) × Restored 0 (now (path .entry)) (now (path .exit)) ⌝ }
+      ⌜ emittedOf r (now (last .entry)) (now (answers .exit)) ≡ emits (wanted .capacity) (fastFirst S (identified wanted) t) old ⌝ }
+    ensures restored { λ _. ⌜ (leftPart (now (state .exit)) ≡ leftPart (now (state .entry))) × Restored 0 (now (state .entry)) (now (state .exit)) ⌝ }
 {
     let mut s = e;
     // The rows of kind 0, which come first: s is what those passed have left, and the copies are as they were.
@@ -140,16 +141,14 @@ pub fn search_first(
             return s;
         }
         if is_first(d, work, chart, wanted, shown, s.waiting, r) {
-            left[0] -= 1;
-            path[0] = r as u16;
+            state::place_row(state, 0, 0, r);
             let mask = row::mask_at(work, r);
             s = search::search(
                 d,
                 work,
                 chart,
                 wanted,
-                left,
-                path,
+                state,
                 1,
                 mask,
                 last,
@@ -157,7 +156,7 @@ pub fn search_first(
                 answers,
                 s,
             );
-            left[0] += 1;
+            state::put_back(state, 0);
             if s.further {
                 return s;
             }

@@ -15,6 +15,8 @@ ghost use Rattle.rows.specs.Systems.{ownedIn, systemIn};
 ghost use Rattle.kept.specs.Emission.{emittedOf, identified};
 ghost use Rattle.kept.specs.Ready.{OfRows, Ready, Restored};
 ghost use Rattle.fast.specs.Searching.{Searching, fastBelow, goesOn, stateBy};
+ghost use Rattle.fast.specs.States.{leftPart, stateLength};
+use super::state;
 use kept::emission;
 use kept::emission::Emission;
 use kept::emission::Wanted;
@@ -49,20 +51,23 @@ fn any_clear(work: &[u64], start: usize, end: usize, covered: Mask) -> bool
 }
 
 // How many copies of kind k are left when one of a kind is placed.
-fn left_after(left: &[u8], kind: usize, k: usize) -> u8
-    requires { ⌜ (k < length (now left)) × (0 < getD (now left) kind 0) ⌝ }
-    ensures { λ r. ⌜ r ≡ getD (set (now (left .entry)) kind (getD (now (left .entry)) kind 0 - 1)) k 0 ⌝ }
+fn left_after(state: &[u16], kind: usize, k: usize) -> u16
+    requires { ⌜ (k < 16) × (length (now state) ≡ stateLength) × (0 < getD (leftPart (now state)) kind 0) ⌝ }
+    ensures { λ r. do
+      let left = leftPart (now (state .entry))
+      ⌜ r ≡ getD (set left kind (getD left kind 0 - 1)) k 0 ⌝ }
 {
-    if k == kind { left[k] - 1 } else { left[k] }
+    let copies = state::left_of(state, k);
+    if k == kind { copies - 1 } else { copies }
 }
 
 // Whether a search goes on when a row of a kind is placed and these cells are covered: none is uncovered, or a row can be placed at the first that is.
-fn goes_on(d: Dims, work: &[u64], chart: &[u16], left: &[u8], kind: usize, covered: Mask) -> bool
-    requires { ⌜ Ready d (now work) (now chart) × (d .kinds ≤ length (now left)) × (0 < getD (now left) kind 0) ⌝ }
+fn goes_on(d: Dims, work: &[u64], chart: &[u16], state: &[u16], kind: usize, covered: Mask) -> bool
+    requires { ⌜ Ready d (now work) (now chart) × (length (now state) ≡ stateLength) × (0 < getD (leftPart (now state)) kind 0) ⌝ }
     ensures { λ b. do
       let S = systemIn d (now (work .entry)) (now (chart .entry))
-      let after = set (now (left .entry)) kind (getD (now (left .entry)) kind 0 - 1)
-      ⌜ b ≡ goesOn S (stateBy S after covered []) ⌝ }
+      let left = leftPart (now (state .entry))
+      ⌜ b ≡ goesOn S (stateBy S (set left kind (getD left kind 0 - 1)) covered []) ⌝ }
 {
     let c = covered.next_open(0);
     if d.size <= c {
@@ -71,7 +76,7 @@ fn goes_on(d: Dims, work: &[u64], chart: &[u16], left: &[u8], kind: usize, cover
     let mut k = 0;
     // no row of a kind before k can be placed there
     while k < d.kinds {
-        if 0 < left_after(left, kind, k) {
+        if 0 < left_after(state, kind, k) {
             let start = chart::start_at(chart, 128 * k + c);
             let end = chart::start_at(chart, 128 * k + c + 1);
             if any_clear(work, start, end, covered) {
@@ -89,7 +94,7 @@ fn is_tried(
     d: Dims,
     work: &[u64],
     chart: &[u16],
-    left: &[u8],
+    state: &[u16],
     covered: Mask,
     shown: &[u8],
     waiting: bool,
@@ -97,12 +102,12 @@ fn is_tried(
     r: usize,
 ) -> bool
     requires { ⌜ Ready d (now work) (now chart) × (r < d .rows) × (kind ≡ rowAt (now work) r .kind) × (rowAt (now work) r .p < 128) ⌝ }
-    requires { ⌜ (length (now shown) ≡ 256) × (d .kinds ≤ length (now left)) × (0 < getD (now left) kind 0) ⌝ }
+    requires { ⌜ (length (now shown) ≡ 256) × (length (now state) ≡ stateLength) × (0 < getD (leftPart (now state)) kind 0) ⌝ }
     ensures { λ b. do
       let S = systemIn d (now (work .entry)) (now (chart .entry))
       let row = rowAt (now (work .entry)) r
       let shows = showsRow (ownedIn (piecesPart (now (chart .entry))) (d .pieces)) (now (shown .entry)) row
-      let below = choose (stateBy S (now (left .entry)) covered []) row
+      let below = choose (stateBy S (leftPart (now (state .entry))) covered []) row
       ⌜ b ≡ apart 128 (has (maskAt (now (work .entry)) r)) (has covered) && ((not waiting || shows) && goesOn S below) ⌝ }
 {
     if !is_clear(work, covered, r) {
@@ -115,7 +120,7 @@ fn is_tried(
         d,
         work,
         chart,
-        left,
+        state,
         kind,
         covered.union(row::mask_at(work, r)),
     )
@@ -127,8 +132,7 @@ pub fn search(
     work: &[u64],
     chart: &[u16],
     wanted: Wanted,
-    left: &mut [u8],
-    path: &mut [u16],
+    state: &mut [u16],
     n: usize,
     covered: Mask,
     last: &[u8],
@@ -136,40 +140,38 @@ pub fn search(
     answers: &mut [u8],
     e: Emission,
 ) -> Emission
-    requires { ⌜ Ready d (now work) (now chart) × OfRows d (now path) n × (length (now path) ≡ 128) × (length (now shown) ≡ 256)
+    requires { ⌜ Ready d (now work) (now chart) × OfRows d (now state) n × (length (now state) ≡ stateLength) × (length (now shown) ≡ 256)
         × Shown (d .size) (take (d .places) (scansPart (now chart))) (now last) (now shown) × (wanted .capacity * (2 * d .places) ≤ length (now answers)) ⌝ }
-    requires { ⌜ Searching (systemIn d (now work) (now chart)) (now left) covered (take n (now path)) ⌝ }
+    requires { ⌜ Searching (systemIn d (now work) (now chart)) (leftPart (now state)) covered (take n (now state)) ⌝ }
     ensures page { λ r. do
       let S = systemIn d (now (work .entry)) (now (chart .entry))
-      let state = stateBy S (now (left .entry)) covered (take n (now (path .entry)))
+      let t = stateBy S (leftPart (now (state .entry))) covered (take n (now (state .entry)))
       let old = emittedOf e (now (last .entry)) (now (answers .entry))
-      ⌜ emittedOf r (now (last .entry)) (now (answers .exit)) ≡ emits (wanted .capacity) (fastBelow S (identified wanted) state) old ⌝ }
-    ensures restored { λ _. ⌜ (now (left .exit) ≡ now (left .entry)) × Restored n (now (path .entry)) (now (path .exit)) ⌝ }
+      ⌜ emittedOf r (now (last .entry)) (now (answers .exit)) ≡ emits (wanted .capacity) (fastBelow S (identified wanted) t) old ⌝ }
+    ensures restored { λ _. ⌜ (leftPart (now (state .exit)) ≡ leftPart (now (state .entry))) × Restored n (now (state .entry)) (now (state .exit)) ⌝ }
 {
     let c = covered.next_open(0);
     if d.size <= c {
-        return emission::emit_kept(d, work, chart, wanted, path, n, last, answers, e);
+        return emission::emit_kept(d, work, chart, wanted, state, n, last, answers, e);
     }
     let mut s = e;
     // The rows at cell c, kind by kind: s is what those of the kinds before have left, and copies and path are as they were.
     let mut kind = 0;
     while kind < d.kinds {
-        if 0 < left[kind] {
+        if 0 < state::left_of(state, kind) {
             let mut r = chart::start_at(chart, 128 * kind + c);
             let end = chart::start_at(chart, 128 * kind + c + 1);
             // The same of the rows of this kind before r.
             while r < end {
-                if is_tried(d, work, chart, left, covered, shown, s.waiting, kind, r) {
-                    left[kind] -= 1;
-                    path[n] = r as u16;
+                if is_tried(d, work, chart, state, covered, shown, s.waiting, kind, r) {
+                    state::place_row(state, kind, n, r);
                     let more = covered.union(row::mask_at(work, r));
                     s = search(
                         d,
                         work,
                         chart,
                         wanted,
-                        left,
-                        path,
+                        state,
                         n + 1,
                         more,
                         last,
@@ -177,7 +179,7 @@ pub fn search(
                         answers,
                         s,
                     );
-                    left[kind] += 1;
+                    state::put_back(state, kind);
                     if s.further {
                         return s;
                     }

@@ -3,7 +3,6 @@ use Prim.Native.Nat.{ℕ}
 use mathlib.Core.Bool.{Bool, true, false, cond}
 use lib.Dec.{eqb}
 use mathlib.Core.List.{List}
-use mathlib.Core.Path.{_≡_}
 use Rattle.definitions.specs.Outcomes.{Outcome, numberOf}
 use Rattle.definitions.specs.declared.Config.{Config}
 use Rattle.definitions.specs.declared.SolverKind.{SolverKind}

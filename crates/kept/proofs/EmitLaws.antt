@@ -12,9 +12,9 @@ use Rattle.lists.proofs.ListLaws.{all-at, all-of}
 use Rattle.definitions.specs.Placements.{Placement}
 use Rattle.definitions.specs.Packing.{ahead, used}
 use Rattle.definitions.specs.Kept.{Identify}
-use Rattle.definitions.specs.Emission.{Emitted, emit}
+use Rattle.definitions.specs.Emission.{Emitted, Listed, emit}
 use Rattle.definitions.specs.Answers.{Taken}
-use Rattle.definitions.proofs.EmissionLaws.{emit-waited, emit-written}
+use Rattle.theorems.proofs.EmissionLaws.{emit-waited, emit-written}
 use Rattle.rows.specs.Charts.{scansPart, piecesPart}
 use Rattle.rows.specs.declared.Dims.{Dims}
 use Rattle.rows.specs.Rows.{rowAt}
@@ -22,14 +22,15 @@ use Rattle.rows.specs.Systems.{System, systemIn, ownedIn, systemOver}
 use Rattle.rows.specs.Answering.{Held, answersOver, answerBy, copiesBy, pathIn, takenBy}
 use Rattle.kept.specs.Normal.{sortRows, rowOf, ofKind, normal, InKinds}
 use Rattle.kept.specs.Ready.{Ready, OfRows, Fillable}
-use Rattle.kept.specs.Emission.{answerOf, emitKept}
+use Rattle.kept.specs.Emission.{emitKept, entryOf}
+use Rattle.kept.specs.Entries.{entryBy}
 use Rattle.kept.proofs.SortingLaws.{sort-keep, sort-rows-at, sort-rows-ascending}
 use Rattle.kept.proofs.NormalFormLaws.{path-fits, used-is}
 use Rattle.kept.proofs.NormalLaws.{in-kinds, rows-ascend}
 use Rattle.kept.proofs.ReadyLaws.{few-cells, row-kind, row-on-board, kinds-many, rows-many, row-is}
 
 -- the entry that is waited for, or another
-pub met-or-passed : (s : Emitted) (capacity : ℕ) (entry : List ℕ) → s .further ≡ false → s .waiting ≡ true → (met : Bool) → met ≡ same entry (s .last)
+pub met-or-passed : (s : Emitted) (capacity : ℕ) (entry : Listed) → s .further ≡ false → s .waiting ≡ true → (met : Bool) → met ≡ same (entry .answer) (s .last)
     → record { last = s .last; waiting = not met; skip = s .skip; written = s .written; further = false; answers = s .answers } ≡ emit capacity entry s
 met-or-passed s capacity entry e f met is =
     ap (λ (b : Bool). record { last = s .last; waiting = not b; skip = s .skip; written = s .written; further = false; answers = s .answers }) is ∙ sym (emit-waited capacity entry s e f)
@@ -45,11 +46,12 @@ module _ (ts : List Taken) (scans : List ℕ) (places : ℕ) (h : places ≤ len
 
   pub emit-answer-written : (capacity : ℕ) (s : Emitted) → s .waiting ≡ false → s .further ≡ false → s .skip ≤ 0 → s .written < capacity → (after : List ℕ)
       → after ≡ paste (s .answers) (s .written * (2 * places)) (answersOver ts (take places scans)) (2 * places)
-      → record { last = s .last; waiting = false; skip = 0; written = s .written + 1; further = false; answers = after } ≡ emit capacity (answersOver ts (take places scans)) s
+      → record { last = s .last; waiting = false; skip = 0; written = s .written + 1; further = false; answers = after }
+      ≡ emit capacity (record { answer = answersOver ts (take places scans) }) s
   emit-answer-written capacity s f e z k after is =
-      let entry = answersOver ts (take places scans) in
+      let entry : Listed = record { answer = answersOver ts (take places scans) } in
       ap (λ (l : List ℕ). record { last = s .last; waiting = false; skip = 0; written = s .written + 1; further = false; answers = l })
-      (is ∙ ap (λ (n : ℕ). paste (s .answers) (s .written * n) entry n) (sym answer-length))
+      (is ∙ ap (λ (n : ℕ). paste (s .answers) (s .written * n) (entry .answer) n) (sym answer-length))
       ∙ sym (emit-written capacity entry s f e z k)
 
 -- ---- a packing by its rows in any order
@@ -119,11 +121,13 @@ module _ (d : Dims) (work chart : List ℕ) (ready : Ready d work chart) (path :
         enough = enough;
       }
 
-  answer-is : answersOver (takenBy (ownedIn (piecesPart chart) (d .pieces)) (d .kinds) (pathIn work sorted n)) (take (d .places) (scansPart chart)) ≡ answerOf S (take n path)
-  unfolding answerOf answerBy systemIn systemOver
-  answer-is =
-      ap₂ (λ (k : ℕ) (qs : List Placement). answersOver (takenBy (ownedIn (piecesPart chart) (d .pieces)) k qs) (take (d .places) (scansPart chart))) (sym (kinds-many d work chart))
-      (sym path-is ∙ ap (map (rowOf S)) is)
+  -- the entry that the code makes
+  abbrev made : ℕ → List Placement → Listed
+  made k qs = record { answer = answersOver (takenBy (ownedIn (piecesPart chart) (d .pieces)) k qs) (take (d .places) (scansPart chart)) }
+
+  entry-is : made (d .kinds) (pathIn work sorted n) ≡ entryOf S (take n path)
+  unfolding entryOf entryBy answerBy systemIn systemOver
+  entry-is = ap₂ made (sym (kinds-many d work chart)) (sym path-is ∙ ap (map (rowOf S)) is)
 
   module _ (i : Identify) (capacity : ℕ) (e : Emitted) (r : Bool) (v : r ≡ normal S i (take n sorted)) where
     decided : (b : Bool) → r ≡ b → normal S i (sortRows (take n path)) ≡ b
@@ -131,10 +135,10 @@ module _ (d : Dims) (work chart : List ℕ) (ready : Ready d work chart) (path :
 
     pub emit-left : r ≡ false → e ≡ emitKept S i capacity (take n path) e
     unfolding emitKept
-    emit-left w = ap (λ (b : Bool). cond b (emit capacity (answerOf S (take n path)) e) e) (sym (decided false w))
+    emit-left w = ap (λ (b : Bool). cond b (emit capacity (entryOf S (take n path)) e) e) (sym (decided false w))
 
-    pub emit-put : r ≡ true → (a : Emitted) → a ≡ emit capacity (answersOver (takenBy (ownedIn (piecesPart chart) (d .pieces)) (d .kinds) (pathIn work sorted n)) (take (d .places) (scansPart chart))) e
+    pub emit-put : r ≡ true → (a : Emitted) → a ≡ emit capacity (made (d .kinds) (pathIn work sorted n)) e
         → a ≡ emitKept S i capacity (take n path) e
     unfolding emitKept
     emit-put w a g =
-        g ∙ ap (λ (x : List ℕ). emit capacity x e) answer-is ∙ ap (λ (b : Bool). cond b (emit capacity (answerOf S (take n path)) e) e) (sym (decided true w))
+        g ∙ ap (λ (x : Listed). emit capacity x e) entry-is ∙ ap (λ (b : Bool). cond b (emit capacity (entryOf S (take n path)) e) e) (sym (decided true w))

@@ -1,6 +1,6 @@
 -- The rows of a packing have ascending numbers, so that what is kept and answered by numbers is what document 01 keeps and answers. Assumes nothing.
 use Prim.Native.Nat.{ℕ, _<_}
-use mathlib.Core.List.{List, [], _∷_, map, List·Memᴰ, List·Memᴰ·head, List·Memᴰ·tail, Memᴰ·of-map}
+use mathlib.Core.List.{List, [], _∷_, map, List·Memᴰ, List·Memᴰ·head, List·Memᴰ·tail, Memᴰ·of-map, map-map}
 use mathlib.Core.Path.{_≡_, refl, sym, ap, _∙_, subst}
 use native.Mathlib.Omega.{arith}
 use lib.Dec.{T, ltb, lt→ltb}
@@ -12,13 +12,14 @@ use Rattle.definitions.specs.Placements.{Placement, Compiled, compile}
 use Rattle.definitions.specs.Packing.{ahead, samePlacement, Packing}
 use Rattle.definitions.specs.Kept.{Identify, kept}
 use Rattle.definitions.specs.Answers.{answer}
+use Rattle.definitions.specs.Emission.{Listed, answersIn}
 use Rattle.definitions.specs.Refusals.{Call, trayOf, refusal}
-use Rattle.definitions.proofs.PackingLaws.{ahead-trans, ahead-irrefl, samePlacement-refl, samePlacement→eq, packing-placed}
-use Rattle.definitions.proofs.GeometryLaws.{W}
+use Rattle.theorems.proofs.PackingLaws.{ahead-trans, ahead-irrefl, samePlacement-refl, samePlacement→eq, packing-placed}
+use Rattle.theorems.proofs.GeometryLaws.{W}
 use Rattle.rows.specs.Systems.{System, systemOf}
 use Rattle.rows.specs.Answering.{answerBy}
 use Rattle.kept.specs.Normal.{noRow, rowOf, normal}
-use Rattle.kept.specs.Entries.{numbersOf, entries}
+use Rattle.kept.specs.Entries.{numbersOf, entries, entryBy}
 use Rattle.rows.proofs.AnswerLaws.{same-answer}
 use Rattle.kept.proofs.NormalLaws.{normal-same}
 
@@ -79,8 +80,10 @@ module _ (l : Call) (ok : refusal l ≡ 0) where
         normal-same l ok i (numbersOf S P) numbers-below numbers-ascend (subst (λ (Q : List Placement). Packing C Q) (sym rows-of-numbers) g)
         ∙ ap (kept C i) rows-of-numbers
 
-  pub entries-same : (i : Identify) (L : List (List Placement)) → ((P : List Placement) → List·Memᴰ P L → Packing C P) → entries S i L ≡ map (answer C) (keep (kept C i) L)
-  unfolding entries
+  pub entries-same : (i : Identify) (L : List (List Placement)) → ((P : List Placement) → List·Memᴰ P L → Packing C P)
+      → answersIn (entries S i L) ≡ map (answer C) (keep (kept C i) L)
+  unfolding entries entryBy
   entries-same i L h =
-      map-same (answerBy S) (answer C) (keep (λ P. normal S i (numbersOf S P)) L) (λ P m. same-answer (trayOf l) P)
+      map-map (λ (entry : Listed). entry .answer) (entryBy S) (keep (λ P. normal S i (numbersOf S P)) L)
+      ∙ map-same (answerBy S) (answer C) (keep (λ P. normal S i (numbersOf S P)) L) (λ P m. same-answer (trayOf l) P)
       ∙ ap (map (answer C)) (keep-same (λ P. normal S i (numbersOf S P)) (kept C i) L (λ P m. normal-kept P (h P m) i))

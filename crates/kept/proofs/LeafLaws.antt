@@ -15,13 +15,13 @@ use Rattle.definitions.specs.Placements.{Placement}
 use Rattle.definitions.specs.Packing.{ahead, samePlacement}
 use Rattle.definitions.specs.Kept.{Identify}
 use Rattle.definitions.specs.Emission.{Emitted, emit, emits}
-use Rattle.definitions.proofs.PackingLaws.{ahead-trans, ahead-irrefl, samePlacement-refl, samePlacement→eq}
+use Rattle.theorems.proofs.EmissionLaws.{emits-none, emits-one}
+use Rattle.theorems.proofs.PackingLaws.{ahead-trans, ahead-irrefl, samePlacement-refl, samePlacement→eq}
 use Rattle.rows.specs.Systems.{System}
 use Rattle.rows.specs.Lawful.{Lawful}
-use Rattle.rows.specs.Answering.{answerBy}
 use Rattle.kept.specs.Normal.{sortRows, rowOf, noRow, normal}
-use Rattle.kept.specs.Emission.{answerOf, emitKept}
-use Rattle.kept.specs.Entries.{numbersOf, entries, putAll}
+use Rattle.kept.specs.Emission.{emitKept, entryOf}
+use Rattle.kept.specs.Entries.{numbersOf, entries, entryBy, putAll}
 use Rattle.kept.proofs.NormalLaws.{rows-ascend}
 use Rattle.kept.proofs.NormalRowLaws.{row-of-in}
 use Rattle.kept.proofs.SortingLaws.{sort-rows-at, sort-rows-of, sort-rows-ascending}
@@ -123,12 +123,12 @@ module _ (s : System) (law : Lawful s) (rs : List ℕ) (rows : T (all (λ r. ltb
 
   -- and its entry
   pub packing-emits : (i : Identify) (capacity : ℕ) (e : Emitted) → emitKept s i capacity rs e ≡ emits capacity (entries s i (putAll [] (map (rowOf s) rs) ∷ [])) e
-  unfolding emitKept answerOf entries emits
+  unfolding emitKept entryOf entries
   packing-emits i capacity e =
-      sym (ap (λ (P : List Placement). emits capacity (map (answerBy s) (consIf (normal s i (numbersOf s P)) P [])) e) packing-sorted
-      ∙ ap (λ (ns : List ℕ). emits capacity (map (answerBy s) (consIf (normal s i ns) (map (rowOf s) (sortRows rs)) [])) e) (numbers-back s law (sortRows rs) sorted-rows)
+      sym (ap (λ (P : List Placement). emits capacity (map (entryBy s) (consIf (normal s i (numbersOf s P)) P [])) e) packing-sorted
+      ∙ ap (λ (ns : List ℕ). emits capacity (map (entryBy s) (consIf (normal s i ns) (map (rowOf s) (sortRows rs)) [])) e) (numbers-back s law (sortRows rs) sorted-rows)
       ∙ one (normal s i (sortRows rs)) (map (rowOf s) (sortRows rs)))
     where
-      one : (b : Bool) (P : List Placement) → emits capacity (map (answerBy s) (consIf b P [])) e ≡ cond b (emit capacity (answerBy s P) e) e
-      one true P = refl
-      one false P = refl
+      one : (b : Bool) (P : List Placement) → emits capacity (map (entryBy s) (consIf b P [])) e ≡ cond b (emit capacity (entryBy s P) e) e
+      one true P = emits-one capacity e (entryBy s P)
+      one false P = emits-none capacity e

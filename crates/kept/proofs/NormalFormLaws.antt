@@ -5,7 +5,7 @@ use mathlib.Core.List.{List, [], _∷_, _++_, map, map-append}
 use mathlib.Core.Path.{_≡_, refl, sym, ap, ap₂, _∙_, subst}
 use native.Mathlib.Numerals.{add-one}
 use native.Mathlib.Omega.{arith}
-use borrow.Author.Tests.{le-leb, lt-leb, eq-eqb, ne-eqb}
+use borrow.Author.Tests.{le-leb, lt-leb}
 use lib.Dec.{T, ltb, leb, eqb, lt→ltb, ltb→lt}
 use lib.ListN.{length, take, drop, getD, set, length-drop, length-map, drop-of-length-le, List·getD-eq-default}
 use lib.Seq.{length-take-le, drop-cons, take-suc, getD-take, getD-drop}
@@ -25,7 +25,8 @@ use Rattle.rows.specs.Answering.{pathIn}
 use Rattle.kept.specs.Normal.{sortRows, rowOf, ofKind, imageOf, movedRows, counted, keyOf, imageKey, imageSmaller, mirrorable, normal}
 use Rattle.kept.specs.Ready.{Ready, OfRows}
 use Rattle.kept.proofs.ReadyLaws.{kinds-many, rows-many, row-is, few-rows, image-is}
-use Rattle.kept.proofs.SortingLaws.{sort-ascends, sort-rows-length, sort-count, nth-under, nth-over}
+use Rattle.lists.proofs.CountLaws.{nth-under, nth-over}
+use Rattle.kept.proofs.SortingLaws.{sort-ascends, sort-rows-length, sort-count}
 
 -- ---- lists
 -- a test of each number below n, from k on

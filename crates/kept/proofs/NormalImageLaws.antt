@@ -11,7 +11,7 @@ use Rattle.lists.proofs.ListLaws.{any-at, any-of, keep-at, keep-of, before-foun
 use Rattle.lists.proofs.SortLaws.{keep-ascending, same→eq, same-refl, ascending-unique, apart-ascending, sort-at, sort-of}
 use Rattle.definitions.specs.Placements.{Placement}
 use Rattle.definitions.specs.Packing.{ahead}
-use Rattle.definitions.proofs.PackingLaws.{ahead-trans, ahead-irrefl}
+use Rattle.theorems.proofs.PackingLaws.{ahead-trans, ahead-irrefl}
 use Rattle.rows.specs.Systems.{System, kindBy, cellsBy, movedBy, rowWith}
 use Rattle.rows.specs.Lawful.{ImageOf, allowed}
 use Rattle.kept.specs.Normal.{noRow, rowOf, ofKind, imageOf, movedRows}

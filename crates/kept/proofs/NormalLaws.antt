@@ -21,12 +21,12 @@ use Rattle.definitions.specs.Packing.{ahead, samePlacement, covering, used, lim
 use Rattle.definitions.specs.Kept.{Identify, kindAfter, cellAfter, moved, image, compared, smaller, symmetries, turnedImages, mirroredImages, images, kept}
 use Rattle.definitions.specs.Kept.Identify.{None, Turned, Mirrored}
 use Rattle.definitions.specs.Refusals.{Call, trayOf, refusal}
-use Rattle.definitions.proofs.PackingLaws.{ahead-irrefl, samePlacement-refl, packing-of, packing-test, packing-placed, packing-within, packing-once, packing-at}
-use Rattle.definitions.proofs.SetDownLaws.{placement-once}
-use Rattle.definitions.proofs.ImageLaws.{Numbered, Onto-placement, after-below, after-after, after-still, image-at, image-of, image-ascending, same-cells, numbers-inj, has-image}
-use Rattle.definitions.proofs.ActLaws.{mapsOf, Allowed, allowed-back, identity-then-cell, symmetry-at, on-cells, act-inj}
-use Rattle.definitions.proofs.GeometryLaws.{W, numbered-cells, to-filled, of-filled, whole, partners}
-use Rattle.definitions.proofs.CarryLaws.{placement-image, turned-packing}
+use Rattle.theorems.proofs.PackingLaws.{ahead-irrefl, samePlacement-refl, packing-of, packing-test, packing-placed, packing-within, packing-once, packing-at}
+use Rattle.theorems.proofs.SetDownLaws.{placement-once}
+use Rattle.theorems.proofs.ImageLaws.{Numbered, Onto-placement, after-below, after-after, after-still, image-at, image-of, image-ascending, same-cells, numbers-inj, has-image}
+use Rattle.theorems.proofs.ActLaws.{mapsOf, Allowed, allowed-back, identity-then-cell, symmetry-at, on-cells, act-inj}
+use Rattle.theorems.proofs.GeometryLaws.{W, numbered-cells, to-filled, of-filled, whole, partners}
+use Rattle.theorems.proofs.CarryLaws.{placement-image, turned-packing}
 use Rattle.rows.specs.Systems.{System, cellImages, systemOf, kindBy, cellsBy, movedBy}
 use Rattle.rows.specs.Lawful.{Lawful, allowed}
 use Rattle.kept.specs.Normal.{rowOf, ofKind, movedRows, keyOf, imageKey, imageSmaller, mirrorable, normal, InKinds}

@@ -15,8 +15,8 @@ use Rattle.lists.proofs.RangeLaws.{below-of, from-ascending}
 use Rattle.rows.proofs.AnsweringLaws.{ahead-kind}
 use Rattle.definitions.specs.Placements.{Placement}
 use Rattle.definitions.specs.Packing.{ahead}
-use Rattle.definitions.proofs.OrderLaws.{pj-of}
-use Rattle.definitions.proofs.PackingLaws.{ahead-irrefl}
+use Rattle.theorems.proofs.OrderLaws.{pj-of}
+use Rattle.theorems.proofs.PackingLaws.{ahead-irrefl}
 use Rattle.rows.specs.Systems.{System, kindBy}
 use Rattle.rows.specs.Lawful.{Lawful, LawfulRow, Permutes, ImageOf, allowed}
 use Rattle.kept.specs.Normal.{noRow, rowOf, ofKind, counted, InKinds}

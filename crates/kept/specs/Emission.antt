@@ -1,13 +1,13 @@
 -- A packing that a search has found, on the page.
 use Prim.Native.Nat.{ℕ}
-use mathlib.Core.Bool.{Bool, true, false, cond}
+use mathlib.Core.Bool.{cond}
 use mathlib.Core.List.{List, map}
-use Rattle.definitions.specs.Emission.{Emitted, emit}
+use Rattle.definitions.specs.Emission.{Emitted, Listed, emit}
 use Rattle.definitions.specs.Kept.{Identify}
 use Rattle.definitions.specs.Refusals.{identifies}
 use Rattle.rows.specs.Systems.{System}
-use Rattle.rows.specs.Answering.{answerBy}
 use Rattle.kept.specs.Normal.{rowOf, sortRows, normal}
+use Rattle.kept.specs.Entries.{entryBy}
 use Rattle.kept.specs.declared.emission.Emission as code
 use Rattle.kept.specs.declared.emission.Wanted.{Wanted}
 
@@ -19,10 +19,10 @@ emittedOf e last answers = record { last = last; waiting = e .waiting; skip = e 
 abbrev pub identified : Wanted → Identify
 identified w = identifies (w .turned) (w .mirrored)
 
--- the answer of a packing by its rows in any order
-unfoldable pub answerOf : System → List ℕ → List ℕ
-answerOf s rs = answerBy s (map (rowOf s) (sortRows rs))
+-- the entry of a packing by its rows in any order
+unfoldable pub entryOf : System → List ℕ → Listed
+entryOf s rs = entryBy s (map (rowOf s) (sortRows rs))
 
 -- one packing more: left out where it is not kept
 unfoldable pub emitKept : System → Identify → ℕ → List ℕ → Emitted → Emitted
-emitKept s i capacity rs e = let next = emit capacity (answerOf s rs) e in cond (normal s i (sortRows rs)) next e
+emitKept s i capacity rs e = let next = emit capacity (entryOf s rs) e in cond (normal s i (sortRows rs)) next e

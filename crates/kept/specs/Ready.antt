@@ -1,6 +1,5 @@
 -- Slices in which a lawful row system stands: what the functions of the engines ask of what they are lent.
 use Prim.Native.Nat.{ℕ, _+_, _*_, _≤_, _<_}
-use mathlib.Core.Bool.{Bool}
 use mathlib.Core.List.{List}
 use mathlib.Core.Path.{_≡_}
 use lib.Dec.{T, ltb}

@@ -45,7 +45,7 @@ fn emit_answer(
       let taken = takenBy (ownedIn (piecesPart (now (chart .entry))) (d .pieces)) (d .kinds) (pathIn (now (work .entry)) (now (rows .entry)) n)
       let answer = answersOver taken (take (d .places) (scansPart (now (chart .entry))))
       let old = emittedOf e (now (last .entry)) (now (answers .entry))
-      ⌜ emittedOf r (now (last .entry)) (now (answers .exit)) ≡ emit capacity answer old ⌝ }
+      ⌜ emittedOf r (now (last .entry)) (now (answers .exit)) ≡ emit capacity (record { answer = answer }) old ⌝ }
 {
     let skip = e.skip;
     let written = e.written;

@@ -10,10 +10,10 @@ use lib.ListN.{take, set, length-set}
 use lib.Seq.{take-set-le, take-take}
 use Rattle.definitions.specs.Kept.{Identify}
 use Rattle.definitions.specs.Emission.{Emitted}
-use Rattle.definitions.proofs.EmissionLaws.{emit-done}
+use Rattle.theorems.proofs.EmissionLaws.{emit-done}
 use Rattle.rows.specs.Systems.{System}
 use Rattle.kept.specs.Normal.{normal, sortRows}
-use Rattle.kept.specs.Emission.{emitKept, answerOf}
+use Rattle.kept.specs.Emission.{emitKept, entryOf}
 use Rattle.kept.specs.Ready.{Restored}
 use Rattle.links.specs.Links.{down, firstOf, endOf, sizeOf}
 use Rattle.links.specs.Cover.{tally, Reduced, reducedTo, aliveRun}
@@ -50,7 +50,7 @@ module _ (s : System) (i : Identify) (capacity : ℕ) where
 
   put-done : (rs : List ℕ) (e : Emitted) → e .further ≡ true → emitKept s i capacity rs e ≡ e
   unfolding emitKept
-  put-done rs e h = go (normal s i (sortRows rs)) (emit-done capacity (answerOf s rs) e h)
+  put-done rs e h = go (normal s i (sortRows rs)) (emit-done capacity (entryOf s rs) e h)
     where
       go : (b : Bool) {next : Emitted} → next ≡ e → cond b next e ≡ e
       go true f = f

@@ -13,14 +13,13 @@ use Rattle.lists.proofs.ListLaws.{all-of, keep-map}
 use Rattle.lists.proofs.RangeLaws.{by-number}
 use Rattle.definitions.specs.Placements.{Placement}
 use Rattle.definitions.specs.Kept.{Identify}
-use Rattle.definitions.specs.Emission.{Emitted, emits}
-use Rattle.definitions.proofs.EmissionLaws.{emits-append}
+use Rattle.definitions.specs.Emission.{Emitted, Listed, emits}
+use Rattle.theorems.proofs.EmissionLaws.{emits-append, emits-none}
 use Rattle.rows.specs.Systems.{System}
-use Rattle.rows.specs.Answering.{answerBy}
 use Rattle.rows.specs.Lawful.{Lawful}
 use Rattle.kept.specs.Normal.{noRow, rowOf, normal}
 use Rattle.kept.specs.Emission.{emitKept}
-use Rattle.kept.specs.Entries.{numbersOf, entries, putAll}
+use Rattle.kept.specs.Entries.{numbersOf, entries, entryBy, putAll}
 use Rattle.kept.proofs.LeafLaws.{packing-emits}
 use Rattle.links.specs.Links.{LawfulMatrix}
 use Rattle.links.specs.Cover.{tally, here}
@@ -138,7 +137,7 @@ module _ (s : System) (law : Lawful s) where
   unfolding entries
   entries-cons i P L = go (normal s i (numbersOf s P))
     where
-      go : (b : Bool) → map (answerBy s) (consIf b P (keep (λ Q. normal s i (numbersOf s Q)) L)) ≡ map (answerBy s) (consIf b P []) ++ map (answerBy s) (keep (λ Q. normal s i (numbersOf s Q)) L)
+      go : (b : Bool) → map (entryBy s) (consIf b P (keep (λ Q. normal s i (numbersOf s Q)) L)) ≡ map (entryBy s) (consIf b P []) ++ map (entryBy s) (keep (λ Q. normal s i (numbersOf s Q)) L)
       go true = refl
       go false = refl
 
@@ -148,7 +147,7 @@ module _ (s : System) (law : Lawful s) where
   emit-all : (i : Identify) (capacity : ℕ) (kss : List (List ℕ)) → ((ks : List ℕ) → List·Memᴰ ks kss → T (all (λ r. ltb r (length (s .rows))) (map row ks)) × Apart (map row ks)) → (e : Emitted)
       → emitAll s i capacity (foundRows s [] kss) e ≡ emits capacity (entries s i (map (λ ks. putAll [] (map (rowOf s) (map row ks))) kss)) e
   unfolding emitAll foundRows
-  emit-all i capacity [] h e = unfold entries emits in refl
+  emit-all i capacity [] h e = unfold entries in sym (emits-none capacity e)
   emit-all i capacity (ks ∷ kss) h e =
       let a = h ks (List·Memᴰ·head refl) in
       let P = putAll [] (map (rowOf s) (map row ks)) in
@@ -156,7 +155,7 @@ module _ (s : System) (law : Lawful s) where
       emit-all i capacity kss (λ js j. h js (List·Memᴰ·tail j)) (emitKept s i capacity (map row ks) e)
       ∙ ap (emits capacity (entries s i L)) (packing-emits s law (map row ks) (a .0) (a .1) i capacity e)
       ∙ sym (emits-append capacity (entries s i (P ∷ [])) (entries s i L) e)
-      ∙ ap (λ (l : List (List ℕ)). emits capacity l e) (sym (entries-cons i P L))
+      ∙ ap (λ (l : List Listed). emits capacity l e) (sym (entries-cons i P L))
 
   pub found-emits : (l : LawfulMatrix (matrixOf s)) (copies : ℕ → ℕ) → ((k : ℕ) → k < length (s .copies) → copies (s .size + k) ≡ getD (s .copies) k 0)
       → (g : ℕ) → s .size < g → (i : Identify) (capacity : ℕ) (e : Emitted)

@@ -1,5 +1,5 @@
--- Knuth's list over a row system: a search begins with every row possible and none chosen, and what it emits is the list. Over an accepted tray's system the
--- list is document 01's, and there are as many links as document 01 counts. Assumes nothing.
+-- Knuth's list over a row system: a search begins with every row possible and none chosen, and what it emits is the list. Over an accepted tray's system its
+-- answers are document 01's list, and there are as many links as document 01 counts. Assumes nothing.
 use Prim.Native.Nat.{ℕ, _+_}
 use mathlib.Core.List.{List, [], List·Memᴰ·not-nil}
 use mathlib.Core.Path.{_≡_, refl}
@@ -9,13 +9,13 @@ use Rattle.definitions.specs.Kinds.{Tray, Kind}
 use Rattle.definitions.specs.Placements.{compile}
 use Rattle.definitions.specs.Packing.{limits}
 use Rattle.definitions.specs.Kept.{Identify}
-use Rattle.definitions.specs.Emission.{Emitted, emits}
+use Rattle.definitions.specs.Emission.{Emitted, answersIn, emits}
 use Rattle.definitions.specs.Orders.{start, knuthList, packings, listed}
 use Rattle.definitions.specs.Outcomes.{answersOf}
 use Rattle.definitions.specs.Refusals.{Call, trayOf, rowsOf, linkCount, refusal}
 use Rattle.definitions.specs.declared.SolverKind.the-variants.{KnuthAlgorithm}
-use Rattle.definitions.proofs.GeometryLaws.{W}
-use Rattle.definitions.proofs.EngineLaws.{knuth-exact}
+use Rattle.theorems.proofs.GeometryLaws.{W}
+use Rattle.theorems.proofs.EngineLaws.{knuth-exact}
 use Rattle.rows.specs.declared.Dims.{Dims}
 use Rattle.rows.specs.Systems.{System, systemIn, systemOf, systemOver}
 use Rattle.rows.specs.Lawful.{Lawful}
@@ -33,7 +33,8 @@ pub links-many : (t : Tray) → length (linkNodes (systemOf t)) ≡ linkCount (c
 unfolding systemOf linkCount rowsOf limits
 links-many t = let a = nodes-many (systemOf t) in let b = length-map (compile t .kinds) (λ (k : Kind). length (k .copies)) in omega arith
 
-pub knuth-answers : (l : Call) → refusal l ≡ 0 → (i : Identify) → knuthAnswers (systemOf (trayOf l)) i ≡ answersOf (trayOf l) i KnuthAlgorithm
+pub knuth-answers : (l : Call) → refusal l ≡ 0 → (i : Identify)
+    → answersIn (knuthAnswers (systemOf (trayOf l)) i) ≡ answersOf (trayOf l) i KnuthAlgorithm
 unfolding knuthAnswers answersOf listed packings knuthList start startBy systemOf
 knuth-answers l ok i = entries-same l ok i (knuthList (compile (trayOf l))) (knuth-exact (compile (trayOf l)) (W l ok) .only)
 

@@ -11,7 +11,7 @@ use Rattle.lists.specs.Lists.{all, any, howMany, keep, member, less, sort, asce
 use Rattle.lists.proofs.TestLaws.{or-no, and-left, and-right, or-cases, decide, holds}
 use Rattle.lists.proofs.ListLaws.{nothing-in, all-at, keep-at, keep-of, keep-same}
 use Rattle.lists.proofs.SortLaws.{sort-ascending, sort-at, sort-of}
-use Rattle.definitions.proofs.KnuthOrderLaws.{tallies-tied, tally-trans}
+use Rattle.theorems.proofs.KnuthOrderLaws.{tallies-tied, tally-trans}
 use Rattle.definitions.specs.Placements.{Placement}
 use Rattle.definitions.specs.Orders.{State, possible, Tally, tallyAhead, tallies, knuthChoices}
 use Rattle.links.specs.Search.{better, least, pivot}

@@ -17,15 +17,16 @@ use Rattle.lists.proofs.CountLaws.{howMany-length}
 use Rattle.definitions.specs.Placements.{Placement}
 use Rattle.definitions.specs.Packing.{used}
 use Rattle.definitions.specs.Kept.{Identify}
-use Rattle.definitions.specs.Emission.{Emitted, emits}
-use Rattle.definitions.proofs.EmissionLaws.{emits-unmet}
+use Rattle.definitions.specs.Emission.{Emitted, Listed}
+use Rattle.theorems.proofs.EmissionLaws.{emits-one, emits-unmet}
 use Rattle.rows.specs.Systems.{System}
 use Rattle.rows.specs.Lawful.{Lawful}
 use Rattle.rows.specs.Answering.{copiesBy}
 use Rattle.rows.specs.Shown.{Shown, showsRow}
 use Rattle.rows.proofs.ShownLaws.{answer-shows}
 use Rattle.kept.specs.Normal.{rowOf, ofKind, normal, sortRows}
-use Rattle.kept.specs.Emission.{emitKept, answerOf}
+use Rattle.kept.specs.Emission.{emitKept, entryOf}
+use Rattle.kept.specs.Entries.{entryBy}
 use Rattle.kept.proofs.SortingLaws.{sort-keep, sort-rows-at, sort-rows-of}
 use Rattle.kept.proofs.NormalRowLaws.{row-of-in}
 use Rattle.links.specs.Links.{down, Matrix}
@@ -95,17 +96,22 @@ found-within (suc g) {w} {uncovered} {copies} {cells} {left} {m} seek ks i =
 
 -- ---- a list whose answer is none that is waited for
 module _ (s : System) (i : Identify) (capacity : ℕ) (e : Emitted) (waits : e .waiting ≡ true) where
-  unmet-kept : (rs : List ℕ) → (answerOf s rs ≡ e .last → ⊥) → emitKept s i capacity rs e ≡ e
-  unfolding emitKept emits
+  unmet-kept : (rs : List ℕ) → (entryOf s rs .answer ≡ e .last → ⊥) → emitKept s i capacity rs e ≡ e
+  unfolding emitKept
   unmet-kept rs f =
-      go (normal s i (sortRows rs)) (emits-unmet capacity (answerOf s rs ∷ []) e waits
-      (λ x m. is-false (same x (e .last)) (λ t. f (sym (List·Memᴰ·eq-of-singleton m) ∙ same→eq x (e .last) t))))
+      go (normal s i (sortRows rs)) (sym (emits-one capacity e (entryOf s rs)) ∙ emits-unmet capacity (entryOf s rs ∷ []) e waits others)
     where
+      others : (x : Listed) → List·Memᴰ x (entryOf s rs ∷ []) → same (x .answer) (e .last) ≡ false
+      others x m =
+          let is : entryOf s rs .answer ≡ x .answer = ap (λ (y : Listed). y .answer) (sym (List·Memᴰ·eq-of-singleton m)) in
+          is-false (same (x .answer) (e .last)) (λ t. f (is ∙ same→eq (x .answer) (e .last) t))
+
       go : (b : Bool) {next : Emitted} → next ≡ e → cond b next e ≡ e
       go true h = h
       go false h = refl
 
-  unmet-all : (rs : List ℕ) (kss : List (List ℕ)) → ((ks : List ℕ) → List·Memᴰ ks kss → answerOf s (rs ++ map (matrixOf s .row) ks) ≡ e .last → ⊥) → emitAll s i capacity (foundRows s rs kss) e ≡ e
+  unmet-all : (rs : List ℕ) (kss : List (List ℕ)) → ((ks : List ℕ) → List·Memᴰ ks kss → entryOf s (rs ++ map (matrixOf s .row) ks) .answer ≡ e .last → ⊥)
+      → emitAll s i capacity (foundRows s rs kss) e ≡ e
   unfolding emitAll foundRows
   unmet-all rs [] f = refl
   unmet-all rs (ks ∷ kss) f =
@@ -211,8 +217,8 @@ module _ (s : System) (law : Lawful s) {w : Reduced} {uncovered : ℕ → Bool} 
     row-here = Memᴰ·append-left (map (matrixOf s .row) ks) (Memᴰ·append-right rs (List·Memᴰ·head refl))
 
     -- an answer of these rows would show row r
-    not-shown : (last shown : List ℕ) → Shown (s .size) (s .scans) last shown → showsRow (s .pieces) shown (rowOf s r) ≡ false → answerOf s rows ≡ last → ⊥
-    unfolding answerOf
+    not-shown : (last shown : List ℕ) → Shown (s .size) (s .scans) last shown → showsRow (s .pieces) shown (rowOf s r) ≡ false → entryOf s rows .answer ≡ last → ⊥
+    unfolding entryOf entryBy
     not-shown last shown sh no-show is =
         true≢false (sym (answer-shows s law P (rowOf s r) (Memᴰ·map (rowOf s) (sort-rows-of rows row-here)) (row-of-in s r (row-node s seek isT k live .isRow)) others few last shown sh is) ∙ no-show)
       where

@@ -6,7 +6,7 @@ use mathlib.Core.Path.{_≡_}
 use lib.ListN.{length, getD}
 use Rattle.lists.specs.Lists.{Apart}
 use Rattle.definitions.specs.Kept.{Identify}
-use Rattle.definitions.specs.Emission.{Emitted}
+use Rattle.definitions.specs.Emission.{Emitted, Listed}
 use Rattle.definitions.specs.Orders.{search, knuthChoices}
 use Rattle.rows.specs.Systems.{System}
 use Rattle.kept.specs.Normal.{ofKind, rowOf}
@@ -68,6 +68,6 @@ pub record Begun (s : System) (links : List ℕ) : Type 0 where
   pub seek : Seek (whole (matrixOf s) law) everyColumn copies (s .size) (s .size) links
   pub stock : (k : ℕ) → k < length (s .copies) → copies (s .size + k) ≡ getD (s .copies) k 0
 
--- what Knuth's algorithm lists over a row system. proofs/KnuthPageLaws: over the system of an accepted tray it is document 01's list.
-unfoldable pub knuthAnswers : System → Identify → List (List ℕ)
+-- what Knuth's algorithm lists over a row system. proofs/KnuthPageLaws: over the system of an accepted tray its answers are document 01's list.
+unfoldable pub knuthAnswers : System → Identify → List Listed
 knuthAnswers s i = entries s i (search (knuthChoices (s .rows)) (s .size) (startBy s))

@@ -108,7 +108,7 @@ module _ {t : Matrix} (law : LawfulMatrix t) {active : ℕ → Bool} {m : List �
             (λ e. unlink-other m y (f .long) d u (atDown y) (λ q. up-ne law f r y ay ny (omega arith)) (omega arith)),
       )
 
-  pub hide1-size : sizeOf (hide1 t x m y) (t .col y) ≡ sizeOf m (t .col y) - 1
+  hide1-size : sizeOf (hide1 t x m y) (t .col y) ≡ sizeOf m (t .col y) - 1
   unfolding hide1 mid
   hide1-size = omega (arith, dec-same mid (t .col y) (omega (arith, mid-long, in-long)), mid-size (t .col y))
 

@@ -102,10 +102,10 @@ tally-cell u c n h l =
 pub tally-kind : (u : ℕ → Bool) (c n : ℕ) → n ≤ c → tally (without u c) n ≡ tally u n
 tally-kind u c n l = tally-same (without u c) u n (λ k h. without-other u c k (omega arith))
 
-module _ {w : Reduced} {uncovered : ℕ → Bool} {copies : ℕ → ℕ} {cells left : ℕ} {m : List ℕ} (s : Seek w uncovered copies cells left m) where
+module _ {w : Reduced} {uncovered : ℕ → Bool} {copies : ℕ → ℕ} {primary left : ℕ} {m : List ℕ} (s : Seek w uncovered copies primary left m) where
   -- ---- walking the ring of column c from node cur
 
-  module _ (c : ℕ) (column : c < cells) (op : Open w c) (cur : ℕ) (ac : w .active cur ≡ true) (qc : w .t .col cur ≡ c) where
+  module _ (c : ℕ) (column : c < primary) (op : Open w c) (cur : ℕ) (ac : w .active cur ≡ true) (qc : w .t .col cur ≡ c) where
     d : ℕ
     d = down m cur
 
@@ -121,7 +121,7 @@ module _ {w : Reduced} {uncovered : ℕ → Bool} {copies : ℕ → ℕ} {cells 
     unfolding d
     rises z = by-order (down m cur) cur (λ l. absurd (z (s .holds .rings .wrap cur ac l ∙ qc))) (λ l. l)
 
-    pub next-at : (k : ℕ) → k ≡ down m cur → At w cells c k
+    pub next-at : (k : ℕ) → k ≡ down m cur → At w primary c k
     next-at k e =
         record {
           column = column;
@@ -207,7 +207,7 @@ module _ {w : Reduced} {uncovered : ℕ → Bool} {copies : ℕ → ℕ} {cells 
         (λ h. u .stay k (both-left (w .alive k) (apart (w .t) k a n) h) (apart-on (w .t) k a n (both-right (w .alive k) (apart (w .t) k a n) h))))
 
     -- each cell of the row is one uncovered cell less
-    run-uncovered : (i : ℕ) → a + i ≤ w .t .hi x → tally (uncoveredRun (w .t) uncovered a i) cells + (a + i - (w .t .lo x + 1)) ≡ tally uncovered cells
+    run-uncovered : (i : ℕ) → a + i ≤ w .t .hi x → tally (uncoveredRun (w .t) uncovered a i) primary + (a + i - (w .t .lo x + 1)) ≡ tally uncovered primary
     unfolding uncoveredRun
     run-uncovered zero h = omega (arith, a-first)
     run-uncovered (suc i) h =
@@ -216,12 +216,12 @@ module _ {w : Reduced} {uncovered : ℕ → Bool} {copies : ℕ → ℕ} {cells 
         let rest = run-uncovered i (omega arith) in
         let ly = s .holds .whole x y lx (omega (arith, a-first)) (omega arith) in
         by-eq y (w .t .lo x)
-        (λ e. omega (arith, tally-kind (uncoveredRun (w .t) uncovered a i) c cells (subst (λ (k : ℕ). cells ≤ w .t .col k) (sym e) (s .shape .kind x (nx .0) (nx .1)))))
+        (λ e. omega (arith, tally-kind (uncoveredRun (w .t) uncovered a i) c primary (subst (λ (k : ℕ). primary ≤ w .t .col k) (sym e) (s .shape .kind x (nx .0) (nx .1)))))
         (λ e.
         let u : uncoveredRun (w .t) uncovered a i c ≡ true
         = in-uncoveredRun (w .t) uncovered a i c (s .meets y ly)
         (λ z p q g. absurd (omega (arith, one-in-row (w .law) x y z (nx .0) (nx .1) (omega (arith, a-first)) (omega arith) (omega (arith, a-first)) (omega arith) g))) in
-        omega (arith, a-first, tally-cell (uncoveredRun (w .t) uncovered a i) c cells u (s .shape .cell x y (nx .0) (nx .1) (omega (arith, a-first)) (omega arith))))
+        omega (arith, a-first, tally-cell (uncoveredRun (w .t) uncovered a i) c primary u (s .shape .cell x y (nx .0) (nx .1) (omega (arith, a-first)) (omega arith))))
 
     pub sel-cells : (w .t .hi x - w .t .lo x - 1 ≤ left) × (1 ≤ w .t .hi x - w .t .lo x - 1)
     sel-cells = omega (arith, run-uncovered n (omega (arith, a-first, x-size)), s .rest, x-size, a-first)
@@ -229,7 +229,7 @@ module _ {w : Reduced} {uncovered : ℕ → Bool} {copies : ℕ → ℕ} {cells 
     pub sel-uncovered : ℕ → Bool
     sel-uncovered = uncoveredRun (w .t) uncovered a n
 
-    pub sel-seek : Seek (reducedTo w a n) sel-uncovered (spend (w .t) copies x) cells (left - (w .t .hi x - w .t .lo x - 1)) (runTo w a (spent m kind) n)
+    pub sel-seek : Seek (reducedTo w a n) sel-uncovered (spend (w .t) copies x) primary (left - (w .t .hi x - w .t .lo x - 1)) (runTo w a (spent m kind) n)
     unfolding sel-uncovered spend
     sel-seek =
         let h = spent-holds w (s .holds) kind (omega (arith, kind-less, w .law .some, w .law .small)) in
@@ -275,7 +275,7 @@ module _ {w : Reduced} {uncovered : ℕ → Bool} {copies : ℕ → ℕ} {cells 
   pub seek-long : 32768 ≤ length m
   seek-long = s .holds .fields .long
 
-  pub seek-cells : cells ≤ 4096
+  pub seek-cells : primary ≤ 4096
   seek-cells = omega (arith, s .shape .few, w .law .some, w .law .small)
 
   -- ---- the row of k chosen, and given up again
@@ -406,7 +406,7 @@ module _ {w : Reduced} {uncovered : ℕ → Bool} {copies : ℕ → ℕ} {cells 
 
   -- ---- at a node k of the ring of column c that is not its head
 
-  module _ {c k : ℕ} (st : At w cells c k) (kc : k ≡ c → ⊥) where
+  module _ {c k : ℕ} (st : At w primary c k) (kc : k ≡ c → ⊥) where
     pub try-live : w .alive k ≡ true
     try-live = here-alive (w .t) (w .alive) c k (st .at kc)
 
@@ -434,7 +434,7 @@ module _ {w : Reduced} {uncovered : ℕ → Bool} {copies : ℕ → ℕ} {cells 
         }
 
     pub try-selectable : Selectable m k
-    try-selectable = record { w = w; uncovered = uncovered; copies = copies; cells = cells; left = left; seek = s; live = try-live }
+    try-selectable = record { w = w; uncovered = uncovered; copies = copies; primary = primary; left = left; seek = s; live = try-live }
 
     module _ (n : ℕ) (en : n ≡ endOf m k - firstOf m k - 1) where
       n-is : n ≡ w .t .hi k - w .t .lo k - 1
@@ -443,23 +443,23 @@ module _ {w : Reduced} {uncovered : ℕ → Bool} {copies : ℕ → ℕ} {cells 
       pub try-sub : (n ≤ left) × (left - n < left)
       try-sub = omega (arith, sel-cells k try-live, n-is)
 
-      module _ (m₁ : List ℕ) (g₁ : (w : Reduced) (uncovered : ℕ → Bool) (copies : ℕ → ℕ) (cells left : ℕ) → Seek w uncovered copies cells left m → w .alive k ≡ true → m₁ ≡ selected w copies k m) where
+      module _ (m₁ : List ℕ) (g₁ : (w : Reduced) (uncovered : ℕ → Bool) (copies : ℕ → ℕ) (primary left : ℕ) → Seek w uncovered copies primary left m → w .alive k ≡ true → m₁ ≡ selected w copies k m) where
         m₁-is : m₁ ≡ selected w copies k m
-        m₁-is = g₁ w uncovered copies cells left s try-live
+        m₁-is = g₁ w uncovered copies primary left s try-live
 
-        pub try-seek : Seek (reducedTo w (firstCovered (w .t) copies k) (w .t .hi k - firstCovered (w .t) copies k)) (sel-uncovered k try-live) (spend (w .t) copies k) cells (left - n) m₁
+        pub try-seek : Seek (reducedTo w (firstCovered (w .t) copies k) (w .t .hi k - firstCovered (w .t) copies k)) (sel-uncovered k try-live) (spend (w .t) copies k) primary (left - n) m₁
         unfolding selected
         try-seek = rw (m₁-is, n-is) (sel-seek k try-live)
 
         -- what the matrix of `try-seek` lists
         pub try-packings : (g : ℕ)
-            → exactCovers (w .t) cells g (aliveRun (w .t) (w .alive) (firstCovered (w .t) copies k) (w .t .hi k - firstCovered (w .t) copies k)) (spend (w .t) copies k) (left - n)
-            ≡ exactCovers (w .t) cells g (select (w .t) (w .alive) copies k) (spend (w .t) copies k) (left - (w .t .hi k - w .t .lo k - 1))
+            → exactCovers (w .t) primary g (aliveRun (w .t) (w .alive) (firstCovered (w .t) copies k) (w .t .hi k - firstCovered (w .t) copies k)) (spend (w .t) copies k) (left - n)
+            ≡ exactCovers (w .t) primary g (select (w .t) (w .alive) copies k) (spend (w .t) copies k) (left - (w .t .hi k - w .t .lo k - 1))
         try-packings g =
-            ap (λ (l : ℕ → Bool). exactCovers (w .t) cells g l (spend (w .t) copies k) (left - n)) (sel-alive k try-live)
-            ∙ ap (λ (i : ℕ). exactCovers (w .t) cells g (select (w .t) (w .alive) copies k) (spend (w .t) copies k) (left - i)) n-is
+            ap (λ (l : ℕ → Bool). exactCovers (w .t) primary g l (spend (w .t) copies k) (left - n)) (sel-alive k try-live)
+            ∙ ap (λ (i : ℕ). exactCovers (w .t) primary g (select (w .t) (w .alive) copies k) (spend (w .t) copies k) (left - i)) n-is
 
-        module _ (a : ℕ) (ga : (w : Reduced) (uncovered : ℕ → Bool) (copies : ℕ → ℕ) (cells left : ℕ) → Seek w uncovered copies cells left m → w .alive k ≡ true
+        module _ (a : ℕ) (ga : (w : Reduced) (uncovered : ℕ → Bool) (copies : ℕ → ℕ) (primary left : ℕ) → Seek w uncovered copies primary left m → w .alive k ≡ true
             → a ≡ firstCovered (w .t) copies k) (m₂ : List ℕ) (e₂ : m₂ ≡ m₁) where
           pub try-selected : Selected m₂ k a
           try-selected =
@@ -467,20 +467,20 @@ module _ {w : Reduced} {uncovered : ℕ → Bool} {copies : ℕ → ℕ} {cells 
                 w = w;
                 uncovered = uncovered;
                 copies = copies;
-                cells = cells;
+                primary = primary;
                 left = left;
                 old = m;
                 seek = s;
                 live = try-live;
-                first = ga w uncovered copies cells left s try-live;
+                first = ga w uncovered copies primary left s try-live;
                 so = e₂ ∙ m₁-is;
               }
 
           pub try-back : (m₃ : List ℕ)
-              → ((w : Reduced) (uncovered : ℕ → Bool) (copies : ℕ → ℕ) (cells left : ℕ) (m : List ℕ) → Seek w uncovered copies cells left m → w .alive k ≡ true
+              → ((w : Reduced) (uncovered : ℕ → Bool) (copies : ℕ → ℕ) (primary left : ℕ) (m : List ℕ) → Seek w uncovered copies primary left m → w .alive k ≡ true
               → a ≡ firstCovered (w .t) copies k → m₂ ≡ selected w copies k m → m₃ ≡ m)
               → m₃ ≡ m
-          try-back m₃ g₃ = g₃ w uncovered copies cells left m s try-live (ga w uncovered copies cells left s try-live) (e₂ ∙ m₁-is)
+          try-back m₃ g₃ = g₃ w uncovered copies primary left m s try-live (ga w uncovered copies primary left s try-live) (e₂ ∙ m₁-is)
 
     rows-hit : (f : (ℕ → Bool) → (ℕ → ℕ) → ℕ → List (List ℕ))
         → rowsFrom (w .t) f (w .alive) copies left c k
@@ -495,7 +495,7 @@ module _ {w : Reduced} {uncovered : ℕ → Bool} {copies : ℕ → ℕ} {cells 
       e-is : k′ ≡ down m k
       e-is = e ∙ ap (λ (l : List ℕ). down l k) back
 
-      pub try-at : At w cells c k′
+      pub try-at : At w primary c k′
       try-at = next-at c (st .column) (st .isOpen) k k-active k-col k′ e-is
 
       pub try-less : cond (eqb k′ c) 0 (4096 - k′) < cond (eqb k c) 0 (4096 - k)
@@ -517,30 +517,30 @@ module _ {w : Reduced} {uncovered : ℕ → Bool} {copies : ℕ → ℕ} {cells 
 
   -- ---- the column to try, and its rows
 
-  pub choose-zero : (g : ℕ) → left < g → left ≡ 0 → exactCovers (w .t) cells g (w .alive) copies left ≡ [] ∷ []
+  pub choose-zero : (g : ℕ) → left < g → left ≡ 0 → exactCovers (w .t) primary g (w .alive) copies left ≡ [] ∷ []
   unfolding exactCovers
   choose-zero zero h e = absurd (omega arith)
-  choose-zero (suc g) h e = cond-same left 0 ([] ∷ []) (cond (eqb (pivot (λ j. tally (here (w .t) (w .alive) j) (w .t .nodes)) cells) 4096) []
-      (rowsFrom (w .t) (exactCovers (w .t) cells g) (w .alive) copies left (pivot (λ j. tally (here (w .t) (w .alive) j) (w .t .nodes)) cells) 0)) e
+  choose-zero (suc g) h e = cond-same left 0 ([] ∷ []) (cond (eqb (pivot (λ j. tally (here (w .t) (w .alive) j) (w .t .nodes)) primary) 4096) []
+      (rowsFrom (w .t) (exactCovers (w .t) primary g) (w .alive) copies left (pivot (λ j. tally (here (w .t) (w .alive) j) (w .t .nodes)) primary) 0)) e
 
-  module _ (nz : left ≡ 0 → ⊥) (c : ℕ) (ec : c ≡ pivot (sizeOf m) cells) where
-    c-is : pivot (λ j. tally (here (w .t) (w .alive) j) (w .t .nodes)) cells ≡ c
-    c-is = sym (ec ∙ pivot-same (sizeOf m) (λ j. tally (here (w .t) (w .alive) j) (w .t .nodes)) cells (λ j l. s .holds .count j (omega (arith, s .shape .few))))
+  module _ (nz : left ≡ 0 → ⊥) (c : ℕ) (ec : c ≡ pivot (sizeOf m) primary) where
+    c-is : pivot (λ j. tally (here (w .t) (w .alive) j) (w .t .nodes)) primary ≡ c
+    c-is = sym (ec ∙ pivot-same (sizeOf m) (λ j. tally (here (w .t) (w .alive) j) (w .t .nodes)) primary (λ j l. s .holds .count j (omega (arith, s .shape .few))))
 
-    packings-one : (g : ℕ) → exactCovers (w .t) cells (suc g) (w .alive) copies left ≡ cond (eqb c 4096) [] (rowsFrom (w .t) (exactCovers (w .t) cells g) (w .alive) copies left c 0)
+    packings-one : (g : ℕ) → exactCovers (w .t) primary (suc g) (w .alive) copies left ≡ cond (eqb c 4096) [] (rowsFrom (w .t) (exactCovers (w .t) primary g) (w .alive) copies left c 0)
     unfolding exactCovers
     packings-one g =
-        cond-other left 0 ([] ∷ []) (cond (eqb (pivot (λ j. tally (here (w .t) (w .alive) j) (w .t .nodes)) cells) 4096) []
-        (rowsFrom (w .t) (exactCovers (w .t) cells g) (w .alive) copies left (pivot (λ j. tally (here (w .t) (w .alive) j) (w .t .nodes)) cells) 0)) nz
-        ∙ ap (λ (i : ℕ). cond (eqb i 4096) [] (rowsFrom (w .t) (exactCovers (w .t) cells g) (w .alive) copies left i 0)) c-is
+        cond-other left 0 ([] ∷ []) (cond (eqb (pivot (λ j. tally (here (w .t) (w .alive) j) (w .t .nodes)) primary) 4096) []
+        (rowsFrom (w .t) (exactCovers (w .t) primary g) (w .alive) copies left (pivot (λ j. tally (here (w .t) (w .alive) j) (w .t .nodes)) primary) 0)) nz
+        ∙ ap (λ (i : ℕ). cond (eqb i 4096) [] (rowsFrom (w .t) (exactCovers (w .t) primary g) (w .alive) copies left i 0)) c-is
 
-    pub choose-none : c ≡ 4096 → (g : ℕ) → left < g → exactCovers (w .t) cells g (w .alive) copies left ≡ []
+    pub choose-none : c ≡ 4096 → (g : ℕ) → left < g → exactCovers (w .t) primary g (w .alive) copies left ≡ []
     choose-none e zero h = absurd (omega arith)
-    choose-none e (suc g) h = packings-one g ∙ cond-same c 4096 [] (rowsFrom (w .t) (exactCovers (w .t) cells g) (w .alive) copies left c 0) e
+    choose-none e (suc g) h = packings-one g ∙ cond-same c 4096 [] (rowsFrom (w .t) (exactCovers (w .t) primary g) (w .alive) copies left c 0) e
 
     module _ (cf : c ≡ 4096 → ⊥) where
-      pub c-size : c < cells
-      c-size = let i = pivot-some (sizeOf m) cells (λ e. cf (ec ∙ e)) in omega arith
+      pub c-size : c < primary
+      c-size = let i = pivot-some (sizeOf m) primary (λ e. cf (ec ∙ e)) in omega arith
 
       c-column : c < w .t .cols
       c-column = omega (arith, c-size, s .shape .few)
@@ -548,7 +548,7 @@ module _ {w : Reduced} {uncovered : ℕ → Bool} {copies : ℕ → ℕ} {cells 
       c-some : 1 ≤ tally (here (w .t) (w .alive) c) (w .t .nodes)
       c-some =
           subst (λ (n : ℕ). 1 ≤ n) (s .holds .count c c-column)
-          (subst (λ (i : ℕ). 1 ≤ sizeOf m i) (sym ec) (pivot-some (sizeOf m) cells (λ e. cf (ec ∙ e)) .1))
+          (subst (λ (i : ℕ). 1 ≤ sizeOf m i) (sym ec) (pivot-some (sizeOf m) primary (λ e. cf (ec ∙ e)) .1))
 
       c-open : Open w c
       c-open =
@@ -565,7 +565,7 @@ module _ {w : Reduced} {uncovered : ℕ → Bool} {copies : ℕ → ℕ} {cells 
           (λ y l h q. omega (arith, s .holds .node y (here-alive (w .t) (w .alive) c y q), c-column))
 
       module _ (k : ℕ) (e : k ≡ down m c) where
-        pub choose-at : At w cells c k
+        pub choose-at : At w primary c k
         choose-at = next-at c c-size c-open c (s .holds .rings .heads c c-column) (w .law .head c c-column) k e
 
         all-rows : (f : (ℕ → Bool) → (ℕ → ℕ) → ℕ → List (List ℕ))
@@ -573,8 +573,8 @@ module _ {w : Reduced} {uncovered : ℕ → Bool} {copies : ℕ → ℕ} {cells 
         all-rows f = rows-below f ∙ next-rows c c-size c-open c (s .holds .rings .heads c c-column) (w .law .head c c-column) f (omega arith) k e
 
         pub choose-rows : (g : ℕ) → left < suc g
-            → exactCovers (w .t) cells (suc g) (w .alive) copies left ≡ cond (eqb k c) [] (rowsFrom (w .t) (exactCovers (w .t) cells g) (w .alive) copies left c k)
-        choose-rows g h = packings-one g ∙ cond-other c 4096 [] (rowsFrom (w .t) (exactCovers (w .t) cells g) (w .alive) copies left c 0) cf ∙ all-rows (exactCovers (w .t) cells g)
+            → exactCovers (w .t) primary (suc g) (w .alive) copies left ≡ cond (eqb k c) [] (rowsFrom (w .t) (exactCovers (w .t) primary g) (w .alive) copies left c k)
+        choose-rows g h = packings-one g ∙ cond-other c 4096 [] (rowsFrom (w .t) (exactCovers (w .t) primary g) (w .alive) copies left c 0) cf ∙ all-rows (exactCovers (w .t) primary g)
 
 -- back at the head nothing is left
 pub try-head : {k c : ℕ} → k ≡ c → (l : List (List ℕ)) → cond (eqb k c) [] l ≡ []
@@ -594,32 +594,32 @@ list-empty f p h (suc n) i =
     (λ e. ap (λ (l : List (List ℕ)). l ++ listFrom f p n (suc i)) (cond-false (p i) (f i) [] e) ∙ list-empty f p h n (suc i))
 
 -- whatever is chosen, it stays uncovered
-dead-none : (g : ℕ) {w : Reduced} {uncovered : ℕ → Bool} {copies : ℕ → ℕ} {cells left : ℕ} {m : List ℕ} → Seek w uncovered copies cells left m
-    → (j : ℕ) → j < cells → uncovered j ≡ true → ((x : ℕ) → w .alive x ≡ true → w .t .col x ≡ j → ⊥) → exactCovers (w .t) cells g (w .alive) copies left ≡ []
+dead-none : (g : ℕ) {w : Reduced} {uncovered : ℕ → Bool} {copies : ℕ → ℕ} {primary left : ℕ} {m : List ℕ} → Seek w uncovered copies primary left m
+    → (j : ℕ) → j < primary → uncovered j ≡ true → ((x : ℕ) → w .alive x ≡ true → w .t .col x ≡ j → ⊥) → exactCovers (w .t) primary g (w .alive) copies left ≡ []
 unfolding exactCovers rowsFrom sel-uncovered
 dead-none zero s j jl u none = refl
-dead-none (suc g) {w} {uncovered} {copies} {cells} {left} {m} s j jl u none =
+dead-none (suc g) {w} {uncovered} {copies} {primary} {left} {m} s j jl u none =
     let t = w .t in
-    let c = pivot (λ i. tally (here t (w .alive) i) (t .nodes)) cells in
-    let rows = rowsFrom t (exactCovers t cells g) (w .alive) copies left c 0 in
-    let below : (k : ℕ) → w .alive k ≡ true → exactCovers t cells g (select t (w .alive) copies k) (spend t copies k) (left - (t .hi k - t .lo k - 1)) ≡ []
+    let c = pivot (λ i. tally (here t (w .alive) i) (t .nodes)) primary in
+    let rows = rowsFrom t (exactCovers t primary g) (w .alive) copies left c 0 in
+    let below : (k : ℕ) → w .alive k ≡ true → exactCovers t primary g (select t (w .alive) copies k) (spend t copies k) (left - (t .hi k - t .lo k - 1)) ≡ []
     = λ k lk.
     let a = firstCovered t copies k in
-    ap (λ (l : ℕ → Bool). exactCovers t cells g l (spend t copies k) (left - (t .hi k - t .lo k - 1))) (sym (sel-alive s k lk))
+    ap (λ (l : ℕ → Bool). exactCovers t primary g l (spend t copies k) (left - (t .hi k - t .lo k - 1))) (sym (sel-alive s k lk))
     ∙ dead-none g (sel-seek s k lk) j jl
     (in-uncoveredRun t uncovered a (t .hi k - a) j u
     (λ y p q e. none y (s .holds .whole k y lk (omega (arith, a-first s k lk)) (omega (arith, a-first s k lk, x-size s k lk))) (sym e)))
     (λ x h e. none x (full s k lk m (s .holds) .was x h) e) in
-    cond-other left 0 ([] ∷ []) (cond (eqb c 4096) [] rows) (λ e. omega (arith, s .rest, tally-some uncovered j cells jl u))
+    cond-other left 0 ([] ∷ []) (cond (eqb c 4096) [] rows) (λ e. omega (arith, s .rest, tally-some uncovered j primary jl u))
     ∙ at-cond (λ (l : List (List ℕ)). l ≡ []) c 4096 [] rows (λ e. refl)
-    (λ e. list-empty (λ k. map (λ ks. k ∷ ks) (exactCovers t cells g (select t (w .alive) copies k) (spend t copies k) (left - (t .hi k - t .lo k - 1))))
+    (λ e. list-empty (λ k. map (λ ks. k ∷ ks) (exactCovers t primary g (select t (w .alive) copies k) (spend t copies k) (left - (t .hi k - t .lo k - 1))))
     (here t (w .alive) c) (λ k p. ap (map (λ ks. k ∷ ks)) (below k (here-alive t (w .alive) c k p))) (t .nodes - 0) 0)
 
 -- fewer columns have a row than cells are uncovered: one of these has none, and nothing is found
-pub few-open : {w : Reduced} {uncovered : ℕ → Bool} {copies : ℕ → ℕ} {cells left : ℕ} {m : List ℕ} → Seek w uncovered copies cells left m → tally (hasRow m) cells < left → (g : ℕ)
-    → exactCovers (w .t) cells g (w .alive) copies left ≡ []
-few-open {w} {uncovered} {copies} {cells} {left} {m} s few g =
-    by-find (λ j. cond (uncovered j) (eqb (sizeOf m j) 0) false) 0 cells
+pub few-open : {w : Reduced} {uncovered : ℕ → Bool} {copies : ℕ → ℕ} {primary left : ℕ} {m : List ℕ} → Seek w uncovered copies primary left m → tally (hasRow m) primary < left → (g : ℕ)
+    → exactCovers (w .t) primary g (w .alive) copies left ≡ []
+few-open {w} {uncovered} {copies} {primary} {left} {m} s few g =
+    by-find (λ j. cond (uncovered j) (eqb (sizeOf m j) 0) false) 0 primary
     (λ j l h e.
     dead-none g s j (omega arith) (both-left (uncovered j) (eqb (sizeOf m j) 0) e)
     (λ x lx q.
@@ -633,7 +633,7 @@ few-open {w} {uncovered} {copies} {cells} {left} {m} s few g =
       arith,
       few,
       s .rest,
-      tally-more uncovered (hasRow m) cells (λ j l u. lt-ltb 0 (sizeOf m j)
+      tally-more uncovered (hasRow m) primary (λ j l u. lt-ltb 0 (sizeOf m j)
           (by-eq (sizeOf m j) 0
           (λ z. absurd (none j (omega arith) (omega arith) (both (uncovered j) (eqb (sizeOf m j) 0) u (eq-eqb (sizeOf m j) 0 z))))
           (λ z. omega arith))),

@@ -1,9 +1,9 @@
 -- Linking a matrix's nodes: the heads, each alone in its ring, then each node of a row as the last of its column.
-use Prim.Native.Nat.{ℕ, _+_, _≤_, _<_}
+use Prim.Native.Nat.{ℕ, _≤_, _<_}
 use mathlib.Core.Path.{_≡_}
 use mathlib.Core.List.{List}
 use mathlib.Core.Bool.{Bool, true, false, cond}
-use lib.ListN.{length, getD, set}
+use lib.ListN.{length, set}
 use lib.Dec.{ltb, leb}
 use Rattle.links.specs.Links.{up, down, columnOf, sizeOf, copiesOf, atUp, atDown, atSize, Matrix, LawfulMatrix, Fields, Rings}
 use Rattle.links.specs.Cover.{tally, inc, here, Reduced}
@@ -55,9 +55,9 @@ pub record Stocked (t : Matrix) (m : List ℕ) : Type 0 where
   pub few : (j : ℕ) → j < t .cols → copiesOf m j < 4096
   pub some : (x : ℕ) → t .cols ≤ x → x < t .nodes → 1 ≤ copiesOf m (t .col (t .lo x))
 
-pub record Posed (m : List ℕ) (cells cols nodes : ℕ) : Type 0 where
+pub record Posed (m : List ℕ) (primary cols nodes : ℕ) : Type 0 where
   pub stored : Stored m cols nodes
-  pub shape : Shape (stored .t) cells
+  pub shape : Shape (stored .t) primary
   pub stocked : Stocked (stored .t) m
 
 -- the nodes below n are linked

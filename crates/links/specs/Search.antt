@@ -1,10 +1,10 @@
--- Choosing rows: the columns below `cells` are cells, to be covered once each; the others are kinds, of which some copies are left.
+-- Choosing rows: the columns below `primary` are cells, to be covered once each; the others are kinds, of which some copies are left.
 -- The cell to try next is the first of those with the fewest rows still possible, but at least one.
 use Prim.Native.Nat.{ℕ, zero, suc, _+_, _-_, _≤_, _<_}
 use mathlib.Core.Path.{_≡_}
 use mathlib.Core.List.{List}
 use mathlib.Core.Bool.{Bool, true, false, cond}
-use lib.ListN.{length, getD, set}
+use lib.ListN.{length, set}
 use lib.Dec.{eqb, ltb}
 use Rattle.links.specs.Links.{columnOf, firstOf, endOf, sizeOf, copiesOf, atCopies, Matrix}
 use Rattle.links.specs.Cover.{tally, here, Reduced, Holds, Open, runTo}
@@ -49,41 +49,41 @@ abbrev pub hasRow : List ℕ → ℕ → Bool
 hasRow m j = ltb 0 (sizeOf m j)
 
 -- a row's first node is its kind's, the others are its cells'
-pub record Shape (t : Matrix) (cells : ℕ) : Type 0 where
-  pub few : cells ≤ t .cols
-  pub kind : (x : ℕ) → t .cols ≤ x → x < t .nodes → cells ≤ t .col (t .lo x)
-  pub cell : (x y : ℕ) → t .cols ≤ x → x < t .nodes → t .lo x < y → y < t .hi x → t .col y < cells
+pub record Shape (t : Matrix) (primary : ℕ) : Type 0 where
+  pub few : primary ≤ t .cols
+  pub kind : (x : ℕ) → t .cols ≤ x → x < t .nodes → primary ≤ t .col (t .lo x)
+  pub cell : (x y : ℕ) → t .cols ≤ x → x < t .nodes → t .lo x < y → y < t .hi x → t .col y < primary
   pub size : (x : ℕ) → t .cols ≤ x → x < t .nodes → t .lo x + 2 ≤ t .hi x
 
 -- the memory m holds the reduced matrix w, in which `left` cells are uncovered
-pub record Seek (w : Reduced) (uncovered : ℕ → Bool) (copies : ℕ → ℕ) (cells left : ℕ) (m : List ℕ) : Type 0 where
+pub record Seek (w : Reduced) (uncovered : ℕ → Bool) (copies : ℕ → ℕ) (primary left : ℕ) (m : List ℕ) : Type 0 where
   pub holds : Holds w m
-  pub shape : Shape (w .t) cells
+  pub shape : Shape (w .t) primary
   pub clean : (x : ℕ) → w .alive x ≡ true → Open w (w .t .col x)
   pub meets : (x : ℕ) → w .alive x ≡ true → uncovered (w .t .col x) ≡ true
-  pub rest : left ≡ tally uncovered cells
+  pub rest : left ≡ tally uncovered primary
   pub held : (j : ℕ) → j < w .t .cols → copiesOf m j ≡ copies j
   pub few : (j : ℕ) → j < w .t .cols → copies j < 4096
   pub stock : (x : ℕ) → w .alive x ≡ true → 1 ≤ copies (w .t .col (w .t .lo x))
 
 -- node k of the ring of column c, or its head
-pub record At (w : Reduced) (cells c k : ℕ) : Type 0 where
-  pub column : c < cells
+pub record At (w : Reduced) (primary c k : ℕ) : Type 0 where
+  pub column : c < primary
   pub isOpen : Open w c
   pub at : (k ≡ c → ⊥) → here (w .t) (w .alive) c k ≡ true
 
-pub record Seekable (m : List ℕ) (cells left : ℕ) : Type 0 where
+pub record Seekable (m : List ℕ) (primary left : ℕ) : Type 0 where
   pub w : Reduced
   pub uncovered : ℕ → Bool
   pub copies : ℕ → ℕ
-  pub seek : Seek w uncovered copies cells left m
+  pub seek : Seek w uncovered copies primary left m
 
-pub record Triable (m : List ℕ) (cells left c k : ℕ) : Type 0 where
+pub record Triable (m : List ℕ) (primary left c k : ℕ) : Type 0 where
   pub w : Reduced
   pub uncovered : ℕ → Bool
   pub copies : ℕ → ℕ
-  pub seek : Seek w uncovered copies cells left m
-  pub stand : At w cells c k
+  pub seek : Seek w uncovered copies primary left m
+  pub stand : At w primary c k
 
 -- one copy less, and one more
 unfoldable pub spent : List ℕ → ℕ → List ℕ
@@ -117,19 +117,19 @@ pub record Selectable (m : List ℕ) (k : ℕ) : Type 0 where
   pub w : Reduced
   pub uncovered : ℕ → Bool
   pub copies : ℕ → ℕ
-  pub cells : ℕ
+  pub primary : ℕ
   pub left : ℕ
-  pub seek : Seek w uncovered copies cells left m
+  pub seek : Seek w uncovered copies primary left m
   pub live : w .alive k ≡ true
 
 pub record Selected (m : List ℕ) (k a : ℕ) : Type 0 where
   pub w : Reduced
   pub uncovered : ℕ → Bool
   pub copies : ℕ → ℕ
-  pub cells : ℕ
+  pub primary : ℕ
   pub left : ℕ
   pub old : List ℕ
-  pub seek : Seek w uncovered copies cells left old
+  pub seek : Seek w uncovered copies primary left old
   pub live : w .alive k ≡ true
   pub first : a ≡ firstCovered (w .t) copies k
   pub so : m ≡ selected w copies k old

@@ -201,17 +201,17 @@ fn is_better(n: usize, least: usize) -> bool
     if 0 < n { n < least } else { false }
 }
 
-// The first of the columns below `cells` with the fewest possible rows but at least one; 4096 where
+// The first of the columns below `primary` with the fewest possible rows but at least one; 4096 where
 // there is none.
-pub fn choose_column(links: &[u16], cells: usize) -> usize
+pub fn choose_column(links: &[u16], primary: usize) -> usize
     requires { ⌜ 32768 ≤ length (now links) ⌝ }
-    requires { ⌜ cells ≤ 4096 ⌝ }
-    ensures { λ r. ⌜ r ≡ pivot (sizeOf (now (links .entry))) cells ⌝ }
+    requires { ⌜ primary ≤ 4096 ⌝ }
+    ensures { λ r. ⌜ r ≡ pivot (sizeOf (now (links .entry))) primary ⌝ }
 {
     let mut at = 4096;
     let mut fewest = 65536;
     let mut i = 0;
-    while i < cells {
+    while i < primary {
         let n = wide(links[8 * i + SIZE]);
         if is_better(n, fewest) {
             fewest = n;
@@ -222,15 +222,15 @@ pub fn choose_column(links: &[u16], cells: usize) -> usize
     at
 }
 
-// How many of the columns below `cells` have a possible row.
-pub fn open_columns(links: &[u16], cells: usize) -> usize
+// How many of the columns below `primary` have a possible row.
+pub fn open_columns(links: &[u16], primary: usize) -> usize
     requires { ⌜ 32768 ≤ length (now links) ⌝ }
-    requires { ⌜ cells ≤ 4096 ⌝ }
-    ensures { λ r. ⌜ r ≡ tally (hasRow (now (links .entry))) cells ⌝ }
+    requires { ⌜ primary ≤ 4096 ⌝ }
+    ensures { λ r. ⌜ r ≡ tally (hasRow (now (links .entry))) primary ⌝ }
 {
     let mut count = 0;
     let mut i = 0;
-    while i < cells {
+    while i < primary {
         // `count` of the columns below i have a row
         let n = wide(links[8 * i + SIZE]);
         if 0 < n {
@@ -294,11 +294,11 @@ pub fn row_of(links: &[u16], k: usize) -> usize
 // covered, that of its kind where this was the last copy. The result is the first node covered.
 pub fn select_row(links: &mut [u16], k: usize) -> usize
     requires { ⌜ Selectable (now links) k ⌝ }
-    ensures done { λ _. ⌜ ((w : Reduced) (uncovered : ℕ → Bool) (copies : ℕ → ℕ) (cells left : ℕ)
-        → Seek w uncovered copies cells left (now (links .entry)) → w .alive k ≡ true
+    ensures done { λ _. ⌜ ((w : Reduced) (uncovered : ℕ → Bool) (copies : ℕ → ℕ) (primary left : ℕ)
+        → Seek w uncovered copies primary left (now (links .entry)) → w .alive k ≡ true
         → now (links .exit) ≡ selected w copies k (now (links .entry))) ⌝ }
-    ensures first { λ r. ⌜ ((w : Reduced) (uncovered : ℕ → Bool) (copies : ℕ → ℕ) (cells left : ℕ)
-        → Seek w uncovered copies cells left (now (links .entry)) → w .alive k ≡ true
+    ensures first { λ r. ⌜ ((w : Reduced) (uncovered : ℕ → Bool) (copies : ℕ → ℕ) (primary left : ℕ)
+        → Seek w uncovered copies primary left (now (links .entry)) → w .alive k ≡ true
         → r ≡ firstCovered (w .t) copies k) ⌝ }
 {
     let first = wide(links[8 * k + FIRST]);
@@ -311,8 +311,8 @@ pub fn select_row(links: &mut [u16], k: usize) -> usize
 // Undoes `select_row`, which gave a: the links are what they were before it.
 pub fn unselect_row(links: &mut [u16], k: usize, a: usize)
     requires { ⌜ Selected (now links) k a ⌝ }
-    ensures { λ _. ⌜ ((w : Reduced) (uncovered : ℕ → Bool) (copies : ℕ → ℕ) (cells left : ℕ) (m : List ℕ)
-        → Seek w uncovered copies cells left m → w .alive k ≡ true
+    ensures { λ _. ⌜ ((w : Reduced) (uncovered : ℕ → Bool) (copies : ℕ → ℕ) (primary left : ℕ) (m : List ℕ)
+        → Seek w uncovered copies primary left m → w .alive k ≡ true
         → a ≡ firstCovered (w .t) copies k → now (links .entry) ≡ selected w copies k m → now (links .exit) ≡ m) ⌝ }
 {
     let first = wide(links[8 * k + FIRST]);
@@ -385,11 +385,11 @@ fn link_nodes(links: &mut [u16], cols: usize, nodes: usize)
 }
 
 // The rings of a matrix whose columns, rows and copies stand in links: every row is possible.
-pub fn link_all(links: &mut [u16], cells: usize, cols: usize, nodes: usize)
-    requires { ⌜ Posed (now links) cells cols nodes ⌝ }
-    ensures linked { λ _. ⌜ ((t : Matrix) (law : LawfulMatrix t) → Fields t (now (links .entry)) → Shape t cells → Stocked t (now (links .entry))
+pub fn link_all(links: &mut [u16], primary: usize, cols: usize, nodes: usize)
+    requires { ⌜ Posed (now links) primary cols nodes ⌝ }
+    ensures linked { λ _. ⌜ ((t : Matrix) (law : LawfulMatrix t) → Fields t (now (links .entry)) → Shape t primary → Stocked t (now (links .entry))
         → cols ≡ t .cols → nodes ≡ t .nodes
-        → Seek (whole t law) everyColumn (copiesOf (now (links .entry))) cells cells (now (links .exit))) ⌝ }
+        → Seek (whole t law) everyColumn (copiesOf (now (links .entry))) primary primary (now (links .exit))) ⌝ }
     ensures behind { λ _. ⌜ ((i : ℕ) → Still i → getD (now (links .exit)) i 0 ≡ getD (now (links .entry)) i 0) ⌝ }
 {
     link_heads(links, cols);

@@ -6,13 +6,14 @@ use mathlib.Core.Path.{_≡_, refl, sym, ap, ap₂, _∙_, subst}
 use mathlib.Core.Logic.{_⊎_, inl, inr}
 use native.Mathlib.Nat.{add-mul, zero-mul, one-mul}
 use native.Mathlib.Omega.{arith}
-use lib.Dec.{T, ltb, eqb, eqb→eq}
+use borrow.Author.Tests.{lt-ltb, le-ltb}
+use lib.Dec.{T, ltb, leb, eqb, eqb→eq, leb→le, le→leb}
 use lib.ListN.{length, getD, drop, length-append, drop-of-length-le}
 use lib.Seq.{drop-cons}
 use native.Mathlib.Numerals.{add-one}
-use Rattle.lists.specs.Lists.{howMany, keep, consIf, below, from, member, ascending, sum, numberedFrom, Apart}
-use Rattle.lists.proofs.TestLaws.{decide, clash, eqb-of, is-true, is-false, not-T}
-use Rattle.lists.proofs.ListLaws.{keep-at, keep-keep, keep-append, howMany-pos, apart-keep, apart-length}
+use Rattle.lists.specs.Lists.{howMany, keep, consIf, below, from, member, all, ascending, sum, numberedFrom, Apart}
+use Rattle.lists.proofs.TestLaws.{decide, clash, eqb-of, is-true, is-false, not-T, and-left, and-right, and-both}
+use Rattle.lists.proofs.ListLaws.{keep-at, keep-keep, keep-append, howMany-pos, apart-keep, apart-length, all-at, all-of, all-getD}
 use Rattle.lists.proofs.RangeLaws.{members-below, below-split}
 
 -- the sum of f over a list
@@ -188,3 +189,36 @@ module _ (p : ℕ → Bool) (xs : List ℕ) (i : ℕ) where
 
   pub count-end : length xs ≤ i → howMany p (drop i xs) ≡ 0
   count-end h = ap (howMany p) (drop-of-length-le xs h)
+
+-- ---- how many entries of an ascending list are below a number
+one-most : (b : Bool) → cond b 1 0 ≤ 1
+one-most true = omega arith
+one-most false = omega arith
+
+none-under : (v : ℕ) (xs : List ℕ) → T (all (leb v) xs) → howMany (λ z. ltb z v) xs ≡ 0
+none-under v [] t = refl
+none-under v (x ∷ xs) t =
+    let e : _≡_ {A = ℕ} (cond (ltb x v) 1 0) 0 = ap {B = ℕ} (λ (b : Bool). cond b 1 0) (le-ltb x v (leb→le v x (and-left (leb v x) (all (leb v) xs) t))) in
+    let i = none-under v xs (and-right (leb v x) (all (leb v) xs) t) in
+    omega arith
+
+-- entry i of an ascending list is below v where more than i entries are, and nowhere else
+pub nth-under : (xs : List ℕ) → T (ascending leb xs) → (v i : ℕ) → i < length xs → getD xs i 0 < v → i < howMany (λ z. ltb z v) xs
+nth-under [] t v i h k = absurd (omega arith)
+nth-under (x ∷ xs) t v zero h k = let e : _≡_ {A = ℕ} (cond (ltb x v) 1 0) 1 = ap {B = ℕ} (λ (b : Bool). cond b 1 0) (lt-ltb x v k) in omega arith
+nth-under (x ∷ xs) t v (suc i) h k =
+    let l = leb→le x (getD xs i 0) (all-getD (leb x) 0 xs (and-left (all (leb x) xs) (ascending leb xs) t) i (omega arith)) in
+    let e : _≡_ {A = ℕ} (cond (ltb x v) 1 0) 1 = ap {B = ℕ} (λ (b : Bool). cond b 1 0) (lt-ltb x v (omega arith)) in
+    let r = nth-under xs (and-right (all (leb x) xs) (ascending leb xs) t) v i (omega arith) k in
+    omega arith
+
+pub nth-over : (xs : List ℕ) → T (ascending leb xs) → (v i : ℕ) → i < length xs → v ≤ getD xs i 0 → howMany (λ z. ltb z v) xs ≤ i
+nth-over [] t v i h k = absurd (omega arith)
+nth-over (x ∷ xs) t v zero h k =
+    let later = all-of (leb v) xs (λ z m. le→leb v z (let a = leb→le x z (all-at (leb x) xs (and-left (all (leb x) xs) (ascending leb xs) t) m) in omega arith)) in
+    let e = none-under v (x ∷ xs) (and-both (leb v x) (all (leb v) xs) (le→leb v x k) later) in
+    omega arith
+nth-over (x ∷ xs) t v (suc i) h k =
+    let b = one-most (ltb x v) in
+    let r = nth-over xs (and-right (all (leb x) xs) (ascending leb xs) t) v i (omega arith) k in
+    omega arith

@@ -6,3 +6,4 @@ pub mod RangeLaws
 pub mod CountLaws
 pub mod NthLaws
 pub mod NameLaws
+pub mod PartLaws

@@ -220,6 +220,11 @@ module _ {A B : Type 0} (f : A → B) where
       go true e = ap (λ (l : List B). f x ∷ l) e
       go false e = e
 
+  pub drop-map : (k : ℕ) (xs : List A) → drop k (map f xs) ≡ map f (drop k xs)
+  drop-map zero xs = refl
+  drop-map (suc k) [] = refl
+  drop-map (suc k) (x ∷ xs) = drop-map k xs
+
   module _ {C : Type 0} where
     pub each-map : (g : B → List C) (xs : List A) → each (map f xs) g ≡ each xs (λ x. g (f x))
     each-map g [] = refl

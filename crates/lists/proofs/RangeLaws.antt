@@ -9,7 +9,7 @@ use native.Mathlib.Numerals.{add-one}
 use native.Mathlib.Decide.{ℕ-discrete}
 use native.Mathlib.Omega.{arith}
 use lib.Dec.{T, ltb, eqb, eqb→eq, eqb-refl, ltb→lt, lt→ltb}
-use lib.ListN.{length, take, drop, getD, length-append, List·getD-append}
+use lib.ListN.{length, take, getD, length-append, List·getD-append}
 use lib.Seq.{getD-append-add}
 use Rattle.lists.specs.Lists.{keep, all, any, before, ascending, each, member, from, below, Apart}
 use Rattle.lists.proofs.TestLaws.{and-left, and-right, and-both, ltb-trans, ltb-irrefl, decide, clash, holds, eqb-of}
@@ -134,14 +134,6 @@ map-entries f d (x ∷ xs) = ap (λ (l : List _). f x ∷ l) (map-shift (λ i. f
 
 pub by-number : {A : Type 0} (d : A) (xs : List A) → map (λ i. getD xs i d) (below (length xs)) ≡ xs
 by-number d xs = map-below (λ i. getD xs i d) (length xs) d xs refl (λ k h. refl)
-
-pub drop-from : {A : Type 0} (f : ℕ → A) (i n r : ℕ) → r ≤ n → drop r (map f (from i n)) ≡ map f (from (i + r) (n - r))
-drop-from f i n zero h = let e : i ≡ i + 0 = omega arith in let k : n ≡ n - 0 = omega arith in ap₂ (λ (j m : ℕ). map f (from j m)) e k
-drop-from f i zero (suc r) h = absurd (omega arith)
-drop-from f i (suc n) (suc r) h =
-    let e : suc i + r ≡ i + suc r = omega arith in
-    let k : n - r ≡ suc n - suc r = omega arith in
-    drop-from f (suc i) n r (omega arith) ∙ ap₂ (λ (j m : ℕ). map f (from j m)) e k
 
 -- the first that passes among n numbered entries passes
 pub before-holds : {A : Type 0} (t : A → Bool) (f : ℕ → A) (i n : ℕ) → before t (map f (from i n)) < n → T (t (f (i + before t (map f (from i n)))))

@@ -1,7 +1,7 @@
 -- Tests and lists: what all definitions are written with. Nothing here is of document 01.
 -- A test is a Bool; `T test` is the type of its proofs, and `tt` proves a closed test that passes.
 use Prim.Native.Nat.{ℕ, zero, suc, _+_}
-use mathlib.Core.Bool.{Bool, true, false, cond, not, _&&_, _||_}
+use mathlib.Core.Bool.{Bool, true, false, cond, _&&_, _||_}
 use mathlib.Core.List.{List, [], _∷_, _++_, List·Memᴰ}
 use lib.Dec.{ltb, eqb}
 

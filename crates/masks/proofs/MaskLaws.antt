@@ -1,6 +1,6 @@
 -- The numbers of a mask: a bit of `&`, `|` and `1 << k`; two words; masks that are apart; and masks with the same numbers, which are equal. Assumes nothing.
 use mathlib.Core.Path.{_≡_, refl, sym, ap, _∙_, fun-ext}
-use mathlib.Core.Bool.{Bool, true, false, not, _&&_, _||_, true≢false, false≢true}
+use mathlib.Core.Bool.{Bool, true, false, cond, not, _&&_, _||_, true≢false, false≢true}
 use mathlib.Core.Logic.{_⊎_, ⊎-elim}
 use Prim.Native.Nat.{ℕ, zero, suc, min, max, _+_, _-_, _*_, _/_, _%_, _^_, _≤_, _<_}
 use native.Mathlib.Nat.{
@@ -19,7 +19,7 @@ use native.Mathlib.Nat.{
 use native.Mathlib.Decide.{ℕ-discrete}
 use native.Mathlib.Omega.{arith}
 use borrow.Author.Tests.{eq-eqb, ne-eqb, lt-ltb, le-ltb}
-use lib.Dec.{eqb}
+use lib.Dec.{eqb, ltb}
 use lib.Pow.{pow-pos, pow-add, pow-lt, pow-mono, shl-exact, shl-shr, shr-shr}
 use lib.Bits.{bitAnd, bitOr, and-shr, or-shr, and-step, or-step, and-le-r, or-zero-r}
 use Rattle.lists.proofs.TestLaws.{not-true, eqb-same, lt-or-ge}
@@ -190,6 +190,13 @@ equal-words a b c d la lb lc ld e = same-words a b c d la lb lc ld (λ k u. rw e
 pub beyond : (a b k : ℕ) → b < 2 ^ 64 → 128 ≤ k → hit2 a b k ≡ false
 beyond a b k l h =
     hit2-high a b k (omega arith) ∙ hit-no b (k - 64) (rw (div-eq-of-lt (lt-of-lt-of-le l (pow-mono {i = 64} {j = k - 64} (omega arith)))))
+
+-- what `with_cell` does with a cell, and with a number that is none
+pub cell-taken : (n : ℕ) (a b : ℕ → Bool) → n < 128 → cond (ltb n 128) a b ≡ a
+cell-taken n a b l = rw (lt-ltb n 128 l)
+
+pub cell-left : (n : ℕ) (a b : ℕ → Bool) → 128 ≤ n → cond (ltb n 128) a b ≡ b
+cell-left n a b l = rw (le-ltb n 128 l)
 
 -- ---- `apart`, both ways
 pub apart-all : (n : ℕ) (a b : ℕ → Bool) → ((k : ℕ) → k < n → (a k && b k) ≡ false) → apart n a b ≡ true

@@ -1,5 +1,5 @@
 -- Sets of numbers below 128 as two words of 64 bits.
-use Prim.Native.Nat.{ℕ, zero, suc, _-_, _/_, _%_, _^_, _≤_, _<_}
+use Prim.Native.Nat.{ℕ, zero, suc, min, _-_, _/_, _%_, _^_, _≤_, _<_}
 use mathlib.Core.Bool.{Bool, true, false, cond, not, _&&_, _||_}
 use mathlib.Core.Path.{_≡_}
 use lib.Dec.{ltb, eqb}
@@ -34,16 +34,16 @@ abbrev pub SameCells : Bool → (ℕ → Bool) → (ℕ → Bool) → Type 0
 SameCells true a b = a ≡ b
 SameCells false a b = a ≡ b → ⊥
 
--- r is the first number from n on that is not in the set; 128 where there is none below it
+-- r is the first number from n on that is not in the set; 128 where there is none below it, as where n is not below it
 pub record FirstOpen (a : ℕ → Bool) (n r : ℕ) : Type 0 where
-  pub from : n ≤ r
+  pub from : min n 128 ≤ r
   pub upTo : r ≤ 128
   pub passed : (k : ℕ) → n ≤ k → k < r → a k ≡ true
   pub stops : r < 128 → a r ≡ false
 
--- r is the first number from n on that is in the set; 128 where there is none below it
+-- r is the first number from n on that is in the set; 128 where there is none below it, as where n is not below it
 pub record FirstIn (a : ℕ → Bool) (n r : ℕ) : Type 0 where
-  pub from : n ≤ r
+  pub from : min n 128 ≤ r
   pub upTo : r ≤ 128
   pub passed : (k : ℕ) → n ≤ k → k < r → a k ≡ false
   pub stops : r < 128 → a r ≡ true

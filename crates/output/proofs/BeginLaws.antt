@@ -19,13 +19,13 @@ use Rattle.definitions.specs.Refusals.{Call, refusal, sidesFit, sidesOf, lentOf
 use Rattle.definitions.specs.declared.Record.{Record}
 use Rattle.definitions.specs.declared.Listing.the-variants as listing
 use Rattle.definitions.specs.declared.Refusal.{Refusal}
-use Rattle.definitions.proofs.RefusalLaws.{board-sides, outcome-refused}
+use Rattle.theorems.proofs.RefusalLaws.{board-sides, outcome-refused}
 use Rattle.placements.specs.Pieces.{recordsOf}
 use Rattle.placements.proofs.CountingLaws.{refused-some}
 use Rattle.solver.specs.Lent.{callWith}
 use Rattle.definitions.specs.Starts.{outcomeFrom}
 use Rattle.definitions.specs.declared.Start.the-variants.{Entry}
-use Rattle.definitions.proofs.StartLaws.{entry-told}
+use Rattle.theorems.proofs.StartLaws.{entry-told}
 use Rattle.output.specs.Rest.{Stands}
 use Rattle.output.specs.Standing.{Begins, IsRead, listIn, placesOf}
 use Rattle.files.specs.declared.reading.Asked.{Asked}

@@ -20,12 +20,12 @@ use Rattle.definitions.specs.Placements.{compile}
 use Rattle.definitions.specs.Refusals.{Call, identifyOf, isKnuth, refusal, sidesOf, table, lentOf, trayOf}
 use Rattle.definitions.specs.declared.Refusal.{Refusal}
 use Rattle.definitions.specs.declared.Listing.the-variants as listing
-use Rattle.definitions.proofs.DemandLaws.{demand3-holds, box-lent}
-use Rattle.definitions.proofs.RefusalLaws.{outcome-accepted}
+use Rattle.theorems.proofs.DemandLaws.{demand3-holds, box-lent}
+use Rattle.theorems.proofs.RefusalLaws.{outcome-accepted}
 use Rattle.placements.proofs.CountingLaws.{refused-some}
 use Rattle.definitions.specs.Starts.{outcomeFrom, skipping}
 use Rattle.definitions.specs.declared.Start.the-variants.{Behind}
-use Rattle.definitions.proofs.StartLaws.{outcome-behind}
+use Rattle.theorems.proofs.StartLaws.{outcome-behind}
 use Rattle.output.specs.Rest.{Stands}
 use Rattle.output.specs.Standing.{Scratch}
 

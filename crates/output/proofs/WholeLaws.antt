@@ -8,7 +8,7 @@ use lib.ListN.{take}
 use Rattle.definitions.specs.Files.{callIn, isFile, packed}
 use Rattle.definitions.specs.Printed.{PrintsListOf}
 use Rattle.definitions.specs.Refusals.{refusal}
-use Rattle.definitions.proofs.MeetLaws.{prints-list}
+use Rattle.theorems.proofs.MeetLaws.{prints-list}
 use Rattle.output.specs.Stretches.{Stepped, beginning, restAfter, restOf}
 use Rattle.output.specs.declared.Progress.{Progress}
 use Rattle.output.specs.declared.Stretch.{Stretch}

@@ -17,7 +17,7 @@ use Rattle.placements.specs.declared.Pieces.{Pieces}
 use Rattle.placements.specs.Pieces.{recordsOf, piecesOf}
 use Rattle.solver.specs.Lent.{callWith}
 use Rattle.definitions.specs.Starts.{outcomeFrom}
-use Rattle.definitions.specs.declared.Start.the-variants.{Entry, Behind}
+use Rattle.definitions.specs.declared.Start.the-variants.{Behind}
 use Rattle.files.specs.declared.reading.Asked.{Asked}
 use Rattle.output.specs.Rest.{Stands}
 use Rattle.output.specs.declared.Progress.{Progress}

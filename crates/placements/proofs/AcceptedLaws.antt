@@ -11,7 +11,7 @@ use Rattle.definitions.specs.Placements.{Compiled, compile}
 use Rattle.definitions.specs.Refusals.{Row, placementCount, firstThatApplies}
 use Rattle.definitions.specs.declared.Record.{Record}
 use Rattle.definitions.specs.declared.Config.{Config}
-use Rattle.definitions.proofs.RefusalLaws.{none-first, none-applies}
+use Rattle.theorems.proofs.RefusalLaws.{none-first, none-applies}
 use Rattle.placements.specs.declared.Pieces.{Pieces}
 use Rattle.placements.specs.Pieces.{recordsOf, trayIn}
 use Rattle.placements.specs.Stages.{lentRows, gridRows, configRows, sliceRows, countRowsBy, countRows}
@@ -94,20 +94,5 @@ module _ (t : Pieces) (board : Record) (bytes : List ℕ) (config : Config) (wor
     early-and-counts : (firstThatApplies early ≡ 0) × (firstThatApplies counts ≡ 0)
     early-and-counts = none-of-either early counts early-numbered ok
 
-    pub accepted-lent : Accepted9 t board bytes
-    accepted-lent = early-lent (early-and-counts .0)
-
-    pub accepted-config : firstThatApplies (configRows config) ≡ 0
-    accepted-config = early-config (early-and-counts .0)
-
-    pub accepted-slices : firstThatApplies (sliceRows config work links) ≡ 0
-    accepted-slices = early-slices (early-and-counts .0)
-
     pub accepted-counts : firstThatApplies (countRows (compile (trayIn (recordsOf t) board bytes)) config) ≡ 0
     accepted-counts = early-and-counts .1
-
-    pub accepted-work : 8192 ≤ work
-    accepted-work = early-work (early-and-counts .0)
-
-    pub accepted-few : placementCount (compile (trayIn (recordsOf t) board bytes)) ≤ 1024
-    accepted-few = placements-few (compile (trayIn (recordsOf t) board bytes)) config accepted-counts

@@ -31,11 +31,11 @@ use Rattle.definitions.specs.declared.Config.{Config}
 use Rattle.definitions.specs.declared.Refusal.{Refusal}
 use Rattle.definitions.specs.declared.Refusal.the-variants.{TooManyPieces, SideOutOfRange, CellsOutsideBytes, CellNotZeroOrOne, PieceWithoutFilledCell, TooManyCopies, TooManyBoardCells}
 use Rattle.definitions.specs.declared.Refusal.the-variants.{MirroredWithoutTurned, EngineNotPorted, WorkTooShort, LinksTooShort, TooManyPlacements, TooManyLinks}
-use Rattle.definitions.proofs.MapLaws.{turn-fits, filled-at, filled-length}
-use Rattle.definitions.proofs.GroupLaws.{bytes-whole}
-use Rattle.definitions.proofs.ShapeLaws.{scan-length, smallest-at}
-use Rattle.definitions.proofs.RefusalLaws.{PassedLent, testOf, none-applies, passed-lent}
-use Rattle.definitions.proofs.PartnerLaws.{variants-turned}
+use Rattle.theorems.proofs.MapLaws.{turn-fits, filled-at, filled-length}
+use Rattle.theorems.proofs.GroupLaws.{bytes-whole}
+use Rattle.theorems.proofs.ShapeLaws.{scan-length, smallest-at}
+use Rattle.theorems.proofs.RefusalLaws.{PassedLent, testOf, none-applies, passed-lent}
+use Rattle.theorems.proofs.PartnerLaws.{variants-turned}
 use Rattle.shape.specs.declared.Coord.{Coord}
 use Rattle.shape.specs.Coords.{asSides}
 use Rattle.shape.specs.Grids.{Whole}

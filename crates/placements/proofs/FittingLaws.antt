@@ -1,6 +1,6 @@
 -- Numbering the places of a box, and the fit test cell by cell. Assumes nothing.
 use Prim.Native.Nat.{ℕ, suc, _+_, _*_, _-_, _≤_, _<_}
-use mathlib.Core.Bool.{Bool, true, false, cond, not, _&&_}
+use mathlib.Core.Bool.{Bool, true, false, cond, _&&_}
 use mathlib.Core.List.{List, [], _∷_, map, List·Memᴰ, Memᴰ·cast}
 use mathlib.Core.Path.{_≡_, refl, sym, ap, ap₂, _∙_, subst}
 use native.Mathlib.Nat.{zero-add}
@@ -17,14 +17,14 @@ use Rattle.lists.proofs.SortLaws.{sort-at, sort-of}
 use Rattle.definitions.specs.Grid.{Sides, Cell, Grid, InBox, placeOf, byteAt, sameCell, filledCells}
 use Rattle.definitions.specs.Scan.{cellAhead, scan, scanNumber}
 use Rattle.definitions.specs.Placements.{origin, lies, reaches, fits}
-use Rattle.definitions.proofs.MapLaws.{filled-at, filled-of}
-use Rattle.definitions.proofs.ShapeLaws.{cells-tied}
-use Rattle.definitions.proofs.WellMadeLaws.{sameCell→eq, sameCell-refl}
+use Rattle.theorems.proofs.MapLaws.{filled-at, filled-of}
+use Rattle.theorems.proofs.WellMadeLaws.{sameCell→eq, sameCell-refl}
 use Rattle.shape.specs.Places.{cellAt}
 use Rattle.shape.specs.Grids.{Decided}
 use Rattle.shape.specs.Scans.{IsOrder}
 use Rattle.shape.proofs.PlaceLaws.{cell-at-place, place-of-cell}
 use Rattle.shape.proofs.VariantLaws.{scan-has, scan-from}
+use Rattle.shape.proofs.ScanLaws.{cell-tied}
 use Rattle.placements.specs.Poses.{cellOf, cellsIn, originIn, variantIn, Poses}
 use Rattle.placements.specs.Fitting.{fitsOn, fitsPose}
 use Rattle.placements.proofs.PoseLaws.{cells-numbered}
@@ -145,16 +145,13 @@ module _ (g : Grid) (v : Cell) (poses : List ℕ) (size i : ℕ) where
 
 -- cells in scan order or as they come
 module _ (order : List ℕ) (o : IsOrder order) where
-  pub tied : (u w : Cell) → T (not (cellAhead order u w)) → T (not (cellAhead order w u)) → u ≡ w
-  tied = subst (λ (l : List ℕ). (u w : Cell) → T (not (cellAhead l u w)) → T (not (cellAhead l w u)) → u ≡ w) (o .isIts) (cells-tied (o .box))
-
   module _ (g : Grid) (v : Cell) where
     fits-cells : (us : List Cell) → fits (scan order g) v (sort (cellAhead order) us) ≡ fitsOn g v (origin (sort (cellAhead order) us)) us
     unfolding fits fitsOn
     fits-cells us =
         ap (λ (b : Bool). reaches v (origin (sort (cellAhead order) us)) && b)
         (tests-same (all p (sort (cellAhead order) us)) (all q us)
-        (λ t. all-of q us (λ u m. subst T (same u) (all-at p (sort (cellAhead order) us) t (sort-of (cellAhead order) tied us m))))
+        (λ t. all-of q us (λ u m. subst T (same u) (all-at p (sort (cellAhead order) us) t (sort-of (cellAhead order) (cell-tied order o) us m))))
         (λ t. all-of p (sort (cellAhead order) us) (λ u m. subst T (sym (same u)) (all-at q us t (sort-at (cellAhead order) us m)))))
       where
         to : Cell → Cell

@@ -15,13 +15,14 @@ use lib.Seq.{paste, paste-zero, paste-suc, length-paste, drop-paste, drop-cons, 
 use Rattle.lists.specs.Lists.{consIf, keep, headOr, put, sort, from, below}
 use Rattle.lists.proofs.ListLaws.{front-part, drop-later, getD-map, keep-same, keep-length, map-same, map-still}
 use Rattle.lists.proofs.RangeLaws.{below-at, length-below, map-entries}
-use Rattle.lists.proofs.SortLaws.{sort-at}
+use Rattle.lists.proofs.PartLaws.{pasted-there, pasted-before, part-length, part-entry}
+use Rattle.lists.proofs.SortLaws.{sort-at, first-put}
 use Rattle.definitions.specs.Grid.{Sides, Cell, Grid, InBox, box, volume, placeOf, byteAt, filledCells}
 use Rattle.definitions.specs.Maps.{mapOf, mapGrid, mapSides}
 use Rattle.definitions.specs.Scan.{cellAhead, scan}
 use Rattle.definitions.specs.Placements.{origin}
-use Rattle.definitions.proofs.MapLaws.{box-at, filled-at, filled-length, mapped-sides}
-use Rattle.definitions.proofs.MapNumberLaws.{map-fits}
+use Rattle.theorems.proofs.MapLaws.{box-at, filled-at, filled-length, mapped-sides}
+use Rattle.theorems.proofs.MapNumberLaws.{map-fits}
 use Rattle.shape.specs.Coords.{Fit}
 use Rattle.shape.specs.Places.{cellAt}
 use Rattle.shape.specs.Grids.{orderBy}
@@ -31,8 +32,7 @@ use Rattle.shape.specs.declared.Ordering.{Ordering}
 use Rattle.shape.specs.declared.Ordering.the-variants.{Less, Equal, Greater}
 use Rattle.shape.proofs.PlaceLaws.{cell-at-place, cell-in-box, place-of-cell, place-lt, volume-small, map-volume, mapped-fit}
 use Rattle.shape.proofs.GridLaws.{box-places, turned-length}
-use Rattle.shape.proofs.TurningLaws.{pasted-there, pasted-before}
-use Rattle.placements.specs.Poses.{codeOf, cellOf, cellsIn, originIn, variantIn, variantsIn, withPose, Poses, Posed}
+use Rattle.placements.specs.Poses.{codeOf, cellOf, cellsIn, originIn, variantIn, variantsIn, withPose, withPoses, Poses, Posed}
 
 -- ---- codes: places in a box whose sides are 8
 abbrev pub eight : Sides
@@ -163,20 +163,6 @@ module _ (g : Grid) (old : List ℕ) (at v : ℕ) (is : v ≡ volume (g .sides))
       (omega (arith, l .most), l .there)
 
 -- ---- the first of cells, from the last to the first
--- what a first entry that is put in changes
-module _ {A : Type 0} (ahead : A → A → Bool) (d x : A) where
-  head-put : (y : A) (ys : List A) → headOr d (put ahead x (y ∷ ys)) ≡ cond (ahead x y) x y
-  head-put y ys = go (ahead x y) (ahead y x)
-    where
-      go : (b c : Bool) → headOr d (cond b (x ∷ y ∷ ys) (cond c (y ∷ put ahead x ys) (y ∷ ys))) ≡ cond b x y
-      go true c = refl
-      go false true = refl
-      go false false = refl
-
-  head-first : (zs : List A) → ((zs ≡ []) → ⊥) → headOr d (put ahead x zs) ≡ cond (ahead x (headOr d zs)) x (headOr d zs)
-  head-first [] s = absurd (s refl)
-  head-first (y ∷ ys) s = head-put y ys
-
 abbrev pub isLess : Ordering → Bool
 isLess Less = true
 isLess Equal = false
@@ -186,13 +172,6 @@ is-less : (a s : Bool) → isLess (orderBy a s) ≡ a
 is-less true s = refl
 is-less false true = refl
 is-less false false = refl
-
--- a part of a list: how long it is, and its entries
-pub part-length : (l : List ℕ) (at n : ℕ) → at + n ≤ length l → length (take n (drop at l)) ≡ n
-part-length l at n h = length-take-le n (drop at l) (let a = length-drop at l in omega arith)
-
-pub part-entry : (l : List ℕ) (at n k : ℕ) → k < n → getD (take n (drop at l)) k 0 ≡ getD l (at + k) 0
-part-entry l at n k h = getD-take n (drop at l) k 0 h ∙ getD-drop at l k 0
 
 -- the first of the cells whose codes stand from k on
 abbrev pub firstFrom : List ℕ → List ℕ → ℕ → Cell
@@ -232,7 +211,7 @@ module _ (order codes : List ℕ) where
       let us = sort (cellAhead order) (map cellOf (drop k codes)) in
       ap (λ (b : Bool). cond b x w) a
       ∙ ap (λ (y : Cell). cond (cellAhead order x y) x y) e
-      ∙ sym (head-first (cellAhead order) (record { x = 0; y = 0; z = 0 }) x us (sorted-some k l))
+      ∙ sym (first-put (cellAhead order) (record { x = 0; y = 0; z = 0 }) x us (sorted-some k l))
       ∙ sym (ap (λ (l : List ℕ). headOr (record { x = 0; y = 0; z = 0 }) (sort (cellAhead order) (map cellOf l)))
       (drop-cons codes (k - 1) 0 (omega arith) ∙ ap (λ (m : ℕ). getD codes (k - 1) 0 ∷ drop m codes) s))
 
@@ -428,6 +407,17 @@ module _ (order : List ℕ) (g : Grid) (turnings : List ℕ) (fit : Fit (g .side
 
       there : (j : ℕ) → j < n → cellsIn poses size j ≡ filledCells (mapGrid (mapOf (getD turnings j 0)) g)
       there j h = ap (λ (k : ℕ). cellsIn poses k j) e ∙ p .cells j (omega arith)
+
+-- all that the slice holds then
+pub poses-none : (order : List ℕ) (f : ℕ → List Cell) (old : List ℕ) → old ≡ withPoses order f 0 old
+unfolding withPoses
+poses-none order f old = refl
+
+pub poses-next : (order : List ℕ) (f : ℕ → List Cell) (old poses new : List ℕ) (i : ℕ) → poses ≡ withPoses order f i old → (us : List Cell) → us ≡ f i
+    → new ≡ withPose order us i poses → new ≡ withPoses order f (i + 1) old
+unfolding withPoses
+poses-next order f old poses new i p us e is =
+    is ∙ ap₂ (λ (vs : List Cell) (l : List ℕ). withPose order vs i l) e p ∙ ap (λ (n : ℕ). withPoses order f n old) (sym (add-one i))
 
 -- the variants that poses of grids stand for
 posed-variants : (order : List ℕ) (gs : List Grid) (poses : List ℕ) (size : ℕ) → Posed order gs poses size → variantsIn order poses size (length gs) ≡ map (scan order) gs

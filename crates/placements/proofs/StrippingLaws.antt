@@ -20,17 +20,16 @@ use Rattle.definitions.specs.Framing.{unframed}
 use Rattle.definitions.specs.Kinds.{Piece, Tray}
 use Rattle.definitions.specs.Refusals.{sidesOf, gridOf, pieceOf, stripPiece, stripTray, isSide, sidesFit, cellsLie, areBits, someFilled, copyCount, boardCellCount, firstThatApplies}
 use Rattle.definitions.specs.declared.Record.{Record}
-use Rattle.definitions.proofs.RefusalLaws.{PassedLent, fit-volume}
-use Rattle.definitions.proofs.StrippingLaws.{strip-bits, strip-whole, strip-sum, strip-fits, strip-some}
-use Rattle.definitions.proofs.StrippedLaws.{strip-filled}
-use Rattle.shape.specs.Coords.{asSides, asCell}
+use Rattle.theorems.proofs.RefusalLaws.{PassedLent, fit-volume}
+use Rattle.theorems.proofs.StrippingLaws.{strip-bits, strip-whole, strip-sum, strip-fits, strip-some}
+use Rattle.theorems.proofs.StrippedLaws.{strip-filled}
+use Rattle.shape.specs.Coords.{asSides}
 use Rattle.shape.specs.Stripping.{StripsInto}
 use Rattle.shape.specs.declared.stripping.Window.{Window}
 use Rattle.shape.proofs.StrippingLaws.{strip-volume}
 use Rattle.placements.specs.declared.Pieces.{Pieces}
 use Rattle.placements.specs.declared.stripping.StrippedRecord.{StrippedRecord}
-use Rattle.placements.specs.declared.stripping.StrippedRecords.{StrippedRecords}
-use Rattle.placements.specs.Pieces.{noRecord, recordsOf, framedIn, lentIn, trayIn}
+use Rattle.placements.specs.Pieces.{noRecord, recordsOf, lentIn, trayIn}
 use Rattle.placements.specs.Stages.{gridRows, lentRows}
 use Rattle.placements.specs.Counting.{Accepted9}
 use Rattle.placements.specs.Stripping.{endOf, Before, StripsRecord, StripsPieces, StripsTray, withGrid, withGrids}
@@ -409,9 +408,3 @@ pub each-below : (bound n : ℕ) (xs : List ℕ) → T (all (λ i. ltb i bound) 
 each-below bound n xs t i h l =
     let e : i + 1 - 1 ≡ i = omega arith in
     subst (λ (j : ℕ). getD xs j 0 < bound) e (place-in xs n bound l t (i + 1) (omega arith) (omega arith))
-
--- ---- the stripped records, framed as their board lies in the lent box, are the tray that is listed
-pub framed-stripped : (t : Pieces) (board : Record) (bytes : List ℕ) {r : StrippedRecords} {cells : List ℕ} → StripsTray t board bytes r cells → (lent : Sides) → lent ≡ sidesOf board
-    → framedIn (recordsOf (r .pieces)) (r .board) cells (record { lent = lent; at = asCell (r .at) }) ≡ trayIn (recordsOf t) board bytes
-unfolding unframed stripTray frameOf gridOf
-framed-stripped t board bytes s lent e = λ i. record { board = s .tray i .board; pieces = s .tray i .pieces; frame = record { lent = e i; at = s .at i } }

@@ -1,7 +1,7 @@
 -- Poses: the variants of a piece as the fit test reads them, in one slice of 16-bit numbers. What stands where is named here and in src/poses.rt alone:
---     for each of 24 variants 512 numbers: the codes of its filled cells, x slowest, z fastest; what lies behind them is free
+--     for each of 24 variants 512 numbers: the codes of its filled cells, x slowest, z fastest; what lies behind them says nothing
 --     for each of 24 variants the code of its origin
-use Prim.Native.Nat.{ℕ, _+_, _*_, _/_, _%_, _≤_, _<_}
+use Prim.Native.Nat.{ℕ, zero, suc, _+_, _*_, _/_, _%_, _≤_, _<_}
 use mathlib.Core.List.{List, map}
 use mathlib.Core.Path.{_≡_}
 use lib.ListN.{length, getD, take, drop, set}
@@ -38,6 +38,11 @@ variantsIn order poses size n = map (variantIn order poses size) (below n)
 -- filled cells and their origin written as variant i
 unfoldable pub withPose : List ℕ → List Cell → ℕ → List ℕ → List ℕ
 withPose order us i poses = set (paste poses (512 * i) (map codeOf us) (length us)) (12288 + i) (codeOf (origin (sort (cellAhead order) us)))
+
+-- the first n of such lists: the other numbers stay
+unfoldable pub withPoses : List ℕ → (ℕ → List Cell) → ℕ → List ℕ → List ℕ
+withPoses order us zero poses = poses
+withPoses order us (suc i) poses = withPose order (us i) i (withPoses order us i poses)
 
 -- n variants stand there, each with its origin
 pub record Poses (order poses : List ℕ) (size n : ℕ) : Type 0 where

@@ -6,13 +6,14 @@ ghost use lib.ListN.{length, take, drop, getD};
 ghost use lib.Seq.{paste};
 ghost use Rattle.lists.specs.Lists.{sort};
 ghost use Rattle.definitions.specs.Grid.{volume, filledCells};
+ghost use Rattle.definitions.specs.Maps.{mapOf, mapGrid};
 ghost use Rattle.definitions.specs.Scan.{cellAhead};
 ghost use Rattle.definitions.specs.Placements.{origin};
 ghost use Rattle.shape.specs.Coords.{asSides, asCell, Fit};
 ghost use Rattle.shape.specs.Grids.{asGrid, Whole};
 ghost use Rattle.shape.specs.Scans.{asOrder};
 ghost use Rattle.shape.specs.Variants.{turnedBy};
-ghost use Rattle.placements.specs.Poses.{posesLength, codeOf, cellOf, originIn, withPose, Posed};
+ghost use Rattle.placements.specs.Poses.{posesLength, codeOf, cellOf, originIn, withPose, withPoses, Posed};
 use shape::Coord;
 use shape::Ordering;
 use shape::cells;
@@ -118,7 +119,7 @@ fn put_pose(cells: &[u8], s: Coord, order: AxisOrder, poses: &mut [u16], i: usiz
     poses[ORIGINS + i] = first_of(poses, 512 * i, n, order);
 }
 
-// The grids that the first n map numbers make of a grid as poses; and how many filled cells each has.
+// The grids that the first n map numbers make of a grid as poses; and how many filled cells each has. What lies behind their codes stays.
 pub fn pose_all(
     cells: &[u8],
     s: Coord,
@@ -129,8 +130,10 @@ pub fn pose_all(
 ) -> usize
     requires { ⌜ Whole s (now cells) × (n ≤ length (now turnings)) × (n ≤ 24) × (length (now poses) ≡ posesLength) ⌝ }
     ensures { λ r. do
-      let grids = turnedBy (asGrid s (now (cells .entry))) (take n (now (turnings .entry)))
-      ⌜ Posed (asOrder order) grids (now (poses .exit)) r ⌝ }
+      let g = asGrid s (now (cells .entry))
+      let ks = now (turnings .entry)
+      ⌜ Posed (asOrder order) (turnedBy g (take n ks)) (now (poses .exit)) r
+          × (now (poses .exit) ≡ withPoses (asOrder order) (λ i. filledCells (mapGrid (mapOf (getD ks i 0)) g)) n (now (poses .entry))) ⌝ }
 {
     let mut turned = [0u8; 512];
     let mut i = 0;

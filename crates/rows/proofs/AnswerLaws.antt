@@ -18,7 +18,7 @@ use Rattle.definitions.specs.Kinds.{Tray, Piece, Form, pieceForm, sameForm, for
 use Rattle.definitions.specs.Placements.{Placement, compile}
 use Rattle.definitions.specs.Packing.{limits}
 use Rattle.definitions.specs.Answers.{Taken, takes, taken, copyOn, answer, twoBytes, lentCells}
-use Rattle.definitions.proofs.PartnerLaws.{sameForm→eq, form-trans, before-form}
+use Rattle.theorems.proofs.PartnerLaws.{sameForm→eq, form-trans, before-form}
 use Rattle.rows.specs.Systems.{Owned, owned, systemOf}
 use Rattle.rows.specs.Answering.{copiesIf, copiesBy, takenBy, answersOver, answerBy}
 

@@ -26,8 +26,8 @@ use Rattle.definitions.specs.Kept.{symmetries, cellAfter}
 use Rattle.definitions.specs.Refusals.{Call, Row, lentOf, stripTray, trayOf, sidesOf, gridOf, isPorted, isKnuth, placementCount, firstThatApplies, refusal}
 use Rattle.definitions.specs.declared.Record.{Record}
 use Rattle.definitions.specs.declared.SolverKind.the-variants.{Fast}
-use Rattle.definitions.proofs.StrippingLaws.{strip-fits}
-use Rattle.definitions.proofs.GeometryLaws.{W}
+use Rattle.theorems.proofs.StrippingLaws.{strip-fits}
+use Rattle.theorems.proofs.GeometryLaws.{W}
 use Rattle.shape.specs.Coords.{asCell}
 use Rattle.shape.specs.Places.{cellAt}
 use Rattle.shape.proofs.PlaceLaws.{cell-in-box, cell-at-place, place-lt, place-of-cell}

@@ -20,11 +20,11 @@ use Rattle.definitions.specs.Packing.{limits}
 use Rattle.definitions.specs.Orders.{sizes}
 use Rattle.definitions.specs.Refusals.{gridOf, sidesOf, areBits, copyCount, pieceOf}
 use Rattle.definitions.specs.declared.Record.{Record}
-use Rattle.definitions.proofs.GroupLaws.{identity-grid}
-use Rattle.definitions.proofs.ActLaws.{product-on}
-use Rattle.definitions.proofs.MoveLaws.{mirror-in, mapped-whole}
-use Rattle.definitions.proofs.PartnerLaws.{mirror-twice, form-path}
-use Rattle.definitions.proofs.ShapeLaws.{smallest-at, sum-filled}
+use Rattle.theorems.proofs.GroupLaws.{identity-grid}
+use Rattle.theorems.proofs.ActLaws.{product-on}
+use Rattle.theorems.proofs.MoveLaws.{mirror-in, mapped-whole}
+use Rattle.theorems.proofs.PartnerLaws.{mirror-twice, form-path}
+use Rattle.theorems.proofs.ShapeLaws.{smallest-at, sum-filled}
 use Rattle.shape.proofs.PlaceLaws.{volume-small}
 use Rattle.placements.specs.declared.Pieces.{Pieces}
 use Rattle.placements.specs.Pieces.{noRecord, recordsOf, lentIn}

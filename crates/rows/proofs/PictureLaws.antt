@@ -17,8 +17,8 @@ use Rattle.definitions.specs.Grid.{Grid, Sides, Cell, InBox, volume, placeOf, b
 use Rattle.definitions.specs.Maps.{Map, mapOf, mapSides, mapCell, mapGrid}
 use Rattle.definitions.specs.Scan.{scan, scanNumber}
 use Rattle.definitions.specs.Kept.{symmetries}
-use Rattle.definitions.proofs.MapLaws.{mapped-sides}
-use Rattle.definitions.proofs.GroupLaws.{sameGrid→eq}
+use Rattle.theorems.proofs.MapLaws.{mapped-sides}
+use Rattle.theorems.proofs.GroupLaws.{sameGrid→eq}
 use Rattle.shape.specs.Coords.{Fit}
 use Rattle.shape.specs.Places.{cellAt, imagePlace}
 use Rattle.shape.proofs.PlaceLaws.{place-lt, cell-at-place, cell-in-box, image-in-box}

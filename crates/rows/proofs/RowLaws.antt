@@ -16,8 +16,8 @@ use Rattle.lists.proofs.SortLaws.{sort-at, sort-of}
 use Rattle.definitions.specs.Grid.{Sides, Cell, Grid, InBox, box, volume, placeOf, sameCell, filledCells}
 use Rattle.definitions.specs.Scan.{cellAhead, scan, scanNumber}
 use Rattle.definitions.specs.Placements.{Placement, origin, lies, reaches, fits, placementsAt}
-use Rattle.definitions.proofs.MapLaws.{filled-at}
-use Rattle.definitions.proofs.WellMadeLaws.{sameCell→eq, scan-ascending, number-below}
+use Rattle.theorems.proofs.MapLaws.{filled-at}
+use Rattle.theorems.proofs.WellMadeLaws.{sameCell→eq, scan-ascending, number-below}
 use Rattle.masks.specs.Masks.{has, nothing, only, either}
 use Rattle.masks.specs.declared.Mask.{Mask}
 use Rattle.shape.specs.Places.{cellAt}
@@ -25,11 +25,11 @@ use Rattle.shape.specs.Scans.{IsOrder}
 use Rattle.shape.proofs.PlaceLaws.{place-lt, cell-at-place}
 use Rattle.shape.proofs.GridLaws.{box-places}
 use Rattle.shape.proofs.VariantLaws.{scan-has}
+use Rattle.shape.proofs.ScanLaws.{cell-tied}
 use Rattle.placements.specs.Poses.{cellOf, cellsIn, variantIn, variantsIn}
 use Rattle.placements.specs.Fitting.{fitsOn}
 use Rattle.placements.specs.Counting.{OnBoard}
 use Rattle.placements.proofs.PoseLaws.{cells-numbered}
-use Rattle.placements.proofs.FittingLaws.{tied}
 use Rattle.placements.proofs.CountingLaws.{cells-many}
 use Rattle.rows.specs.Rows.{cellsOf, maskAt, rowAt, rowsIn, spread, Appended}
 use Rattle.rows.specs.Boards.{Numbered, lands}
@@ -314,7 +314,7 @@ module _ (order : List ℕ) (g : Grid) (scans : List ℕ) (n : Numbered order g 
             ∙ tests-same (member k (map by us)) (member k (map to (sort (cellAhead order) us)))
             (λ t.
             let r = Memᴰ·of-map by us (member-at k (map by us) t) in
-            member-of (map to (sort (cellAhead order) us)) (Memᴰ·cast (sym (r .2) ∙ agree (r .0) (r .1)) (Memᴰ·map to (sort-of (cellAhead order) (tied order numbered-order) us (r .1)))))
+            member-of (map to (sort (cellAhead order) us)) (Memᴰ·cast (sym (r .2) ∙ agree (r .0) (r .1)) (Memᴰ·map to (sort-of (cellAhead order) (cell-tied order numbered-order) us (r .1)))))
             (λ t.
             let r = Memᴰ·of-map to (sort (cellAhead order) us) (member-at k (map to (sort (cellAhead order) us)) t) in
             let m = sort-at (cellAhead order) us (r .1) in

@@ -1,10 +1,9 @@
 -- Rows by ranges: where the rows of a kind at a cell begin and end, and a row looked up among them. Assumes nothing.
 use Prim.Native.Nat.{ℕ, _+_, _*_, _^_, _≤_, _<_}
-use mathlib.Core.Bool.{Bool, true, false, _&&_, _||_, true≢false}
+use mathlib.Core.Bool.{Bool, true, false, _&&_, true≢false}
 use mathlib.Core.List.{List, [], _∷_, List·Memᴰ}
 use mathlib.Core.Logic.{⊎-elim}
-use mathlib.Core.Path.{_≡_, refl, sym, ap, ap₂, _∙_, subst, fun-ext}
-use native.Mathlib.Nat.{le-of-eq}
+use mathlib.Core.Path.{_≡_, sym, ap₂, _∙_, subst, fun-ext}
 use native.Mathlib.Omega.{arith}
 use borrow.Author.Count.{below-more}
 use lib.Dec.{T, eqb, ltb, leb, ltb→lt, eqb→eq, leb→le, le→leb}

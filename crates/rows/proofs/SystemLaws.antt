@@ -22,15 +22,15 @@ use Rattle.definitions.specs.Placements.{Placement, Compiled, compile}
 use Rattle.definitions.specs.Packing.{limits}
 use Rattle.definitions.specs.Kept.{kindAfter}
 use Rattle.definitions.specs.Refusals.{Call, lentOf, stripTray, trayOf, copyCount, boardCellCount, placementCount, refusal}
-use Rattle.definitions.proofs.MapLaws.{box-of}
-use Rattle.definitions.proofs.RefusalLaws.{PassedLent, passed}
-use Rattle.definitions.proofs.ShapeLaws.{scan-length, lent-board-whole}
-use Rattle.definitions.proofs.StrippingLaws.{strip-count, sum-bits}
-use Rattle.definitions.proofs.AnswerLaws.{set-number, in-lent}
-use Rattle.definitions.proofs.DemandLaws.{copies-lent}
-use Rattle.definitions.proofs.PartnerLaws.{sameForm→eq, form-trans, form-irrefl, fs, fs-up}
-use Rattle.definitions.proofs.SetDownLaws.{placement-once}
-use Rattle.definitions.proofs.GeometryLaws.{piece-whole, W, numbered-cells, in-box}
+use Rattle.theorems.proofs.MapLaws.{box-of}
+use Rattle.theorems.proofs.RefusalLaws.{PassedLent, passed}
+use Rattle.theorems.proofs.ShapeLaws.{scan-length, lent-board-whole}
+use Rattle.theorems.proofs.StrippingLaws.{strip-count, sum-bits}
+use Rattle.theorems.proofs.AnswerLaws.{set-number, in-lent}
+use Rattle.theorems.proofs.DemandLaws.{copies-lent}
+use Rattle.theorems.proofs.PartnerLaws.{sameForm→eq, form-trans, form-irrefl, fs, fs-up}
+use Rattle.theorems.proofs.SetDownLaws.{placement-once}
+use Rattle.theorems.proofs.GeometryLaws.{piece-whole, W, numbered-cells, in-box}
 use Rattle.rows.specs.Rows.{spread}
 use Rattle.rows.specs.Systems.{owned, systemOf, kindBy}
 use Rattle.rows.specs.Answering.{copiesBy}

@@ -20,12 +20,12 @@ use Rattle.definitions.specs.Kinds.{Kind, kindsOf}
 use Rattle.definitions.specs.Placements.{Placement, Compiled, compile}
 use Rattle.definitions.specs.Kept.{kindAfter, cellAfter, symmetries}
 use Rattle.definitions.specs.Refusals.{Call, trayOf, refusal}
-use Rattle.definitions.proofs.GroupLaws.{identity-cell, sameGrid-of}
-use Rattle.definitions.proofs.ImageLaws.{Numbered, Onto-placement, after-below, after-after, after-still, numbers-inj}
-use Rattle.definitions.proofs.ActLaws.{plus, mapsOf, Allowed, allowed-identity, allowed-product, allowed-back, allowed-then, identity-then-cell, symmetry-at, on-cells, act-inj}
-use Rattle.definitions.proofs.PartnerLaws.{partner-back}
-use Rattle.definitions.proofs.GeometryLaws.{piece-whole, W, numbered-cells, to-filled, of-filled, whole, partners}
-use Rattle.definitions.proofs.CarryLaws.{placement-image}
+use Rattle.theorems.proofs.GroupLaws.{identity-cell, sameGrid-of}
+use Rattle.theorems.proofs.ImageLaws.{Numbered, Onto-placement, after-below, after-after, after-still, numbers-inj}
+use Rattle.theorems.proofs.ActLaws.{plus, mapsOf, Allowed, allowed-identity, allowed-product, allowed-back, allowed-then, identity-then-cell, symmetry-at, on-cells, act-inj}
+use Rattle.theorems.proofs.PartnerLaws.{partner-back}
+use Rattle.theorems.proofs.GeometryLaws.{piece-whole, W, numbered-cells, to-filled, of-filled, whole, partners}
+use Rattle.theorems.proofs.CarryLaws.{placement-image}
 use Rattle.rows.specs.Systems.{System, cellImages, systemOf, kindBy, cellsBy}
 use Rattle.rows.specs.Lawful.{Permutes, ImageOf, allowed, afterBy, differ}
 

@@ -177,12 +177,12 @@ module _ (mask : Mask) (c : Copy) (old : List ℕ) where
     pub laid-none : old ≡ laidTo 0
     laid-none = paste-zero old 0 (pairs piece copy (below 128))
 
-    pub laid-on : (i r : ℕ) → FirstIn (has mask) i r → laidTo i ≡ laidTo r
-    laid-on i r f =
+    pub laid-on : (i r : ℕ) → i ≤ 128 → FirstIn (has mask) i r → laidTo i ≡ laidTo r
+    laid-on i r h f =
         let a = f .from in
         let b = f .upTo in
         let e : i + (r - i) ≡ r = omega arith in
-        skip (r - i) i (omega arith) (λ k l h. f .passed k l (omega arith)) ∙ ap laidTo e
+        skip (r - i) i (omega arith) (λ k l m. f .passed k l (omega arith)) ∙ ap laidTo e
 
     pub laid-hit : (i : ℕ) → i < 128 → has mask i ≡ true → (told : List ℕ) → told ≡ laidTo i → set (set told (2 * i) (c .piece)) (2 * i + 1) (c .copy) ≡ laidTo (i + 1)
     laid-hit i h e told is =

@@ -2,7 +2,6 @@
 use Prim.Native.Nat.{ℕ, _+_, _*_, _≤_, _<_}
 use mathlib.Core.Bool.{Bool, true, false, cond}
 use mathlib.Core.List.{List, [], _∷_, map}
-use mathlib.Core.Path.{_≡_}
 use lib.Dec.{T, eqb, ltb}
 use lib.ListN.{length, getD, take}
 use Rattle.lists.specs.Lists.{all, keep, each, below, member, numbered, joined, ascending}

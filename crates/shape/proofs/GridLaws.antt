@@ -17,10 +17,10 @@ use Rattle.lists.proofs.RangeLaws.{length-below, getD-number}
 use Rattle.lists.proofs.NameLaws.{StrictOrder, ahead-other}
 use Rattle.definitions.specs.Grid.{Sides, Cell, Grid, box, volume, placeOf, byteAt, sidesThenCells, sameGrid, gridAhead}
 use Rattle.definitions.specs.Maps.{maps, turns, transform, parity, permutations, mapOf, identity, mapSides, mapGrid}
-use Rattle.definitions.proofs.PartnerLaws.{grids-ordered}
-use Rattle.definitions.proofs.MapLaws.{box-at, mapped-sides}
-use Rattle.definitions.proofs.MoveLaws.{mapped-whole}
-use Rattle.definitions.proofs.GroupLaws.{bytes-whole, identity-grid, sameGrid→eq}
+use Rattle.theorems.proofs.PartnerLaws.{grids-ordered}
+use Rattle.theorems.proofs.MapLaws.{box-at, mapped-sides}
+use Rattle.theorems.proofs.MoveLaws.{mapped-whole}
+use Rattle.theorems.proofs.GroupLaws.{bytes-whole, identity-grid, sameGrid→eq}
 use Rattle.shape.specs.Coords.{asSides, Fit}
 use Rattle.shape.specs.Places.{cellAt}
 use Rattle.shape.specs.Grids.{Decided, Whole, orderBy, listOrder, numberOrder, sideList, sidesOrder, gridOrder}

@@ -1,6 +1,7 @@
 pub mod PlaceLaws
 pub mod MapTableLaws
 pub mod GridLaws
+pub mod GridTestLaws
 pub mod TurningLaws
 pub mod LineLaws
 pub mod ScanLaws

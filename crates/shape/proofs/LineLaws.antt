@@ -1,31 +1,30 @@
 -- Lines of a turned box: a map's lines reach the cells that the map takes to the places of the turned box. Assumes nothing.
 use Prim.Native.Nat.{ℕ, _+_, _*_, _≤_, _<_}
-use mathlib.Core.Bool.{Bool, true, false, cond, _||_}
+use mathlib.Core.Bool.{Bool, true, false, _||_}
 use mathlib.Core.List.{List, map, map-map}
-use mathlib.Core.Path.{_≡_, refl, sym, ap, ap₂, _∙_, subst}
+use mathlib.Core.Path.{_≡_, sym, ap, ap₂, _∙_, subst}
 use mathlib.Core.Logic.{_⊎_, ⊎-elim}
 use native.Mathlib.Nat.{mul-assoc}
 use native.Mathlib.Numerals.{add-one}
 use native.Mathlib.Omega.{arith}
-use lib.Dec.{T, eqb}
+use lib.Dec.{T}
 use lib.ListN.{length, getD, set, length-map}
 use lib.Seq.{paste, paste-suc}
 use Rattle.lists.specs.Lists.{all, each, below}
 use Rattle.lists.proofs.TestLaws.{or-cases}
 use Rattle.lists.proofs.ListLaws.{map-same, map-each, each-same, all-at}
 use Rattle.lists.proofs.RangeLaws.{length-below, getD-below}
-use Rattle.definitions.specs.Grid.{Sides, Cell, Grid, box, volume, placeOf, byteAt, gridWith, InBox}
-use Rattle.definitions.specs.Maps.{Map, mapOf, maps, side, coordinate, mapSides, mapCell, mapGrid, inverse, axisOf, flipOf, turns, mirrorings, transform, permutations, parity}
-use Rattle.definitions.proofs.MapLaws.{Fits}
-use Rattle.definitions.proofs.GroupLaws.{sameMap, sameMap→eq, codeOf}
-use Rattle.definitions.proofs.ActLaws.{mapsOf}
-use Rattle.definitions.proofs.MapNumberLaws.{map-in, map-fits}
-use Rattle.shape.specs.Coords.{Fit}
-use Rattle.shape.specs.Lines.{strideOf, lineBy, stepTo, lineOf, layerOf, boxOf, Short, LayerIn}
+use Rattle.lists.proofs.PartLaws.{parts-length, parts-next}
+use Rattle.definitions.specs.Grid.{Sides, Cell, Grid, box, volume, placeOf, byteAt, gridWith}
+use Rattle.definitions.specs.Maps.{Map, mapOf, side, coordinate, mapSides, mapCell, mapGrid, inverse, axisOf, flipOf, turns, mirrorings, transform, permutations, parity}
+use Rattle.theorems.proofs.MapLaws.{Fits}
+use Rattle.theorems.proofs.GroupLaws.{sameMap, sameMap→eq, codeOf}
+use Rattle.theorems.proofs.ActLaws.{mapsOf}
+use Rattle.theorems.proofs.MapNumberLaws.{map-in, map-fits}
+use Rattle.shape.specs.Lines.{strideOf, lineBy, stepTo, lineOf, layerOf, boxOf, LayerIn}
 use Rattle.shape.specs.declared.lines.Line.{Line}
 use Rattle.shape.proofs.MapTableLaws.{third}
 use Rattle.shape.proofs.PlaceLaws.{place-lt, map-volume}
-use Rattle.shape.proofs.TurningLaws.{parts-length, parts-next}
 
 -- ---- strides, by the tests of the code
 pub stride-last : (s : Sides) (i : ℕ) → (i ≡ 0 → ⊥) → (i ≡ 1 → ⊥) → strideOf s i ≡ 1

@@ -14,9 +14,9 @@ use Rattle.lists.proofs.TestLaws.{and-left, and-right, is-true, is-false, not-T
 use Rattle.lists.proofs.ListLaws.{getD-map, all-at}
 use Rattle.definitions.specs.Grid.{Sides, Cell}
 use Rattle.definitions.specs.Maps.{Map, side, coordinate, fromEnd, mapOf, maps, identity, inverse, product, axisAt, flipAt, axisOf, flipOf, turns, mirrorings, transform, permutations, parity, isMirroring}
-use Rattle.definitions.proofs.GroupLaws.{sameMap, sameMap→eq, codeOf}
-use Rattle.definitions.proofs.ActLaws.{plus, mapsOf, product-in}
-use Rattle.definitions.proofs.MapNumberLaws.{map-in}
+use Rattle.theorems.proofs.GroupLaws.{sameMap, sameMap→eq, codeOf}
+use Rattle.theorems.proofs.ActLaws.{plus, mapsOf, product-in}
+use Rattle.theorems.proofs.MapNumberLaws.{map-in}
 use Rattle.shape.specs.Coords.{asMap}
 use Rattle.shape.specs.declared.constants.Axes.{Axes}
 

@@ -13,9 +13,9 @@ use Rattle.definitions.specs.Maps.{Map, mapOf, mapSides, mapCell, inverse, mapG
 use Rattle.definitions.specs.Moves.{Quarter, Move, quarterSides, quartersSides, moveSides, sidesAfterAll}
 use Rattle.definitions.specs.Moves.Quarter.{aboutX, aboutY, aboutZ}
 use Rattle.definitions.specs.Moves.Move.{turn, mirroring}
-pub use Rattle.definitions.proofs.MapLaws.{digits-lt, place-lt}
-use Rattle.definitions.proofs.MapLaws.{cell-path, byte-with}
-use Rattle.definitions.proofs.MapNumberLaws.{map-done, map-fits, sides-back}
+pub use Rattle.theorems.proofs.MapLaws.{digits-lt, place-lt}
+use Rattle.theorems.proofs.MapLaws.{cell-path, byte-with}
+use Rattle.theorems.proofs.MapNumberLaws.{map-done, map-fits, sides-back}
 use Rattle.shape.specs.Coords.{Fit}
 use Rattle.shape.specs.Places.{cellAt, imagePlace, sourcePlace}
 

@@ -17,11 +17,11 @@ use Rattle.lists.proofs.ListLaws.{map-same}
 use Rattle.definitions.specs.Grid.{Sides, Cell, Grid, box, volume, placeOf, byteAt, gridWith, setDown, filledCells, InBox}
 use Rattle.definitions.specs.Maps.{side, coordinate}
 use Rattle.definitions.specs.Stripping.{corner, strip, FitsIn, frameOf}
-use Rattle.definitions.proofs.MapLaws.{byte-with, filled-at, filled-of}
-use Rattle.definitions.proofs.GroupLaws.{bytes-whole, coordinate-below}
-use Rattle.definitions.proofs.GridLaws.{length-box, set-down-none}
-use Rattle.definitions.proofs.StrippingLaws.{strip-is, strip-empty, strip-fits, some-or-none, corner-none}
-use Rattle.definitions.proofs.StrippedLaws.{Bounds, corner-by, strip-by}
+use Rattle.theorems.proofs.MapLaws.{byte-with, filled-at, filled-of}
+use Rattle.theorems.proofs.GroupLaws.{bytes-whole, coordinate-below}
+use Rattle.theorems.proofs.GridLaws.{length-box, set-down-none}
+use Rattle.theorems.proofs.StrippingLaws.{strip-is, strip-empty, strip-fits, some-or-none, corner-none}
+use Rattle.theorems.proofs.StrippedLaws.{Bounds, corner-by, strip-by}
 use Rattle.shape.specs.Coords.{Fit}
 use Rattle.shape.specs.Places.{cellAt}
 use Rattle.shape.specs.Stripping.{partOf}

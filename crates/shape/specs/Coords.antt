@@ -1,7 +1,7 @@
 -- What the code's values stand for among the definitions of document 01.
-use Prim.Native.Nat.{ℕ, _≤_}
+use Prim.Native.Nat.{_≤_}
 use mathlib.Core.Bool.{Bool, _&&_}
-use lib.Dec.{leb}
+use lib.Dec.{ltb, leb}
 use Rattle.definitions.specs.Grid.{Sides, Cell}
 use Rattle.definitions.specs.Maps.{Map}
 use Rattle.shape.specs.declared.Coord.{Coord}
@@ -21,3 +21,10 @@ pub record Fit (s : Sides) : Type 0 where
   pub a : s .a ≤ 8
   pub b : s .b ≤ 8
   pub c : s .c ≤ 8
+
+-- whether no side is above 8, and whether a cell lies in a box
+unfoldable pub isFit : Sides → Bool
+isFit s = leb (s .a) 8 && (leb (s .b) 8 && leb (s .c) 8)
+
+unfoldable pub liesIn : Sides → Cell → Bool
+liesIn s u = ltb (u .x) (s .a) && (ltb (u .y) (s .b) && ltb (u .z) (s .c))

@@ -1,13 +1,13 @@
 -- Grids that are lent as cells and sides, and how grids compare.
 use Prim.Native.Nat.{ℕ}
-use mathlib.Core.Bool.{Bool, true, false}
+use mathlib.Core.Bool.{Bool, true, false, _&&_}
 use mathlib.Core.List.{List, [], _∷_}
 use mathlib.Core.Path.{_≡_}
 use lib.Dec.{ltb, eqb}
 use lib.ListN.{length}
 use Rattle.lists.specs.Lists.{less, same}
 use Rattle.definitions.specs.Grid.{Sides, Grid, volume, sameGrid, gridAhead}
-use Rattle.shape.specs.Coords.{asSides, Fit}
+use Rattle.shape.specs.Coords.{asSides, Fit, isFit}
 use Rattle.shape.specs.declared.Coord.{Coord}
 use Rattle.shape.specs.declared.Ordering.{Ordering}
 use Rattle.shape.specs.declared.Ordering.the-variants.{Less, Equal, Greater}
@@ -19,6 +19,10 @@ asGrid s cells = record { sides = asSides s; cells = cells }
 pub record Whole (s : Coord) (cells : List ℕ) : Type 0 where
   pub fit : Fit (asSides s)
   pub size : length cells ≡ volume (asSides s)
+
+-- whether that is so of a grid
+unfoldable pub isWhole : Grid → Bool
+isWhole g = isFit (g .sides) && eqb (length (g .cells)) (volume (g .sides))
 
 -- what an answer tells: the fact, or that it does not hold
 abbrev pub Decided : Bool → Type 0 → Type 0

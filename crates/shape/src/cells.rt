@@ -1,19 +1,50 @@
 // Cells of a box and their places: x slowest, z fastest.
+ghost use mathlib.Core.Bool.{cond};
 ghost use mathlib.Core.Path.{_≡_};
 ghost use Prim.Native.Nat.{_+_, _<_, _≤_};
 ghost use Rattle.definitions.specs.Grid.{volume, placeOf, InBox};
-ghost use Rattle.definitions.specs.Maps.{mapOf, mapSides};
-ghost use Rattle.shape.specs.Coords.{asSides, asCell, Fit};
+ghost use Rattle.definitions.specs.Maps.{mapOf};
+ghost use Rattle.shape.specs.Coords.{asSides, asCell, Fit, isFit};
+ghost use Rattle.shape.specs.Grids.{Decided};
 ghost use Rattle.shape.specs.Places.{cellAt, imagePlace, sourcePlace};
 use super::Coord;
 use super::maps::Map;
 
-// How many cells a box has.
-pub fn volume_of(s: Coord) -> usize
+// How many cells a box has whose sides are at most 8.
+pub(crate) fn fit_volume(s: Coord) -> usize
     requires { ⌜ Fit (asSides s) ⌝ }
     ensures { λ r. ⌜ (r ≡ volume (asSides s)) × (r ≤ 512) ⌝ }
 {
     s.0 * s.1 * s.2
+}
+
+// How many cells a box has; 0 where a side is above 8.
+pub fn volume_of(s: Coord) -> usize
+    ensures { λ r. ⌜ (r ≡ cond (isFit (asSides s)) (volume (asSides s)) 0) × (r ≤ 512) ⌝ }
+{
+    if 8 < s.0 {
+        return 0;
+    }
+    if 8 < s.1 {
+        return 0;
+    }
+    if 8 < s.2 {
+        return 0;
+    }
+    fit_volume(s)
+}
+
+// Whether a box has a cell.
+pub fn in_box(s: Coord, u: Coord) -> bool
+    ensures { λ r. ⌜ Decided r (InBox (asSides s) (asCell u)) ⌝ }
+{
+    if s.0 <= u.0 {
+        return false;
+    }
+    if s.1 <= u.1 {
+        return false;
+    }
+    u.2 < s.2
 }
 
 pub fn place(s: Coord, u: Coord) -> usize

@@ -1,4 +1,5 @@
 // Grids and turned grids.
+ghost use mathlib.Core.Bool.{cond, _&&_};
 ghost use mathlib.Core.Path.{_≡_};
 ghost use Prim.Native.Nat.{_+_, _<_, _≤_};
 ghost use lib.ListN.{length, take, drop, getD};
@@ -7,15 +8,15 @@ ghost use lib.Dec.{eqb, leb};
 ghost use Rattle.lists.specs.Lists.{all, howMany};
 ghost use Rattle.definitions.specs.Grid.{volume, byteAt, sameGrid, InBox};
 ghost use Rattle.definitions.specs.Maps.{mapOf, mapSides, mapGrid};
-ghost use Rattle.shape.specs.Coords.{asSides, asCell};
-ghost use Rattle.shape.specs.Grids.{asGrid, Decided, Whole, listOrder, numberOrder, sidesOrder, gridOrder};
+ghost use Rattle.shape.specs.Coords.{asSides, asCell, liesIn};
+ghost use Rattle.shape.specs.Grids.{asGrid, Decided, Whole, isWhole, listOrder, numberOrder, sidesOrder, gridOrder};
 use super::Coord;
 use super::Ordering;
 use super::cells;
 use super::lines;
 use super::maps::Map;
 
-// Whether no side is above 8 and there is a byte for each cell: what the functions below ask of a grid.
+// Whether no side is above 8 and there is a byte for each cell: what most functions below ask of a grid. The others answer 0 or false where it is not so.
 pub fn is_whole(cells: &[u8], s: Coord) -> bool
     ensures { λ r. ⌜ Decided r (Whole s (now (cells .entry))) ⌝ }
 {
@@ -28,7 +29,7 @@ pub fn is_whole(cells: &[u8], s: Coord) -> bool
     if 8 < s.2 {
         return false;
     }
-    let v = cells::volume_of(s);
+    let v = cells::fit_volume(s);
     cells.len() == v
 }
 
@@ -42,7 +43,7 @@ pub fn get(cells: &[u8], s: Coord, u: Coord) -> u8
 }
 
 // The byte at place j of the turned (or mirrored) grid.
-pub fn turned_byte(cells: &[u8], s: Coord, m: Map, j: usize) -> u8
+fn moved_byte(cells: &[u8], s: Coord, m: Map, j: usize) -> u8
     requires { ⌜ Whole s (now cells) × (j < volume (asSides s)) ⌝ }
     ensures { λ r. ⌜ r ≡ getD (mapGrid (mapOf (m .0)) (asGrid s (now (cells .entry))) .cells) j 0 ⌝ }
 {
@@ -50,13 +51,36 @@ pub fn turned_byte(cells: &[u8], s: Coord, m: Map, j: usize) -> u8
     cells[i]
 }
 
-// The byte of a cell of the turned (or mirrored) grid.
-pub fn turned_get(cells: &[u8], s: Coord, m: Map, u: Coord) -> u8
-    requires { ⌜ Whole s (now cells) × InBox (mapSides (mapOf (m .0)) (asSides s)) (asCell u) ⌝ }
-    ensures { λ r. ⌜ r ≡ byteAt (mapGrid (mapOf (m .0)) (asGrid s (now (cells .entry)))) (asCell u) ⌝ }
+// The same for any grid and place: 0 where the grid is not whole, or has no such place.
+pub fn turned_byte(cells: &[u8], s: Coord, m: Map, j: usize) -> u8
+    ensures { λ r. do
+      let g = asGrid s (now (cells .entry))
+      ⌜ r ≡ cond (isWhole g) (getD (mapGrid (mapOf (m .0)) g .cells) j 0) 0 ⌝ }
 {
-    let j = cells::place(m.sides(s), u);
-    turned_byte(cells, s, m, j)
+    if !is_whole(cells, s) {
+        return 0;
+    }
+    if cells.len() <= j {
+        return 0;
+    }
+    moved_byte(cells, s, m, j)
+}
+
+// The byte of a cell of the turned (or mirrored) grid; 0 where the grid is not whole, or the cell lies outside the turned box.
+pub fn turned_get(cells: &[u8], s: Coord, m: Map, u: Coord) -> u8
+    ensures { λ r. do
+      let g = asGrid s (now (cells .entry))
+      ⌜ r ≡ cond (isWhole g && liesIn (mapSides (mapOf (m .0)) (asSides s)) (asCell u)) (byteAt (mapGrid (mapOf (m .0)) g) (asCell u)) 0 ⌝ }
+{
+    if !is_whole(cells, s) {
+        return 0;
+    }
+    let t = m.sides(s);
+    if !cells::in_box(t, u) {
+        return 0;
+    }
+    let j = cells::place(t, u);
+    moved_byte(cells, s, m, j)
 }
 
 // The turned (or mirrored) grid, cell by cell, into a slice from a place on.
@@ -152,11 +176,15 @@ fn compare_bytes(cells: &[u8], s: Coord, m: Map, others: &[u8], t: Coord, n: Map
     compare_parts(&one, 0, &two, 0, cells.len())
 }
 
-// Whether a map brings a grid onto itself (`compute_symmetry`).
+// Whether a map brings a grid onto itself (`compute_symmetry`); not where the grid is not whole.
 pub fn keeps(cells: &[u8], s: Coord, m: Map) -> bool
-    requires { ⌜ Whole s (now cells) ⌝ }
-    ensures { λ r. ⌜ r ≡ sameGrid (mapGrid (mapOf (m .0)) (asGrid s (now (cells .entry)))) (asGrid s (now (cells .entry))) ⌝ }
+    ensures { λ r. do
+      let g = asGrid s (now (cells .entry))
+      ⌜ r ≡ isWhole g && sameGrid (mapGrid (mapOf (m .0)) g) g ⌝ }
 {
+    if !is_whole(cells, s) {
+        return false;
+    }
     let o = compare_turned(cells, s, m, cells, s, Map(0));
     match o {
         Ordering::Less => false,

@@ -84,7 +84,7 @@ fn copy_part(cells: &[u8], s: Coord, part: Window, out: &mut [u8], start: usize)
 {
     let at = part.at;
     let sides = part.sides;
-    let v = cells::volume_of(sides);
+    let v = cells::fit_volume(sides);
     let mut j = 0;
     while j < v {
         let u = cells::cell_at(sides, j);

@@ -8,7 +8,7 @@ use native.Mathlib.Omega.{arith}
 use lib.ListN.{length}
 use Rattle.placements.proofs.RefusalLaws.{sides-some}
 use Rattle.definitions.specs.Kept.{Identify}
-use Rattle.definitions.specs.Emission.{Emitted, begin, emits}
+use Rattle.definitions.specs.Emission.{Emitted, answersIn, begin, emits}
 use Rattle.definitions.specs.Orders.{packings, listed}
 use Rattle.definitions.specs.Outcomes.{answersOf, cleared, numberOf, outcomeOf, refused}
 use Rattle.definitions.specs.Refusals.{Call, identifyOf, isKnuth, lentOf, refusal, trayOf}
@@ -20,8 +20,8 @@ use Rattle.definitions.specs.declared.Refusal.{Refusal}
 use Rattle.definitions.specs.declared.SolverKind.{SolverKind}
 use Rattle.definitions.specs.declared.SolverKind.the-variants.{Auto, Naive, Fast, KnuthAlgorithm}
 use Rattle.definitions.specs.declared.Start.{Start}
-use Rattle.definitions.proofs.RefusalLaws.{board-sides, passed}
-use Rattle.definitions.proofs.StartLaws.{cleared-again, from-refused, page-is, page-outcome}
+use Rattle.theorems.proofs.RefusalLaws.{board-sides, passed}
+use Rattle.theorems.proofs.StartLaws.{cleared-again, from-refused, page-is, page-outcome}
 use Rattle.placements.specs.Pieces.{trayIn}
 use Rattle.placements.proofs.CountingLaws.{refused-some}
 use Rattle.placements.proofs.StageLaws.{refusal-stages}
@@ -35,8 +35,8 @@ use Rattle.knuth.proofs.KnuthPageLaws.{knuth-answers, links-many}
 use Rattle.solver.specs.Lent.{LinksAfter, answersBy, callWith}
 use Rattle.solver.specs.Preparing.{Stands, refusalBy}
 
--- what an engine lists over the row system of an accepted tray is the one list
-lists : (l : Call) → refusal l ≡ 0 → (i : Identify) (e : SolverKind) → answersBy (systemOf (trayOf l)) i e ≡ answersOf (trayOf l) i e
+-- what an engine lists over the row system of an accepted tray has the answers of the one list
+lists : (l : Call) → refusal l ≡ 0 → (i : Identify) (e : SolverKind) → answersIn (answersBy (systemOf (trayOf l)) i e) ≡ answersOf (trayOf l) i e
 unfolding answersBy answersOf listed packings
 lists l ok i Auto = refl
 lists l ok i Naive = refl
@@ -94,9 +94,9 @@ module _ (rs : List Record) (board : Record) (bytes : List ℕ) (config : Config
         let b = passed call ok .fewLinks k in
         subst (λ (x : System). length (linkNodes x) ≤ 4096) (sym (s .system)) (omega arith)
 
-    answers-are : answersBy (systemIn d after chart) (identifyOf config) (config .solver) ≡ listOf (callWith rs board bytes config answers work links)
+    answers-are : answersIn (answersBy (systemIn d after chart) (identifyOf config) (config .solver)) ≡ listOf (callWith rs board bytes config answers work links)
     unfolding callWith lentOf trayOf
-    answers-are = ap (λ (x : System). answersBy x (identifyOf config) (config .solver)) (s .system) ∙ lists call ok (identifyOf config) (config .solver)
+    answers-are = ap (λ (x : System). answersIn (answersBy x (identifyOf config) (config .solver))) (s .system) ∙ lists call ok (identifyOf config) (config .solver)
 
     -- what an engine emits from where the page starts, and the slices once they are cleared
     module _ (start : Start) (last : List ℕ) (e r : Emission) (waits : e .waiting ≡ waitsAt start) (skips : e .skip ≡ skipAt start) (none : e .written ≡ 0) (goes : e .further ≡ false)
@@ -107,8 +107,9 @@ module _ (rs : List Record) (board : Record) (bytes : List ℕ) (config : Config
       page : PageIs last (waitsAt start) (skipping (skipAt start) (callWith rs board bytes config answers work links)) (r .waiting) (r .written) (r .further) new
       unfolding callWith lentOf trayOf
       page =
-          page-is (skipping (skipAt start) call) last (waitsAt start) (d .places) (s .places) (emittedOf r last new)
-          (is ∙ (λ i. emits (length answers / (2 * d .places)) (answers-are i) (begins i)))
+          let list = answersBy (systemIn d after chart) (identifyOf config) (config .solver) in
+          page-is (skipping (skipAt start) call) last (waitsAt start) (d .places) (s .places) list answers-are (emittedOf r last new)
+          (is ∙ ap (emits (length answers / (2 * d .places)) list) begins)
 
       pub page-left : (work′ links₁ links₂ : List ℕ) → work′ ≡ cleared 8192 after → LinksAfter (config .solver) links links₁
           → links₂ ≡ cond (isKnuth (config .solver)) (cleared 32768 links₁) links₁

@@ -23,7 +23,7 @@ use Rattle.definitions.specs.Framing.{unframed}
 use Rattle.definitions.specs.Stripping.{frameOf}
 use Rattle.definitions.specs.declared.Config.{Config}
 use Rattle.definitions.specs.declared.Record.{Record}
-use Rattle.definitions.proofs.RefusalLaws.{passed, fit-volume}
+use Rattle.theorems.proofs.RefusalLaws.{passed, fit-volume}
 use Rattle.placements.specs.declared.Pieces.{Pieces}
 use Rattle.placements.specs.Pieces.{framedIn, recordsOf, trayIn}
 use Rattle.placements.specs.Stripping.{StripsTray}
@@ -43,7 +43,7 @@ use Rattle.rows.proofs.SystemLaws.{lawful}
 use Rattle.rows.proofs.AnswerLaws.{copies-many}
 use Rattle.rows.proofs.BuildSystemLaws.{fastCall, fast-accepted, turns-numbered, mirrorings-numbered}
 use Rattle.kept.specs.Ready.{Ready}
-use Rattle.kept.proofs.ReadyLaws.{few-rows, few-kinds}
+use Rattle.kept.proofs.ReadyLaws.{few-rows}
 
 -- ---- what is lent
 -- no more maps of a board than maps
@@ -104,9 +104,6 @@ module _ (t : Pieces) (board : Record) (bytes : List ℕ) (ok : Accepted9 t boar
 
     law : Lawful S
     law = subst Lawful (sym is) system-lawful
-
-    pub kinds-few : d .kinds ≤ 16
-    kinds-few = few-kinds d work chart law
 
     turns-few : d .turns ≤ 24
     unfolding systemIn systemOver systemOf imagesIn imagesOf

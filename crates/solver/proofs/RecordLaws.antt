@@ -17,7 +17,7 @@ use Rattle.definitions.specs.declared.Record.{Record}
 use Rattle.definitions.specs.declared.Config.{Config}
 use Rattle.definitions.specs.Starts.{outcomeFrom}
 use Rattle.definitions.specs.declared.Start.{Start}
-use Rattle.definitions.proofs.StartLaws.{from-refused}
+use Rattle.theorems.proofs.StartLaws.{from-refused}
 use Rattle.placements.specs.declared.Pieces.{Pieces}
 use Rattle.placements.specs.Pieces.{noRecord, recordsOf, emptyPieces, putRecord, piecesOf}
 use Rattle.placements.proofs.RefusalLaws.{records-few, records-count}

@@ -5,6 +5,7 @@ use mathlib.Core.Path.{_≡_}
 use mathlib.Core.Bool.{true}
 use lib.ListN.{length, drop}
 use Rattle.definitions.specs.Kept.{Identify}
+use Rattle.definitions.specs.Emission.{Listed}
 use Rattle.definitions.specs.Refusals.{Call, isKnuth}
 use Rattle.definitions.specs.declared.Record.{Record}
 use Rattle.definitions.specs.declared.Config.{Config}
@@ -21,7 +22,7 @@ callWith pieces board bytes config answers work links =
     record { pieces = pieces; board = board; bytes = bytes; config = config; skip = 0; answers = answers; work = work; links = links }
 
 -- what an engine lists over a row system
-unfoldable pub answersBy : System → Identify → SolverKind → List (List ℕ)
+unfoldable pub answersBy : System → Identify → SolverKind → List Listed
 answersBy s i Auto = []
 answersBy s i Naive = []
 answersBy s i Fast = fastAnswers s i

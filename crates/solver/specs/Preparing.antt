@@ -5,7 +5,7 @@ use mathlib.Core.Path.{_≡_}
 use lib.ListN.{length, drop}
 use Rattle.definitions.specs.Grid.{volume}
 use Rattle.definitions.specs.Placements.{compile}
-use Rattle.definitions.specs.Refusals.{Row, firstThatApplies, linkCount, sidesOf}
+use Rattle.definitions.specs.Refusals.{Row, firstThatApplies, sidesOf}
 use Rattle.definitions.specs.Outcomes.{numberOf}
 use Rattle.definitions.specs.declared.Record.{Record}
 use Rattle.definitions.specs.declared.Config.{Config}

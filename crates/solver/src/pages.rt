@@ -1,9 +1,9 @@
 // The page call over pieces by value, with the engine in its configuration.
 ghost use mathlib.Core.Bool.{false};
 ghost use mathlib.Core.Path.{_≡_};
-ghost use Prim.Native.Nat.{_*_, _≤_, _<_, _/_};
-ghost use lib.ListN.{drop, length};
-ghost use Rattle.definitions.specs.Emission.{begin, emits};
+ghost use Prim.Native.Nat.{_*_, _<_, _/_};
+ghost use lib.ListN.{length};
+ghost use Rattle.definitions.specs.Emission.{emits};
 ghost use Rattle.definitions.specs.Outcomes.{outcomeOf};
 ghost use Rattle.definitions.specs.Refusals.{identifyOf};
 ghost use Rattle.definitions.specs.Starts.{Meets, outcomeFrom, replyOf, skipAt, waitsAt};

@@ -2,7 +2,7 @@
 ghost use mathlib.Core.Path.{_≡_};
 ghost use lib.ListN.{length};
 ghost use Rattle.rows.specs.Charts.{chartLength};
-ghost use Rattle.solver.specs.Preparing.{Prepares, RefusedBy, firstRows};
+ghost use Rattle.solver.specs.Preparing.{Prepares, firstRows};
 ghost use Rattle.placements.specs.Stages.{verdictNumber};
 ghost use Rattle.placements.specs.Pieces.{recordsOf};
 ghost use Rattle.definitions.specs.Refusals.{firstThatApplies};

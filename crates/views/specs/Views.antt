@@ -1,18 +1,11 @@
 -- A cell of a grid that is lent as cells and sides, whatever these are.
 use Prim.Native.Nat.{ℕ}
-use mathlib.Core.Bool.{Bool, cond, _&&_}
+use mathlib.Core.Bool.{cond, _&&_}
 use mathlib.Core.List.{List}
-use lib.Dec.{ltb, leb, eqb}
-use lib.ListN.{length}
-use Rattle.definitions.specs.Grid.{Sides, Cell, Grid, volume, byteAt}
+use Rattle.definitions.specs.Grid.{Cell, Grid, byteAt}
 use Rattle.definitions.specs.Maps.{mapOf, mapGrid}
-
--- no side is above 8, and there is a byte for each cell; a cell lies in a box
-unfoldable pub isWhole : Grid → Bool
-isWhole g = leb (g .sides .a) 8 && (leb (g .sides .b) 8 && (leb (g .sides .c) 8 && eqb (length (g .cells)) (volume (g .sides))))
-
-unfoldable pub liesIn : Sides → Cell → Bool
-liesIn s u = ltb (u .x) (s .a) && (ltb (u .y) (s .b) && ltb (u .z) (s .c))
+use Rattle.shape.specs.Coords.{liesIn}
+use Rattle.shape.specs.Grids.{isWhole}
 
 abbrev pub gridFrom : List ℕ → ℕ → ℕ → ℕ → Grid
 gridFrom cells a b c = record { sides = record { a = a; b = b; c = c }; cells = cells }

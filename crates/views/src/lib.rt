@@ -1,25 +1,11 @@
 // A view of lent cells with three sides stands for `CubicGrid` (shape.rs): get and turned-get, thin above the functions on slice and sides.
 // Nothing is assumed: a cell outside the box is 0. No other crate uses it (docs/DECISIONS.md says why it stands).
 ghost use mathlib.Core.Path.{_≡_};
-ghost use Rattle.shape.specs.Grids.{Decided};
-ghost use Rattle.definitions.specs.Grid.{InBox};
-ghost use Rattle.shape.specs.Coords.{asCell, asSides};
 ghost use Rattle.views.specs.Views.{cellSeen, turnedSeen};
 use shape::Coord;
+use shape::cells;
 use shape::grids;
 use shape::maps::Map;
-
-fn in_box(s: Coord, u: Coord) -> bool
-    ensures { λ r. ⌜ Decided r (InBox (asSides s) (asCell u)) ⌝ }
-{
-    if s.0 <= u.0 {
-        return false;
-    }
-    if s.1 <= u.1 {
-        return false;
-    }
-    u.2 < s.2
-}
 
 // The cell (x, y, z) of a grid: 0 outside its box, and where a side is above 8 or there is not a byte for each cell.
 pub fn cell_at(cells: &[u8], a: usize, b: usize, c: usize, x: usize, y: usize, z: usize) -> u8
@@ -28,7 +14,7 @@ pub fn cell_at(cells: &[u8], a: usize, b: usize, c: usize, x: usize, y: usize, z
     let s = Coord(a, b, c);
     let u = Coord(x, y, z);
     if grids::is_whole(cells, s) {
-        if in_box(s, u) {
+        if cells::in_box(s, u) {
             return grids::get(cells, s, u);
         }
     }
@@ -48,15 +34,7 @@ pub fn turned_at(
 ) -> u8
     ensures { λ r. ⌜ r ≡ turnedSeen (now (cells .entry)) a b c map x y z ⌝ }
 {
-    let s = Coord(a, b, c);
-    let m = Map(map);
-    let u = Coord(x, y, z);
-    if grids::is_whole(cells, s) {
-        if in_box(m.sides(s), u) {
-            return grids::turned_get(cells, s, m, u);
-        }
-    }
-    0
+    grids::turned_get(cells, Coord(a, b, c), Map(map), Coord(x, y, z))
 }
 
 pub struct GridView<'a> {

@@ -45,7 +45,7 @@ use denote.Exit.{yes}
 use Rattle.definitions.specs.Outcomes.{outcomeOf}
 use Rattle.definitions.specs.Refusals.{Call}
 use Rattle.definitions.specs.Starts.{Meets, outcomeFrom}
-use Rattle.definitions.proofs.StartLaws.{meets-from}
+use Rattle.theorems.proofs.StartLaws.{meets-from}
 use Rattle.solver.specs.Lent.{callWith}
 use Rattle.solver.proofs.Calls.{_▸_, calls-fact, calls-lasts, first-said, says-two}
 use Rattle.ferghuul.specs.Numbers.{configOf, numbersOf, outcomeBy, startOf}

@@ -11,10 +11,10 @@ use Rattle.links.proofs.choose_column.Statement.{statement}
 use Rattle.links.proofs.choose_column.Tie as tie
 
 abbrev Inv-loop : tie.InvT-loop
-Inv-loop links cells at₀ fewest₀ i₀ at fewest i = (i ≤ cells) × (fewest ≡ least (sizeOf links) i) × (at ≡ pivot (sizeOf links) i)
+Inv-loop links primary at₀ fewest₀ i₀ at fewest i = (i ≤ primary) × (fewest ≡ least (sizeOf links) i) × (at ≡ pivot (sizeOf links) i)
 
 abbrev μ-loop : tie.MeasureT-loop
-μ-loop links cells at₀ fewest₀ i₀ at fewest i = cells - i
+μ-loop links primary at₀ fewest₀ i₀ at fewest i = primary - i
 
 loop-holds : tie.Need-loop-holds Inv-loop μ-loop
 loop-holds c = (omega arith, pivot-start (sizeOf (c .before .args .links .now)) .0, pivot-start (sizeOf (c .before .args .links .now)) .1)

@@ -13,10 +13,10 @@ use Rattle.links.proofs.open_columns.Statement.{statement}
 use Rattle.links.proofs.open_columns.Tie as tie
 
 abbrev Inv-loop : tie.InvT-loop
-Inv-loop links cells count₀ i₀ count i = (i ≤ cells) × (count ≤ i) × (count ≡ tally (hasRow links) i)
+Inv-loop links primary count₀ i₀ count i = (i ≤ primary) × (count ≤ i) × (count ≡ tally (hasRow links) i)
 
 abbrev μ-loop : tie.MeasureT-loop
-μ-loop links cells count₀ i₀ count i = cells - i
+μ-loop links primary count₀ i₀ count i = primary - i
 
 loop-holds : tie.Need-loop-holds Inv-loop μ-loop
 unfolding tally

@@ -58,9 +58,9 @@ returns c =
     let at-take-copy = at-purge-run .before .before .before .before in
     let at-wide2 = at-take-copy .before .before in
     let at-wide = at-wide2 .before .before in (
-      λ w uncovered copies cells left s l. sel-done s l _ _ (at-wide .wide .ensures) (at-wide2 .wide2 .ensures) _ _ (at-take-copy .take-copy .ensures .0)
+      λ w uncovered copies primary left s l. sel-done s l _ _ (at-wide .wide .ensures) (at-wide2 .wide2 .ensures) _ _ (at-take-copy .take-copy .ensures .0)
           (at-take-copy .take-copy .ensures .1) _ (at-purge-run .purge-run .ensures),
-      λ w uncovered copies cells left s l. sel-first s l _ _ (at-wide .wide .ensures) (at-wide2 .wide2 .ensures) _ _ (at-take-copy .take-copy .ensures .0) (at-take-copy .take-copy .ensures .1),
+      λ w uncovered copies primary left s l. sel-first s l _ _ (at-wide .wide .ensures) (at-wide2 .wide2 .ensures) _ _ (at-take-copy .take-copy .ensures .0) (at-take-copy .take-copy .ensures .1),
     )
 
 pub select-row-spec : {M : Type 1} → statement M

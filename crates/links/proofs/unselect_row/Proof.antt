@@ -63,7 +63,7 @@ returns c =
     let at-unpurge-run = at-give-copy .before .before .before .before in
     let at-wide2 = at-unpurge-run .before .before in
     let at-wide = at-wide2 .before .before in
-    λ w uncovered copies cells left m s l f e. unsel-back s l e _ f _ _ (at-wide .wide .ensures) (at-wide2 .wide2 .ensures) _
+    λ w uncovered copies primary left m s l f e. unsel-back s l e _ f _ _ (at-wide .wide .ensures) (at-wide2 .wide2 .ensures) _
     (at-unpurge-run .unpurge-run .ensures) _ (at-give-copy .give-copy .ensures)
 
 pub unselect-row-spec : {M : Type 1} → statement M

@@ -3,46 +3,50 @@
 use Prim.Native.Nat.{ℕ, _+_, _-_, _≤_, _<_}
 use mathlib.Core.List.{List, []}
 use mathlib.Core.Logic.{⊎-elim}
-use mathlib.Core.Path.{_≡_, refl, sym, ap, ap₂, _∙_}
+use mathlib.Core.Path.{_≡_, refl, sym, ap, ap₂, _∙_, subst}
 use native.Mathlib.Omega.{arith}
 use borrow.Author.Needs.{needs}
 use borrow.Author.Tests.{not-true}
 use denote.Ref.{now}
-use lib.ListN.{length, getD, set, length-set}
-use lib.Seq.{getD-set-same}
+use lib.ListN.{length, getD}
 use Rattle.lists.proofs.TestLaws.{and-true-left}
-use Rattle.lists.proofs.ListLaws.{getD-pos}
-use Rattle.definitions.specs.Emission.{Emitted, emits}
+use Rattle.definitions.specs.Emission.{Emitted, Listed, emits}
 use Rattle.definitions.specs.Kept.{Identify}
 use Rattle.definitions.specs.Orders.{State}
 use Rattle.rows.specs.Systems.{System, systemIn}
 use Rattle.kept.specs.Emission.{emittedOf, identified}
-use Rattle.kept.specs.Ready.{Ready}
+use Rattle.kept.specs.Ready.{Ready, Restored}
 use Rattle.kept.specs.declared.emission.Emission.{Emission}
 use Rattle.rows.specs.Rows.{rowAt}
 use Rattle.fast.specs.Searching.{fastBelow, stateBy}
 use Rattle.fast.specs.Pruned.{prunedBy, fastFirst}
+use Rattle.fast.specs.States.{leftAt, stateLength, leftPart}
 use Rattle.kept.proofs.ReadyLaws.{rows-many, few-rows}
 use Rattle.fast.proofs.PrunedLaws.{nothingCovered, firstFrom, first-start, first-emitted, first-untried, first-full, first-over, first-left}
-use Rattle.fast.proofs.PrunedLaws.{copy-back, later-kinds, first-kind, first-path, first-state, first-searching}
+use Rattle.fast.proofs.PrunedLaws.{later-kinds, first-kind, first-path, first-state, first-searching}
+use Rattle.fast.proofs.StateLaws.{left-at, placed-length, after-count, restored-left, restored-length}
 use Rattle.fast.proofs.pruning.search_first.Statement.{statement}
 use Rattle.fast.proofs.pruning.search_first.Tie as tie
 
 abbrev Inv-loop : tie.InvT-loop
-Inv-loop d work chart wanted left₀ path₀ last shown answers₀ s₀ r₀ left path answers s r =
+Inv-loop d work chart wanted state₀ last shown answers₀ s₀ r₀ state answers s r =
     let S = systemIn d work chart in
     let i = identified wanted in
-    let t = stateBy S left₀ nothingCovered [] in
-    (left ≡ left₀) × (length path ≡ length path₀) × (length answers ≡ length answers₀) × (r ≤ d .rows)
+    let t = stateBy S (leftPart state₀) nothingCovered [] in
+    (leftPart state ≡ leftPart state₀) × (length state ≡ stateLength) × (length answers ≡ length answers₀) × (r ≤ d .rows)
     × (emits (wanted .capacity) (firstFrom S i t (d .rows) r) (emittedOf s last answers)
     ≡ emits (wanted .capacity) (firstFrom S i t (d .rows) 0) (emittedOf s₀ last answers₀))
 
 abbrev μ-loop : tie.MeasureT-loop
-μ-loop d work chart wanted left₀ path₀ last shown answers₀ s₀ r₀ left path answers s r = d .rows - r
+μ-loop d work chart wanted state₀ last shown answers₀ s₀ r₀ state answers s r = d .rows - r
 
--- ---- places of the code: the function's entry, the loop's test, a row of kind 0, it is and-true-left, and its search has ended; and from each back to an earlier one
+-- ---- places of the code: the function's entry, the state lent, the loop's test, a row of kind 0, it is tried, it is placed, its search has ended, and its
+-- copy is put back; and from each back to an earlier one
 abbrev Start : Type 0
 Start = tie.Start Inv-loop μ-loop
+
+abbrev Lent : Type 0
+Lent = tie.After-slice-known Inv-loop μ-loop
 
 abbrev Loop : Type 0
 Loop = tie.At-loop Inv-loop μ-loop
@@ -53,11 +57,20 @@ Row = tie.Else2 Inv-loop μ-loop
 abbrev Tried : Type 0
 Tried = tie.Then3 Inv-loop μ-loop
 
+abbrev Placed : Type 0
+Placed = tie.After-place-row Inv-loop μ-loop
+
 abbrev Searched : Type 0
 Searched = tie.After-search Inv-loop μ-loop
 
+abbrev Back : Type 0
+Back = tie.After-put-back Inv-loop μ-loop
+
+abbrev lent : Loop → Lent
+lent l = l .before .before .before .before
+
 abbrev entry : Loop → Start
-entry l = l .before .before .before .before .before .before .before .before
+entry l = lent l .before .before .before
 
 abbrev loop-of : Row → Loop
 loop-of c = c .before .before .before .before
@@ -65,10 +78,16 @@ loop-of c = c .before .before .before .before
 abbrev row-of : Tried → Row
 row-of c = c .before .before
 
-abbrev tried-of : Searched → Tried
-tried-of c = c .before .before .before .before .before .before
+abbrev tried-of : Placed → Tried
+tried-of c = c .before .before
 
-abbrev turn : Searched → Loop
+abbrev placed-of : Searched → Placed
+placed-of c = let at-mask = c .before .before .before in at-mask .before .before .before
+
+abbrev searched-of : Back → Searched
+searched-of c = let at-answers = c .before .before .before in at-answers .before .before .before
+
+abbrev turn : Placed → Loop
 turn c = loop-of (row-of (tried-of c))
 
 -- ---- what the contract speaks of
@@ -80,7 +99,7 @@ module _ (z : Start) where
   i = identified (z .args .wanted)
 
   abbrev t : State
-  t = stateBy S (now (z .args .left)) nothingCovered []
+  t = stateBy S (leftPart (now (z .args .state))) nothingCovered []
 
   abbrev capacity : ℕ
   capacity = z .args .wanted .capacity
@@ -95,12 +114,12 @@ module _ (z : Start) where
   whole-is : whole ≡ emits capacity (fastFirst S i t) old
   whole-is =
       let a = z .args in
-      ap (λ (l : List (List ℕ)). emits capacity l old) (first-start S i t (a .d .rows) (rows-many (a .d) (now (a .work)) (now (a .chart))))
+      ap (λ (l : List Listed). emits capacity l old) (first-start S i t (a .d .rows) (rows-many (a .d) (now (a .work)) (now (a .chart))))
 
   ready : Ready (z .args .d) (now (z .args .work)) (now (z .args .chart))
   ready = z .pre .0 .0
 
-  some-left : 0 < getD (now (z .args .left)) 0 0
+  some-left : 0 < getD (leftPart (now (z .args .state))) 0 0
   some-left = z .pre .0 .5
 
 -- what is on the page at the loop's test
@@ -115,68 +134,101 @@ module _ (c : Row) where
   kind-zero : rowAt (now (entry (loop-of c) .args .work)) (loop-of c .loop .r) .kind ≡ 0
   kind-zero = let l = c .if2 .left in omega (arith, c .before .kind-at .ensures)
 
--- ---- it is tried: there is a copy, and a place in the path
-module _ (l : Loop) where
-  left-some : 0 < length (l .loop .left)
-  left-some =
-      let a = entry l .args in
-      let e : length (l .loop .left) ≡ length (now (a .left)) = ap (λ (x : List ℕ). length x) (l .loop .inv .0) in
-      let k = getD-pos (now (a .left)) 0 (some-left (entry l)) in
-      omega arith
+-- ---- a copy is left
+copy-left : (l : Loop) → 0 < getD (leftPart (l .loop .state)) 0 0
+copy-left l = subst (λ (x : List ℕ). 0 < getD x 0 0) (sym (l .loop .inv .0)) (some-left (entry l))
 
-  path-is : length (l .loop .path) ≡ 128
-  path-is = l .loop .inv .1 ∙ entry l .pre .0 .1
+-- ---- the row is placed
+module _ (c : Placed) where
+  abbrev placed : List ℕ
+  placed = c .place-row .last .0
 
--- ---- after a search: the copy is put back, the slices are as long as before, and what is left to list is that of the rows behind
+  placed-long : length placed ≡ stateLength
+  placed-long = let l = turn c .loop in placed-length (l .state) placed 0 0 (l .r) (c .place-row .ensures) (l .inv .1) (omega arith) (omega arith)
+
+-- ---- after its search: the state is as long, and one copy of kind 0 is missing
 module _ (c : Searched) where
+  abbrev p : Placed
+  p = placed-of c
+
+  abbrev after : List ℕ
+  after = c .search .last .1 .1 .1 .1 .0
+
+  after-long : length after ≡ stateLength
+  after-long = c .search .ensures .1 .1 .long ∙ placed-long p
+
+  after-small : getD (leftPart after) 0 0 < 65535
+  after-small =
+      let l = turn p .loop in
+      let z = entry (turn p) in
+      let count =
+      after-count (l .state) (placed p) 0 0 (l .r) (p .place-row .ensures) (l .inv .1) (omega arith) (omega arith) (copy-left (turn p)) after
+      (c .search .ensures .1 .0) (c .search .ensures .1 .1) in
+      omega (arith, count, ap (λ (x : List ℕ). getD x 0 0) (l .inv .0), left-at (now (z .args .state)) 0 (omega arith), lent (turn p) .slice-known .given leftAt)
+
+-- ---- the copy is put back: the slices are as long as before, and what is left to list is that of the rows behind
+module _ (b : Back) where
+  abbrev c : Searched
+  c = searched-of b
+
+  abbrev l : Loop
+  l = turn (placed-of c)
+
   abbrev z : Start
-  z = entry (turn c)
+  z = entry l
 
-  abbrev left-after : List ℕ
-  left-after = c .search .last .1 .1 .1 .1 .0
+  abbrev back : List ℕ
+  back = b .put-back .last .0
 
-  abbrev path-after : List ℕ
-  path-after = c .search .last .1 .1 .1 .1 .1 .0
+  left-back : leftPart back ≡ leftPart (now (z .args .state))
+  left-back =
+      let q = placed-of c in
+      restored-left (l .loop .state) (placed q) 0 0 (l .loop .r) (q .place-row .ensures) (l .loop .inv .1) (omega arith) (omega arith) (copy-left l) (after c)
+      (c .search .ensures .1 .0) (c .search .ensures .1 .1) back (b .put-back .ensures)
+      ∙ l .loop .inv .0
+
+  back-long : length back ≡ stateLength
+  back-long =
+      let q = placed-of c in
+      restored-length (l .loop .state) (placed q) 0 0 (l .loop .r) (q .place-row .ensures) (l .loop .inv .1) (omega arith) (omega arith) (copy-left l) (after c)
+      (c .search .ensures .1 .0) (c .search .ensures .1 .1) back (b .put-back .ensures)
 
   abbrev answers-after : List ℕ
-  answers-after = c .search .last .1 .1 .1 .1 .1 .1 .1 .1 .1 .1 .0
-
-  put-back : set left-after 0 (getD left-after 0 0 + 1) ≡ now (z .args .left)
-  put-back = let l = turn c .loop in copy-back (l .left) (now (z .args .left)) left-after (l .inv .0) (some-left z) (c .search .ensures .1 .0)
-
-  left-long : 0 < length left-after
-  left-long = let l = turn c .loop in omega (arith, left-some (turn c), c .search .kept .1 .1 .1 .1 .0, length-set (l .left) 0 (getD (l .left) 0 0 - 1))
-
-  left-was : getD left-after 0 0 + 1 ≡ getD (now (z .args .left)) 0 0
-  left-was = sym (getD-set-same left-after 0 (getD left-after 0 0 + 1) 0 left-long) ∙ ap (λ (x : List ℕ). getD x 0 0) put-back
-
-  path-long : length path-after ≡ length (now (z .args .path))
-  path-long = let l = turn c .loop in c .search .ensures .1 .1 .long ∙ length-set (l .path) 0 (l .r) ∙ l .inv .1
+  answers-after = c .search .last .1 .1 .1 .1 .1 .1 .1 .1 .1 .0
 
   answers-long : length answers-after ≡ length (now (z .args .answers))
-  answers-long = c .search .kept .1 .1 .1 .1 .1 .1 .1 .1 .1 .1 .0 ∙ turn c .loop .inv .2
+  answers-long = c .search .kept .1 .1 .1 .1 .1 .1 .1 .1 .1 .0 ∙ l .loop .inv .2
 
   abbrev page-after : Emitted
   page-after = emittedOf (c .search .result) (now (z .args .last)) answers-after
 
-  emitted : emits (capacity z) (firstFrom (S z) (i z) (t z) (z .args .d .rows) (turn c .loop .r + 1)) page-after ≡ whole z
+  emitted : emits (capacity z) (firstFrom (S z) (i z) (t z) (z .args .d .rows) (l .loop .r + 1)) page-after ≡ whole z
   emitted =
       let a = z .args in
-      let l = turn c .loop in
-      let row = row-of (tried-of c) in
+      let q = placed-of c in
+      let tried = tried-of q in
+      let row = row-of tried in
       let h = is-row row in
       let k = kind-zero row in
-      let mask = c .before .before .before .before .mask-at in
-      let pruned = not-true (prunedBy (S z) (i z) (l .r)) (and-true-left _ _ (sym (tried-of c .before .is-first .ensures) ∙ tried-of c .if3 .taken)) in
-      let first = first-kind (a .d) (now (a .work)) (now (a .chart)) (ready z) (l .r) h k in
+      let r = l .loop .r in
+      let mask = c .before .before .before .mask-at in
+      let pruned = not-true (prunedBy (S z) (i z) r) (and-true-left _ _ (sym (tried .before .is-first .ensures) ∙ tried .if3 .taken)) in
+      let first = first-kind (a .d) (now (a .work)) (now (a .chart)) (ready z) r h k in
       let below =
-      first-state (a .d) (now (a .work)) (now (a .chart)) (ready z) (l .r) h k (l .path) (path-is (turn c)) (now (a .left)) (l .left) (mask .result) (l .inv .0)
-      (mask .ensures) in
-      first-emitted (S z) (i z) (t z) (a .d .rows) (l .r) (capacity z) (page (turn c)) (whole z) page-after h first pruned
-      (c .search .ensures .0 ∙ ap (λ (u : State). emits (capacity z) (fastBelow (S z) (i z) u) (page (turn c))) below) (l .inv .4)
+      first-state (a .d) (now (a .work)) (now (a .chart)) (ready z) r h k (now (a .state)) (l .loop .state) (placed q) (l .loop .inv .0) (l .loop .inv .1)
+      (q .place-row .ensures) (mask .result) (mask .ensures) in
+      first-emitted (S z) (i z) (t z) (a .d .rows) r (capacity z) (page l) (whole z) page-after h first pruned
+      (c .search .ensures .0 ∙ ap (λ (u : State). emits (capacity z) (fastBelow (S z) (i z) u) (page l)) below) (l .loop .inv .4)
+
+  -- what the function leaves
+  restored : Restored 0 (now (z .args .state)) back
+  restored = record { rows = refl; long = back-long ∙ sym (z .pre .0 .1) }
 
 loop-holds : tie.Need-loop-holds Inv-loop μ-loop
-loop-holds c = (refl, refl, refl, omega arith, refl)
+loop-holds c =
+    let at-state = c .before .before .before in
+    let z = at-state .before .before .before in
+    (refl, z .pre .0 .1, refl, omega arith, refl)
 
 kind-at-requires : tie.Need-kind-at-requires Inv-loop μ-loop
 kind-at-requires c κs = search needs
@@ -187,9 +239,6 @@ same-length c = search needs
 same-length-2 : tie.Need-same-length-2 Inv-loop μ-loop
 same-length-2 c = search needs
 
-same-length-3 : tie.Need-same-length-3 Inv-loop μ-loop
-same-length-3 c = search needs
-
 returns : tie.Need-returns Inv-loop μ-loop
 returns c =
     let at = c .before .before .before .before in
@@ -199,75 +248,63 @@ returns c =
     let k : 0 < rowAt (now (a .work)) (l .r) .kind = omega (arith, c .before .kind-at .ensures, c .if2 .taken) in
     let others = later-kinds (a .d) (now (a .work)) (now (a .chart)) (ready z) (l .r) (c .before .before .if1 .taken) k in
     let over = first-left (S z) (i z) (t z) (a .d .rows) (l .r) (capacity z) (page at) (whole z) others (l .inv .4) in
-    (over ∙ whole-is z, (l .inv .0, record { rows = refl; long = l .inv .1 }))
+    (over ∙ whole-is z, (l .inv .0, record { rows = refl; long = l .inv .1 ∙ sym (z .pre .0 .1) }))
 
 is-first-requires : tie.Need-is-first-requires Inv-loop μ-loop
 is-first-requires c κs = let z = entry (loop-of c) in (ready z, is-row c, z .pre .0 .2)
 
-slice-read-left : tie.Need-slice-read-left Inv-loop μ-loop
-slice-read-left c = left-some (loop-of (row-of (c .before)))
-
-sub-left : tie.Need-sub-left Inv-loop μ-loop
-sub-left c = let at = loop-of (row-of (c .before)) in omega (arith, ap (λ (x : List ℕ). getD x 0 0) (at .loop .inv .0), some-left (entry at))
-
-slice-write-left : tie.Need-slice-write-left Inv-loop μ-loop
-slice-write-left c = left-some (loop-of (row-of (c .before)))
-
-cast-path : tie.Need-cast-path Inv-loop μ-loop
-cast-path c =
+place-row-requires : tie.Need-place-row-requires Inv-loop μ-loop
+place-row-requires c κs =
     let row = row-of (c .before) in
-    let z = entry (loop-of row) in
-    omega (arith, few-rows (z .args .d) (now (z .args .work)) (now (z .args .chart)) (ready z .lawful), is-row row)
-
-slice-write-path : tie.Need-slice-write-path Inv-loop μ-loop
-slice-write-path c = omega (arith, path-is (loop-of (row-of (c .before))))
+    let at = loop-of row in
+    let z = entry at in
+    let few = few-rows (z .args .d) (now (z .args .work)) (now (z .args .chart)) (ready z .lawful) in
+    (omega arith, at .loop .inv .1, copy-left at, omega arith, omega (arith, few, is-row row))
 
 mask-at-requires : tie.Need-mask-at-requires Inv-loop μ-loop
-mask-at-requires c κs = let row = row-of (c .before) in omega (arith, ready (entry (loop-of row)) .rowsFit, is-row row)
+mask-at-requires c κs = let row = row-of (tried-of (c .before .before)) in omega (arith, ready (entry (loop-of row)) .rowsFit, is-row row)
 
 search-requires : tie.Need-search-requires Inv-loop μ-loop
 search-requires c κs =
-    let mask = c .before .before .before .mask-at in
-    let row = row-of (c .before .before .before .before .before) in
+    let at-mask = c .before .before in
+    let mask = at-mask .mask-at in
+    let q = at-mask .before .before .before in
+    let row = row-of (tried-of q) in
     let at = loop-of row in
     let z = entry at in
     let a = z .args in
     let l = at .loop in
     let h = is-row row in
     let k = kind-zero row in
-    let path = first-path (a .d) (now (a .work)) (now (a .chart)) (ready z) (l .r) h k (l .path) (path-is at) in (
-      (ready z, path, length-set (l .path) 0 (l .r) ∙ path-is at, z .pre .0 .2, z .pre .0 .3, omega (arith, l .inv .2, z .pre .0 .4)),
-      first-searching (a .d) (now (a .work)) (now (a .chart)) (ready z) (l .r) h k (l .path) (path-is at) (now (a .left)) (l .left) (mask .result) (l .inv .0)
+    let is = q .place-row .ensures in (
+      (
+        ready z,
+        first-path (a .d) (now (a .work)) (now (a .chart)) (ready z) (l .r) h k (now (a .state)) (l .state) (placed q) (l .inv .0) (l .inv .1) is,
+        placed-long q,
+        z .pre .0 .2,
+        z .pre .0 .3,
+        omega (arith, l .inv .2, z .pre .0 .4),
+      ),
+      first-searching (a .d) (now (a .work)) (now (a .chart)) (ready z) (l .r) h k (now (a .state)) (l .state) (placed q) (l .inv .0) (l .inv .1) is (mask .result)
           (mask .ensures) (z .pre .1) (some-left z),
     )
 
-slice-read-left-2 : tie.Need-slice-read-left-2 Inv-loop μ-loop
-slice-read-left-2 c = left-long (c .before .before .before .before .before .before .before)
+put-back-requires : tie.Need-put-back-requires Inv-loop μ-loop
+put-back-requires c κs = let w = c .before .before .before .before .before in (omega arith, after-long w, after-small w)
 
-add-left : tie.Need-add-left Inv-loop μ-loop
-add-left c =
-    let w = c .before .before .before .before .before .before .before in
-    omega (arith, left-was w, turn w .before .before .before .before .before .slice-known .given 0)
-
-slice-write-left-2 : tie.Need-slice-write-left-2 Inv-loop μ-loop
-slice-write-left-2 c = left-long (c .before .before .before .before .before .before .before)
+same-length-3 : tie.Need-same-length-3 Inv-loop μ-loop
+same-length-3 c = let b = c .before .before .before in back-long b ∙ sym (z b .pre .0 .1)
 
 same-length-4 : tie.Need-same-length-4 Inv-loop μ-loop
-same-length-4 c = ap (λ (x : List ℕ). length x) (put-back (c .before .before .before .before .before .before .before .before))
-
-same-length-5 : tie.Need-same-length-5 Inv-loop μ-loop
-same-length-5 c = path-long (c .before .before .before .before .before .before .before .before)
-
-same-length-6 : tie.Need-same-length-6 Inv-loop μ-loop
-same-length-6 c = answers-long (c .before .before .before .before .before .before .before .before)
+same-length-4 c = answers-long (c .before .before .before)
 
 returns-2 : tie.Need-returns-2 Inv-loop μ-loop
 returns-2 c =
-    let w = c .before .before .before .before .before .before .before .before in
-    let z = entry (turn w) in
-    let r = turn w .loop .r in (
-      first-full (S z) (i z) (t z) (z .args .d .rows) (r + 1) (capacity z) (page-after w) (whole z) (c .if4 .taken) (emitted w) ∙ whole-is z,
-      (put-back w, record { rows = refl; long = path-long w }),
+    let b = c .before .before .before in
+    let z = entry (l b) in
+    let r = l b .loop .r in (
+      first-full (S z) (i z) (t z) (z .args .d .rows) (r + 1) (capacity z) (page-after b) (whole z) (c .if4 .taken) (emitted b) ∙ whole-is z,
+      (left-back b, restored b),
     )
 
 add-r : tie.Need-add-r Inv-loop μ-loop
@@ -286,51 +323,34 @@ loop-again c =
     let next : Emission → List ℕ → Emitted = λ u v. emits (capacity z) (firstFrom (S z) (i z) (t z) (a .d .rows) (l .r + 1)) (emittedOf u (now (a .last)) v) in
     ⊎-elim
     (λ w.
-    let x : Searched =
-    record {
-      before = record {
-        before = record {
-          before = record {
-            before = record {
-              before = record {
-                before = record { before = c .before; if3 = w .0 };
-                slice-known4 = w .1;
-              };
-              mask-at = w .2;
-            };
-            search-arg = w .3;
-          };
-          search-arg2 = w .4;
-        };
-        search-arg3 = w .5;
-      };
-      search = w .6;
-    } in (
-      w .15 ∙ put-back x,
-      ap (λ (p : List ℕ). length p) (w .16) ∙ path-long x,
-      ap (λ (p : List ℕ). length p) (w .17) ∙ answers-long x,
+    let q : Placed = record { before = record { before = record { before = c .before; if3 = w .0 }; place-row-arg = w .1 }; place-row = w .2 } in
+    let at-mask : tie.After-mask-at Inv-loop μ-loop = record { before = record { before = record { before = q; state = w .3 }; slice-known3 = w .4 }; mask-at = w .5 } in
+    let x : Searched = record { before = record { before = record { before = at-mask; search-arg = w .6 }; search-arg2 = w .7 }; search = w .8 } in
+    let at-answers : tie.After-answers Inv-loop μ-loop =
+    record { before = record { before = record { before = x; state2 = w .9 }; slice-known4 = w .10 }; answers = w .11 } in
+    let b : Back = record { before = record { before = record { before = at-answers; slice-known5 = w .12 }; put-back-arg = w .13 }; put-back = w .14 } in (
+      ap leftPart (w .18) ∙ left-back b,
+      ap (λ (p : List ℕ). length p) (w .18) ∙ back-long b,
+      ap (λ (p : List ℕ). length p) (w .19) ∙ answers-long b,
       omega (arith, is-row row),
-      ap₂ next (w .18) (w .17) ∙ emitted x,
+      ap₂ next (w .20) (w .19) ∙ emitted b,
     ))
     (λ w. (
-      w .1 ∙ l .inv .0,
-      ap (λ (p : List ℕ). length p) (w .2) ∙ l .inv .1,
-      ap (λ (p : List ℕ). length p) (w .3) ∙ l .inv .2,
+      ap leftPart (w .1) ∙ l .inv .0,
+      ap (λ (p : List ℕ). length p) (w .1) ∙ l .inv .1,
+      ap (λ (p : List ℕ). length p) (w .2) ∙ l .inv .2,
       omega (arith, is-row row),
-      ap₂ next (w .4) (w .3)
-          ∙ first-untried (a .d) (now (a .work)) (now (a .chart)) (ready z) (l .r) (is-row row) (kind-zero row) (now (a .left)) (z .pre .1) (some-left z)
+      ap₂ next (w .3) (w .2)
+          ∙ first-untried (a .d) (now (a .work)) (now (a .chart)) (ready z) (l .r) (is-row row) (kind-zero row) (leftPart (now (a .state))) (z .pre .1) (some-left z)
           (now (a .last)) (now (a .shown)) (z .pre .0 .3) (i z) (capacity z) (page at) (whole z) refl (sym (c .before .is-first .ensures) ∙ w .0 .left) (l .inv .4),
     ))
     (c .if3 .came)
 
-same-length-7 : tie.Need-same-length-7 Inv-loop μ-loop
-same-length-7 c = search needs
+same-length-5 : tie.Need-same-length-5 Inv-loop μ-loop
+same-length-5 c = search needs
 
-same-length-8 : tie.Need-same-length-8 Inv-loop μ-loop
-same-length-8 c = search needs
-
-same-length-9 : tie.Need-same-length-9 Inv-loop μ-loop
-same-length-9 c = search needs
+same-length-6 : tie.Need-same-length-6 Inv-loop μ-loop
+same-length-6 c = search needs
 
 returns-3 : tie.Need-returns-3 Inv-loop μ-loop
 returns-3 c =
@@ -338,7 +358,7 @@ returns-3 c =
     let z = entry at in
     let l = at .loop in (
       first-over (S z) (i z) (t z) (z .args .d .rows) (l .r) (capacity z) (page at) (whole z) (c .if1 .left) (l .inv .4) ∙ whole-is z,
-      (l .inv .0, record { rows = refl; long = l .inv .1 }),
+      (l .inv .0, record { rows = refl; long = l .inv .1 ∙ sym (z .pre .0 .1) }),
     )
 
 pub search-first-spec : {M : Type 1} → statement M
@@ -351,27 +371,18 @@ search-first-spec =
     kind-at-requires
     same-length
     same-length-2
-    same-length-3
     returns
     is-first-requires
-    slice-read-left
-    sub-left
-    slice-write-left
-    cast-path
-    slice-write-path
+    place-row-requires
     mask-at-requires
     search-requires
-    slice-read-left-2
-    add-left
-    slice-write-left-2
+    put-back-requires
+    same-length-3
     same-length-4
-    same-length-5
-    same-length-6
     returns-2
     add-r
     loop-less
     loop-again
-    same-length-7
-    same-length-8
-    same-length-9
+    same-length-5
+    same-length-6
     returns-3)

@@ -9,11 +9,11 @@ use native.Mathlib.Omega.{arith}
 use borrow.Author.Needs.{needs}
 use borrow.Fn.Kinds.{In}
 use borrow.Fn.PlainCycle.{Measures, is, falls, and}
-use lib.ListN.{length, getD, take, set, length-set}
+use lib.ListN.{length, getD, take}
 use Rattle.lists.proofs.TestLaws.{and-true-left}
-use Rattle.definitions.specs.Emission.{emits}
+use Rattle.definitions.specs.Emission.{Emitted, emits}
 use Rattle.definitions.specs.Orders.{State, choose}
-use Rattle.definitions.proofs.EmissionLaws.{emits-done}
+use Rattle.theorems.proofs.EmissionLaws.{emits-done}
 use Rattle.masks.specs.Masks.{has, apart}
 use Rattle.rows.specs.Charts.{piecesPart}
 use Rattle.rows.specs.Rows.{maskAt, rowAt}
@@ -21,10 +21,13 @@ use Rattle.rows.specs.Shown.{showsRow}
 use Rattle.rows.specs.Ranges.{startOf}
 use Rattle.rows.specs.Systems.{System, ownedIn, systemIn}
 use Rattle.kept.specs.Emission.{emittedOf, identified}
+use Rattle.kept.specs.declared.emission.Emission.{Emission}
 use Rattle.fast.specs.Searching.{uncovered, stateBy, fastBelow, goesOn}
+use Rattle.fast.specs.States.{leftAt, stateLength, leftPart, putBack}
 use Rattle.fast.proofs.ChoiceLaws.{choicesFrom}
-use Rattle.fast.proofs.TurnLaws.{Opened, Placing, leaf-fillable, leaf-emits, words-in, row-small, loop-starts, loop-ends, kind-passes, kind-ends, kind-in-left, starts-within}
-use Rattle.fast.proofs.TurnLaws.{kinds-in-left, begins-is, ends-is, range-up, range-row, first-small, turn-passes, path-back, place-in, place-left, place-path, back-in, back-count, back-left}
+use Rattle.fast.proofs.StateLaws.{left-at, placed-length, after-count, restored-left, restored-path, restored-length}
+use Rattle.fast.proofs.TurnLaws.{Opened, Placing, leaf-fillable, leaf-emits, words-in, row-small, loop-starts, loop-ends, kind-passes, kind-ends, kind-few, starts-within}
+use Rattle.fast.proofs.TurnLaws.{begins-is, ends-is, range-up, range-row, first-small, turn-passes, room-left, place-kind, place-left}
 use Rattle.fast.proofs.TurnLaws.{place-falls, place-searching, place-rows, place-turns}
 use Rattle.fast.proofs.search.search.Reads as search′
 use Rattle.fast.proofs.search.search.Kinds as search-kinds
@@ -33,19 +36,22 @@ use Rattle.masks.proofs.Mask.next_open.Reads as next-open-reads
 use Rattle.masks.proofs.Mask.union.Reads as union-reads
 use Rattle.kept.proofs.emission.emit_kept.Reads as emit-kept-reads
 use Rattle.fast.proofs.search.is_tried.Reads as is-tried-reads
+use Rattle.fast.proofs.state.left_of.Reads as left-of-reads
+use Rattle.fast.proofs.state.place_row.Reads as place-row-reads
+use Rattle.fast.proofs.state.put_back.Reads as put-back-reads
 use Rattle.rows.proofs.chart.start_at.Reads as start-at-reads
 use Rattle.rows.proofs.row.mask_at.Reads as mask-at-reads
 use Rattle.fast.proofs.search.+search.{statement}
 use Rattle.fast.proofs.search.+search.Tie.{close}
 
-abbrev μ-search : Measures 7 search-kinds.ps ℕ
-μ-search κs a = length (uncovered (a .0 .size) (a .1 .1 .1 .1 .1 .1 .1 .0))
+abbrev μ-search : Measures 6 search-kinds.ps ℕ
+μ-search κs a = length (uncovered (a .0 .size) (a .1 .1 .1 .1 .1 .1 .0))
 
-abbrev search-at : ℕ → In 7 search-kinds.ps
-search-at t = and 7 search-kinds.ps (is 7 search-kinds.ps μ-search t) search′.Pre
+abbrev search-at : ℕ → In 6 search-kinds.ps
+search-at t = and 6 search-kinds.ps (is 6 search-kinds.ps μ-search t) search′.Pre
 
-abbrev search-below : ℕ → In 7 search-kinds.ps
-search-below t = and 7 search-kinds.ps (falls 7 search-kinds.ps _<_ μ-search t) search′.Pre
+abbrev search-below : ℕ → In 6 search-kinds.ps
+search-below t = and 6 search-kinds.ps (falls 6 search-kinds.ps _<_ μ-search t) search′.Pre
 
 -- what is known of the functions that it calls
 abbrev known : ℕ → search-lts.Claims
@@ -54,46 +60,55 @@ known t = (
   next-open-reads.Learnt,
   emit-kept-reads.Asked,
   emit-kept-reads.Learnt,
+  left-of-reads.Asked,
+  left-of-reads.Learnt,
   start-at-reads.Asked,
   start-at-reads.Learnt,
   is-tried-reads.Asked,
   is-tried-reads.Learnt,
+  place-row-reads.Asked,
+  place-row-reads.Learnt,
   mask-at-reads.Asked,
   mask-at-reads.Learnt,
   union-reads.Asked,
   union-reads.Learnt,
   search-below t,
   search′.Post,
+  put-back-reads.Asked,
+  put-back-reads.Learnt,
 )
 
--- the rows of a kind: left, path, answers and s are as they were where its first row r₀ was met
+-- the rows of a kind: state₀, answers₀ and s₀ are as they were where its first row r₀ was met
 abbrev search-Inv-loop2 : search-lts.InvT-loop2
-search-Inv-loop2 d work chart wanted left₀ path₀ n covered last shown answers₀ c s₀ kind r₀ end left path answers s r =
+search-Inv-loop2 d work chart wanted state₀ n covered last shown answers₀ c s₀ kind r₀ end state answers s r =
     let S = systemIn d work chart in
     let i = identified wanted in
-    let t = stateBy S left₀ covered (take n path₀) in
-    (left ≡ left₀) × (take n path ≡ take n path₀) × (length path ≡ 128) × (length answers ≡ length answers₀) × (r₀ ≤ r) × (r ≤ end)
+    let t = stateBy S (leftPart state₀) covered (take n state₀) in
+    (leftPart state ≡ leftPart state₀) × (take n state ≡ take n state₀) × (length state ≡ stateLength) × (length answers ≡ length answers₀) × (r₀ ≤ r) × (r ≤ end)
     × (emits (wanted .capacity) (choicesFrom S i t r) (emittedOf s last answers) ≡ emits (wanted .capacity) (choicesFrom S i t r₀) (emittedOf s₀ last answers₀))
 
 abbrev search-μ-loop2 : search-lts.MeasureT-loop2
-search-μ-loop2 d work chart wanted left₀ path₀ n covered last shown answers₀ c s₀ kind r₀ end left path answers s r = end - r
+search-μ-loop2 d work chart wanted state₀ n covered last shown answers₀ c s₀ kind r₀ end state answers s r = end - r
 
 abbrev search-Inv-loop : search-lts.InvT-loop
-search-Inv-loop d work chart wanted left₀ path₀ n covered last shown answers₀ c s₀ kind₀ left path answers s kind =
+search-Inv-loop d work chart wanted state₀ n covered last shown answers₀ c s₀ kind₀ state answers s kind =
     let S = systemIn d work chart in
     let i = identified wanted in
-    let t = stateBy S left₀ covered (take n path₀) in
-    (left ≡ left₀) × (take n path ≡ take n path₀) × (length path ≡ 128) × (length answers ≡ length answers₀)
+    let t = stateBy S (leftPart state₀) covered (take n state₀) in
+    (leftPart state ≡ leftPart state₀) × (take n state ≡ take n state₀) × (length state ≡ stateLength) × (length answers ≡ length answers₀)
     × (emits (wanted .capacity) (choicesFrom S i t (startOf (S .rows) (128 * kind + c))) (emittedOf s last answers)
     ≡ emits (wanted .capacity) (fastBelow S i t) (emittedOf s₀ last answers₀))
 
 abbrev search-μ-loop : search-lts.MeasureT-loop
-search-μ-loop d work chart wanted left₀ path₀ n covered last shown answers₀ c s₀ kind₀ left path answers s kind = d .kinds - kind
+search-μ-loop d work chart wanted state₀ n covered last shown answers₀ c s₀ kind₀ state answers s kind = d .kinds - kind
 
--- ---- places of the code: a cell is open, a kind has copies left, its rows begin and end, a row is to be placed, and the call below it has ended; and from
--- each back to an earlier one
+-- ---- places of the code: the state is lent, a cell is open, a kind has copies left, its rows begin and end, a row is to be placed, it is placed, the call
+-- below it has ended, and its copy is put back; and from each back to an earlier one
 abbrev Start : ℕ → Type 0
 Start t = search-lts.Start (known t) (search-at t) search′.Post search-Inv-loop2 search-μ-loop2 search-Inv-loop search-μ-loop
+
+abbrev Lent : ℕ → Type 0
+Lent t = search-lts.After-slice-known (known t) (search-at t) search′.Post search-Inv-loop2 search-μ-loop2 search-Inv-loop search-μ-loop
 
 abbrev Cell : ℕ → Type 0
 Cell t = search-lts.After-next-open (known t) (search-at t) search′.Post search-Inv-loop2 search-μ-loop2 search-Inv-loop search-μ-loop
@@ -116,14 +131,29 @@ Rows t = search-lts.At-loop2 (known t) (search-at t) search′.Post search-Inv-l
 abbrev Turn : ℕ → Type 0
 Turn t = search-lts.In-loop2 (known t) (search-at t) search′.Post search-Inv-loop2 search-μ-loop2 search-Inv-loop search-μ-loop
 
+abbrev Tried : ℕ → Type 0
+Tried t = search-lts.Then4 (known t) (search-at t) search′.Post search-Inv-loop2 search-μ-loop2 search-Inv-loop search-μ-loop
+
 abbrev Placed : ℕ → Type 0
-Placed t = search-lts.Then4 (known t) (search-at t) search′.Post search-Inv-loop2 search-μ-loop2 search-Inv-loop search-μ-loop
+Placed t = search-lts.After-place-row (known t) (search-at t) search′.Post search-Inv-loop2 search-μ-loop2 search-Inv-loop search-μ-loop
+
+abbrev Masked : ℕ → Type 0
+Masked t = search-lts.After-mask-at (known t) (search-at t) search′.Post search-Inv-loop2 search-μ-loop2 search-Inv-loop search-μ-loop
+
+abbrev United : ℕ → Type 0
+United t = search-lts.After-union (known t) (search-at t) search′.Post search-Inv-loop2 search-μ-loop2 search-Inv-loop search-μ-loop
 
 abbrev Searched : ℕ → Type 0
 Searched t = search-lts.After-search (known t) (search-at t) search′.Post search-Inv-loop2 search-μ-loop2 search-Inv-loop search-μ-loop
 
+abbrev Back : ℕ → Type 0
+Back t = search-lts.After-put-back (known t) (search-at t) search′.Post search-Inv-loop2 search-μ-loop2 search-Inv-loop search-μ-loop
+
+abbrev at-lent : (t : ℕ) → Cell t → Lent t
+at-lent t c = c .before .before .before .before
+
 abbrev at-start : (t : ℕ) → Cell t → Start t
-at-start t c = c .before .before .before .before .before .before .before .before
+at-start t c = at-lent t c .before .before .before
 
 abbrev at-cell : (t : ℕ) → Open t → Cell t
 at-cell t c = c .before .before
@@ -132,7 +162,7 @@ abbrev at-open : (t : ℕ) → Loop t → Open t
 at-open t c = c .before
 
 abbrev at-loop : (t : ℕ) → Kind t → Loop t
-at-loop t c = c .before .before .before .before
+at-loop t c = c .before .before .before .before .before
 
 abbrev at-kind : (t : ℕ) → Range t → Kind t
 at-kind t c = c .before .before
@@ -140,11 +170,20 @@ at-kind t c = c .before .before
 abbrev at-range : (t : ℕ) → Rows t → Range t
 at-range t c = c .before
 
-abbrev at-turn : (t : ℕ) → Placed t → Turn t
+abbrev at-turn : (t : ℕ) → Tried t → Turn t
 at-turn t c = c .before .before .before
 
-abbrev at-placed : (t : ℕ) → Searched t → Placed t
-at-placed t c = c .before .before .before .before .before .before .before
+abbrev at-tried : (t : ℕ) → Placed t → Tried t
+at-tried t c = c .before .before
+
+abbrev at-placed : (t : ℕ) → Masked t → Placed t
+at-placed t c = c .before .before .before
+
+abbrev at-mask : (t : ℕ) → Searched t → Masked t
+at-mask t c = c .before .before .before .before
+
+abbrev at-searched : (t : ℕ) → Back t → Searched t
+at-searched t c = let at-answers = c .before .before .before in at-answers .before .before .before
 
 abbrev start-of : (t : ℕ) → Loop t → Start t
 start-of t l = at-start t (at-cell t (at-open t l))
@@ -160,38 +199,44 @@ abbrev system : (t : ℕ) → Start t → System
 system t z = systemIn (z .args .d) (z .args .work .now) (z .args .chart .now)
 
 abbrev state : (t : ℕ) → Start t → State
-state t z = stateBy (system t z) (z .args .left .now) (z .args .covered) (take (z .args .n) (z .args .path .now))
+state t z = stateBy (system t z) (leftPart (z .args .state .now)) (z .args .covered) (take (z .args .n) (z .args .state .now))
 
--- the copies, the path and the answers that the call leaves
-abbrev left-after : (t : ℕ) → Searched t → List ℕ
-left-after t c = c .search .last .1 .1 .1 .1 .0
+-- the state with the row placed, the state and the answers that the call leaves, and the state with the copy put back
+abbrev placed : (t : ℕ) → Placed t → List ℕ
+placed t c = c .place-row .last .0
 
-abbrev path-after : (t : ℕ) → Searched t → List ℕ
-path-after t c = c .search .last .1 .1 .1 .1 .1 .0
+abbrev after : (t : ℕ) → Searched t → List ℕ
+after t c = c .search .last .1 .1 .1 .1 .0
 
 abbrev answers-after : (t : ℕ) → Searched t → List ℕ
-answers-after t c = c .search .last .1 .1 .1 .1 .1 .1 .1 .1 .1 .1 .0
+answers-after t c = c .search .last .1 .1 .1 .1 .1 .1 .1 .1 .1 .0
+
+abbrev back : (t : ℕ) → Back t → List ℕ
+back t c = c .put-back .last .0
 
 -- the first cell that is left is open
 opened : (t : ℕ) (c : Open t)
     → let a = at-start t (at-cell t c) .args in
-    Opened (a .d) (a .work .now) (a .chart .now) (a .left .now) (a .path .now) (a .n) (a .covered) (at-cell t c .next-open .result)
+    Opened (a .d) (a .work .now) (a .chart .now) (leftPart (a .state .now)) (a .state .now) (a .n) (a .covered) (at-cell t c .next-open .result)
 opened t c =
     let pre = at-start t (at-cell t c) .pre .1 in
     record { ready = pre .0 .0; ofRows = pre .0 .1; searching = pre .1; first = at-cell t c .next-open .ensures; inside = c .if1 .left }
 
 -- a kind, and where its rows at the cell begin and end
 kind-below : (t : ℕ) (c : Kind t) → let l = at-loop t c in l .loop .kind < start-of t l .args .d .kinds
-kind-below t c = c .before .before .if2 .taken
+kind-below t c = c .before .before .before .if2 .taken
 
-some-copy : (t : ℕ) (c : Kind t) → let l = at-loop t c in 0 < getD (start-of t l .args .left .now) (l .loop .kind) 0
-some-copy t c = let l = at-loop t c in subst (λ (m : List ℕ). 0 < getD m (l .loop .kind) 0) (l .loop .inv .0) (c .if3 .taken)
+some-copy : (t : ℕ) (c : Kind t) → let l = at-loop t c in 0 < getD (leftPart (start-of t l .args .state .now)) (l .loop .kind) 0
+some-copy t c =
+    let l = at-loop t c in
+    let k = l .loop .kind in
+    omega (arith, c .before .left-of .ensures, ap (λ (m : List ℕ). getD m k 0) (l .loop .inv .0), c .if3 .taken)
 
 -- what is listed of the kinds before it, by the state that the loop over its rows begins with
 state-same : (t : ℕ) (c : Range t)
     → let l = at-loop t (at-kind t c) in
     let a = start-of t l .args in
-    stateBy (system t (start-of t l)) (l .loop .left) (a .covered) (take (a .n) (l .loop .path)) ≡ state t (start-of t l)
+    stateBy (system t (start-of t l)) (leftPart (l .loop .state)) (a .covered) (take (a .n) (l .loop .state)) ≡ state t (start-of t l)
 state-same t c =
     let l = at-loop t (at-kind t c) in
     let z = start-of t l in
@@ -203,7 +248,8 @@ begun : (t : ℕ) (c : Range t)
     let a = z .args in
     let i = identified (a .wanted) in
     emits (a .wanted .capacity)
-    (choicesFrom (system t z) i (stateBy (system t z) (l .loop .left) (a .covered) (take (a .n) (l .loop .path))) (c .before .start-at .result)) (emittedOf (l .loop .s) (a .last .now) (l .loop .answers))
+    (choicesFrom (system t z) i (stateBy (system t z) (leftPart (l .loop .state)) (a .covered) (take (a .n) (l .loop .state))) (c .before .start-at .result))
+    (emittedOf (l .loop .s) (a .last .now) (l .loop .answers))
     ≡ emits (a .wanted .capacity) (fastBelow (system t z) i (state t z)) (emittedOf (a .e) (a .last .now) (a .answers .now))
 begun t c =
     let l = at-loop t (at-kind t c) in
@@ -243,11 +289,14 @@ row-of t c =
     range-row (opened t (at-open t l)) (l .loop .kind) (kind-below t (at-kind t g)) _ _ (g .before .start-at .ensures) (g .start-at2 .ensures) (rows .loop2 .r) (rows .loop2 .inv .4) (c .loop2-test .taken)
 
 -- it is placed
-placing : (t : ℕ) (c : Placed t)
-    → let rows = at-turn t c .before in
+abbrev rows-of : (t : ℕ) → Tried t → Rows t
+rows-of t c = at-turn t c .before
+
+placing : (t : ℕ) (c : Tried t)
+    → let rows = rows-of t c in
     let l = loop-of t rows in
     let a = start-of t l .args in
-    Placing (a .d) (a .work .now) (a .left .now) (a .path .now) (rows .loop2 .left) (rows .loop2 .path) (a .n) (a .covered) (cell-of t l) (rows .loop2 .r) (l .loop .kind)
+    Placing (a .d) (a .work .now) (a .state .now) (rows .loop2 .state) (a .n) (a .covered) (cell-of t l) (rows .loop2 .r) (l .loop .kind)
 placing t c =
     let turn = at-turn t c in
     let rows = turn .before in
@@ -264,41 +313,113 @@ placing t c =
       kind = sym (row .1);
     }
 
-abbrev rows-of : (t : ℕ) → Placed t → Rows t
-rows-of t c = at-turn t c .before
-
-placed-open : (t : ℕ) (c : Placed t)
+tried-open : (t : ℕ) (c : Tried t)
     → let l = loop-of t (rows-of t c) in
     let a = start-of t l .args in
-    Opened (a .d) (a .work .now) (a .chart .now) (a .left .now) (a .path .now) (a .n) (a .covered) (cell-of t l)
-placed-open t c = opened t (at-open t (loop-of t (rows-of t c)))
+    Opened (a .d) (a .work .now) (a .chart .now) (leftPart (a .state .now)) (a .state .now) (a .n) (a .covered) (cell-of t l)
+tried-open t c = opened t (at-open t (loop-of t (rows-of t c)))
 
--- what the call below it leaves
-left-by : (t : ℕ) (c : Searched t)
-    → let rows = rows-of t (at-placed t c) in
+placed-long : (t : ℕ) (c : Placed t) → length (placed t c) ≡ stateLength
+placed-long t c =
+    let tried = at-tried t c in
+    let rows = rows-of t tried in
+    let l = loop-of t rows in
+    let x = tried-open t tried in
+    placed-length (rows .loop2 .state) (placed t c) (l .loop .kind) (start-of t l .args .n) (rows .loop2 .r) (c .place-row .ensures) (rows .loop2 .inv .2)
+    (place-kind x (placing t tried)) (room-left x)
+
+-- the call below it has ended: the state is as long, and its copy is missing
+abbrev rows-below : (t : ℕ) → Searched t → Rows t
+rows-below t c = rows-of t (at-tried t (at-placed t (at-mask t c)))
+
+abbrev kind-of : (t : ℕ) → Searched t → ℕ
+kind-of t c = loop-of t (rows-below t c) .loop .kind
+
+after-long : (t : ℕ) (c : Searched t) → length (after t c) ≡ stateLength
+after-long t c = c .search .ensures .1 .1 .long ∙ placed-long t (at-placed t (at-mask t c))
+
+after-small : (t : ℕ) (c : Searched t) → getD (leftPart (after t c)) (kind-of t c) 0 < 65535
+after-small t c =
+    let q = at-placed t (at-mask t c) in
+    let tried = at-tried t q in
+    let rows = rows-of t tried in
+    let l = loop-of t rows in
+    let k = l .loop .kind in
+    let z = start-of t l in
+    let x = tried-open t tried in
+    let y = placing t tried in
+    let few = place-kind x y in
+    let count = after-count (rows .loop2 .state) (placed t q) k (z .args .n) (rows .loop2 .r) (q .place-row .ensures) (rows .loop2 .inv .2) few (room-left x)
+    (place-left x y) (after t c) (c .search .ensures .1 .0) (c .search .ensures .1 .1) in
+    let small = at-lent t (at-cell t (at-open t l)) .slice-known .given (leftAt + k) in
+    omega (arith, count, ap (λ (m : List ℕ). getD m k 0) (y .sameLeft), left-at (z .args .state .now) k few, small)
+
+-- its copy is put back: state and answers are as they were, and what is left to list is that of the rows behind
+left-by : (t : ℕ) (c : Searched t) (back : List ℕ) → back ≡ putBack (after t c) (kind-of t c)
+    → let rows = rows-below t c in
+    let z = start-of t (loop-of t rows) in
+    let a = z .args in
+    let i = identified (a .wanted) in
+    (leftPart back ≡ leftPart (a .state .now))
+    × (take (a .n) back ≡ take (a .n) (a .state .now)) × (length back ≡ stateLength) × (length (answers-after t c) ≡ length (a .answers .now))
+    × (emits (a .wanted .capacity) (choicesFrom (system t z) i (state t z) (rows .loop2 .r + 1)) (emittedOf (c .search .result) (a .last .now) (answers-after t c))
+    ≡ emits (a .wanted .capacity) (fastBelow (system t z) i (state t z)) (emittedOf (a .e) (a .last .now) (a .answers .now)))
+left-by t c back put =
+    let at-m = at-mask t c in
+    let q = at-placed t at-m in
+    let tried = at-tried t q in
+    let rows = rows-of t tried in
+    let l = loop-of t rows in
+    let a = start-of t l .args in
+    let old = rows .loop2 .state in
+    let k = l .loop .kind in
+    let r = rows .loop2 .r in
+    let x = tried-open t tried in
+    let y = placing t tried in
+    let is = q .place-row .ensures in
+    let long = rows .loop2 .inv .2 in
+    let few = place-kind x y in
+    let room = room-left x in
+    let some = place-left x y in
+    let same = c .search .ensures .1 in
+    let more = c .before .before .before .union in
+    let mask = at-m .mask-at in (
+      restored-left old (placed t q) k (a .n) r is long few room some (after t c) (same .0) (same .1) back put ∙ y .sameLeft,
+      restored-path old (placed t q) k (a .n) r is long few room some (after t c) (same .0) (same .1) back put ∙ y .samePath,
+      restored-length old (placed t q) k (a .n) r is long few room some (after t c) (same .0) (same .1) back put,
+      c .search .kept .1 .1 .1 .1 .1 .1 .1 .1 .1 .0 ∙ rows .loop2 .inv .3 ∙ l .loop .inv .3,
+      place-turns x y (more .result) (mask .result) (mask .ensures) (more .ensures) (placed t q) is (identified (a .wanted)) (a .wanted .capacity)
+          (emittedOf (rows .loop2 .s) (a .last .now) (rows .loop2 .answers)) _ _ (c .search .ensures .0) (listed t rows),
+    )
+
+-- the invariant of the rows for the row behind r
+abbrev Again : (t : ℕ) → Rows t → List ℕ → List ℕ → Emission → Type 0
+Again t c back answers s =
+    let g = at-range t c in
+    let l = loop-of t c in
+    let a = start-of t l .args in
+    search-Inv-loop2 (a .d) (a .work .now) (a .chart .now) (a .wanted) (l .loop .state) (a .n) (a .covered) (a .last .now) (a .shown .now) (l .loop .answers)
+    (cell-of t l) (l .loop .s) (l .loop .kind) (g .before .start-at .result) (g .start-at2 .result) back answers s (c .loop2 .r + 1)
+
+again-back : (t : ℕ) (c : Searched t) (back answers : List ℕ) (s : Emission)
+    → back ≡ putBack (after t c) (kind-of t c) → answers ≡ answers-after t c → s ≡ c .search .result → Again t (rows-below t c) back answers s
+again-back t c back answers s put same-answers same-s =
+    let turn = at-turn t (at-tried t (at-placed t (at-mask t c))) in
+    let rows = turn .before in
+    let g = at-range t rows in
     let l = loop-of t rows in
     let z = start-of t l in
     let a = z .args in
-    let i = identified (a .wanted) in
-    let k = l .loop .kind in
-    (set (left-after t c) k (getD (left-after t c) k 0 + 1) ≡ a .left .now)
-    × (take (a .n) (path-after t c) ≡ take (a .n) (a .path .now)) × (length (path-after t c) ≡ 128) × (length (answers-after t c) ≡ length (a .answers .now))
-    × (emits (a .wanted .capacity) (choicesFrom (system t z) i (state t z) (rows .loop2 .r + 1)) (emittedOf (c .search .result) (a .last .now) (answers-after t c))
-    ≡ emits (a .wanted .capacity) (fastBelow (system t z) i (state t z)) (emittedOf (a .e) (a .last .now) (a .answers .now)))
-left-by t c =
-    let rows = rows-of t (at-placed t c) in
-    let l = loop-of t rows in
-    let a = start-of t l .args in
-    let x = placed-open t (at-placed t c) in
-    let y = placing t (at-placed t c) in
-    let more = c .before .before .before .before .union in
-    let mask = c .before .before .before .before .before .mask-at in (
-      back-left x y _ (c .search .ensures .1 .0),
-      path-back (rows .loop2 .path) _ (a .n) (rows .loop2 .r) (c .search .ensures .1 .1 .rows) ∙ rows .loop2 .inv .1 ∙ l .loop .inv .1,
-      c .search .ensures .1 .1 .long ∙ length-set (rows .loop2 .path) (a .n) (rows .loop2 .r) ∙ rows .loop2 .inv .2,
-      c .search .kept .1 .1 .1 .1 .1 .1 .1 .1 .1 .1 .0 ∙ rows .loop2 .inv .3 ∙ l .loop .inv .3,
-      place-turns x y (more .result) (mask .result) (mask .ensures) (more .ensures) (identified (a .wanted)) (a .wanted .capacity)
-          (emittedOf (rows .loop2 .s) (a .last .now) (rows .loop2 .answers)) _ _ (c .search .ensures .0) (listed t rows),
+    let next : Emission → List ℕ → State → Emitted =
+    λ e m u. emits (a .wanted .capacity) (choicesFrom (system t z) (identified (a .wanted)) u (rows .loop2 .r + 1)) (emittedOf e (a .last .now) m) in
+    let h = left-by t c back put in (
+      h .0 ∙ sym (l .loop .inv .0),
+      h .1 ∙ sym (l .loop .inv .1),
+      h .2,
+      ap (λ (m : List ℕ). length m) same-answers ∙ h .3 ∙ sym (l .loop .inv .3),
+      omega (arith, rows .loop2 .inv .4),
+      omega (arith, turn .loop2-test .taken),
+      ap (next s answers) (state-same t g) ∙ ap₂ (λ e m. next e m (state t z)) same-s same-answers ∙ h .4 ∙ sym (begun t g),
     )
 
 search-next-open-requires : (t : ℕ) → search-lts.Need-next-open-requires (known t) (search-at t) search′.Post search-Inv-loop2 search-μ-loop2 search-Inv-loop search-μ-loop
@@ -332,10 +453,10 @@ search-loop-holds t c =
     let a = z .args in
     (refl, refl, z .pre .1 .0 .2, refl, loop-starts (opened t c) (identified (a .wanted)) (a .wanted .capacity) (emittedOf (a .e) (a .last .now) (a .answers .now)))
 
-search-slice-read-if3 : (t : ℕ) → search-lts.Need-slice-read-if3 (known t) (search-at t) search′.Post search-Inv-loop2 search-μ-loop2 search-Inv-loop search-μ-loop
-search-slice-read-if3 t c =
+search-left-of-requires : (t : ℕ) → search-lts.Need-left-of-requires (known t) (search-at t) search′.Post search-Inv-loop2 search-μ-loop2 search-Inv-loop search-μ-loop
+search-left-of-requires t c κs =
     let l = c .before .before .before in
-    subst (λ (m : List ℕ). l .loop .kind < length m) (sym (l .loop .inv .0)) (kind-in-left (opened t (at-open t l)) (l .loop .kind) (c .before .if2 .taken))
+    (kind-few (opened t (at-open t l)) (l .loop .kind) (c .before .if2 .taken), l .loop .inv .2)
 
 search-mul-start-at : (t : ℕ) → search-lts.Need-mul-start-at (known t) (search-at t) search′.Post search-Inv-loop2 search-μ-loop2 search-Inv-loop search-μ-loop
 search-mul-start-at t c = let l = at-loop t c in let h = starts-within (opened t (at-open t l)) (l .loop .kind) (kind-below t c) .1 in omega arith
@@ -375,106 +496,82 @@ search-is-tried-requires t c κs =
       (x .ready, row .0, sym (row .1), first-small x r (row .0) (row .2)),
       (
         start-of t l .pre .1 .0 .3,
-        subst (λ (m : List ℕ). start-of t l .args .d .kinds ≤ length m) same (kinds-in-left x),
+        rows .loop2 .inv .2,
         subst (λ (m : List ℕ). 0 < getD m (l .loop .kind) 0) same (some-copy t (at-kind t (at-range t rows))),
       ),
     )
 
-search-slice-read-left : (t : ℕ) → search-lts.Need-slice-read-left (known t) (search-at t) search′.Post search-Inv-loop2 search-μ-loop2 search-Inv-loop search-μ-loop
-search-slice-read-left t c = place-in (placed-open t (c .before)) (placing t (c .before))
-
-search-sub-left : (t : ℕ) → search-lts.Need-sub-left (known t) (search-at t) search′.Post search-Inv-loop2 search-μ-loop2 search-Inv-loop search-μ-loop
-search-sub-left t c = place-left (placed-open t (c .before)) (placing t (c .before))
-
-search-slice-write-left : (t : ℕ) → search-lts.Need-slice-write-left (known t) (search-at t) search′.Post search-Inv-loop2 search-μ-loop2 search-Inv-loop search-μ-loop
-search-slice-write-left t c = place-in (placed-open t (c .before)) (placing t (c .before))
-
-search-cast-path : (t : ℕ) → search-lts.Need-cast-path (known t) (search-at t) search′.Post search-Inv-loop2 search-μ-loop2 search-Inv-loop search-μ-loop
-search-cast-path t c =
-    let b = row-small (placed-open t (c .before)) (rows-of t (c .before) .loop2 .r) (placing t (c .before) .row) in
-    omega arith
-
-search-mul-path : (t : ℕ) → search-lts.Need-mul-path (known t) (search-at t) search′.Post search-Inv-loop2 search-μ-loop2 search-Inv-loop search-μ-loop
-search-mul-path t c =
-    let b = place-path (placed-open t (c .before)) (placing t (c .before)) in
-    let e = rows-of t (c .before) .loop2 .inv .2 in
-    omega arith
-
-search-slice-write-path : (t : ℕ) → search-lts.Need-slice-write-path (known t) (search-at t) search′.Post search-Inv-loop2 search-μ-loop2 search-Inv-loop search-μ-loop
-search-slice-write-path t c = place-path (placed-open t (c .before)) (placing t (c .before))
+search-place-row-requires : (t : ℕ) → search-lts.Need-place-row-requires (known t) (search-at t) search′.Post search-Inv-loop2 search-μ-loop2 search-Inv-loop search-μ-loop
+search-place-row-requires t c κs =
+    let tried = c .before in
+    let rows = rows-of t tried in
+    let x = tried-open t tried in
+    let y = placing t tried in
+    let b = row-small x (rows .loop2 .r) (y .row) in
+    (place-kind x y, rows .loop2 .inv .2, place-left x y, room-left x, omega arith)
 
 search-mask-at-requires : (t : ℕ) → search-lts.Need-mask-at-requires (known t) (search-at t) search′.Post search-Inv-loop2 search-μ-loop2 search-Inv-loop search-μ-loop
-search-mask-at-requires t c κs = words-in (placed-open t (c .before)) (rows-of t (c .before) .loop2 .r) (placing t (c .before) .row)
+search-mask-at-requires t c κs =
+    let tried = at-tried t (c .before .before) in
+    words-in (tried-open t tried) (rows-of t tried .loop2 .r) (placing t tried .row)
 
 search-union-requires : (t : ℕ) → search-lts.Need-union-requires (known t) (search-at t) search′.Post search-Inv-loop2 search-μ-loop2 search-Inv-loop search-μ-loop
 search-union-requires t c κs = tt
 
 search-add-search : (t : ℕ) → search-lts.Need-add-search (known t) (search-at t) search′.Post search-Inv-loop2 search-μ-loop2 search-Inv-loop search-μ-loop
-search-add-search t c =
-    let k = c .before .before .before .before .before in
-    let b = place-path (placed-open t k) (placing t k) in
-    let e = rows-of t k .loop2 .inv .2 in
-    omega arith
+search-add-search t c = let tried = at-tried t (at-placed t (c .before .before)) in let b = room-left (tried-open t tried) in omega arith
 
 search-search-requires : (t : ℕ) → search-lts.Need-search-requires (known t) (search-at t) search′.Post search-Inv-loop2 search-μ-loop2 search-Inv-loop search-μ-loop
 search-search-requires t c κs =
-    let k = c .before .before .before .before .before .before in
-    let rows = rows-of t k in
+    let union = c .before .before in
+    let at-m = union .before in
+    let q = at-placed t at-m in
+    let tried = at-tried t q in
+    let rows = rows-of t tried in
     let l = loop-of t rows in
     let z = start-of t l in
     let a = z .args in
-    let x = placed-open t k in
-    let y = placing t k in
-    let more = c .before .before .before .union in
-    let mask = c .before .before .before .before .mask-at in (
+    let x = tried-open t tried in
+    let y = placing t tried in
+    let more = union .union in
+    let mask = at-m .mask-at in
+    let is = q .place-row .ensures in (
       subst (λ (m : ℕ). length (uncovered (a .d .size) (more .result)) < m) (z .pre .0) (place-falls x y (more .result) (mask .result) (mask .ensures) (more .ensures)),
       (
         (
           x .ready,
-          place-rows x y (more .result) (mask .result) (mask .ensures) (more .ensures),
-          length-set (rows .loop2 .path) (a .n) (rows .loop2 .r) ∙ rows .loop2 .inv .2,
+          place-rows x y (more .result) (mask .result) (mask .ensures) (more .ensures) (placed t q) is,
+          placed-long t q,
           z .pre .1 .0 .3,
           z .pre .1 .0 .4,
           subst (λ (m : ℕ). a .wanted .capacity * (2 * a .d .places) ≤ m) (sym (rows .loop2 .inv .3 ∙ l .loop .inv .3)) (z .pre .1 .0 .5),
         ),
-        place-searching x y (more .result) (mask .result) (mask .ensures) (more .ensures),
+        place-searching x y (more .result) (mask .result) (mask .ensures) (more .ensures) (placed t q) is,
       ),
     )
 
-search-slice-read-left-2 : (t : ℕ) → search-lts.Need-slice-read-left-2 (known t) (search-at t) search′.Post search-Inv-loop2 search-μ-loop2 search-Inv-loop search-μ-loop
-search-slice-read-left-2 t c =
-    let w = c .before .before .before .before .before .before .before in
-    back-in (placed-open t (at-placed t w)) (placing t (at-placed t w)) _ (w .search .ensures .1 .0)
-
-search-add-left : (t : ℕ) → search-lts.Need-add-left (known t) (search-at t) search′.Post search-Inv-loop2 search-μ-loop2 search-Inv-loop search-μ-loop
-search-add-left t c =
-    let w = c .before .before .before .before .before .before .before in
-    let k = loop-of t (rows-of t (at-placed t w)) .loop .kind in
-    let e = back-count (placed-open t (at-placed t w)) (placing t (at-placed t w)) _ (w .search .ensures .1 .0) in
-    omega (arith, e, w .before .before .before .before .before .before .slice-known6 .given k)
-
-search-slice-write-left-2 : (t : ℕ) → search-lts.Need-slice-write-left-2 (known t) (search-at t) search′.Post search-Inv-loop2 search-μ-loop2 search-Inv-loop search-μ-loop
-search-slice-write-left-2 t c =
-    let w = c .before .before .before .before .before .before .before in
-    back-in (placed-open t (at-placed t w)) (placing t (at-placed t w)) _ (w .search .ensures .1 .0)
+search-put-back-requires : (t : ℕ) → search-lts.Need-put-back-requires (known t) (search-at t) search′.Post search-Inv-loop2 search-μ-loop2 search-Inv-loop search-μ-loop
+search-put-back-requires t c κs =
+    let w = c .before .before .before .before .before in
+    let tried = at-tried t (at-placed t (at-mask t w)) in
+    (place-kind (tried-open t tried) (placing t tried), after-long t w, after-small t w)
 
 search-same-length-3 : (t : ℕ) → search-lts.Need-same-length-3 (known t) (search-at t) search′.Post search-Inv-loop2 search-μ-loop2 search-Inv-loop search-μ-loop
-search-same-length-3 t c = ap (λ (m : List ℕ). length m) (left-by t (c .before .before .before .before .before .before .before .before) .0)
+search-same-length-3 t c =
+    let b = c .before .before .before in
+    let w = at-searched t b in
+    left-by t w (back t b) (b .put-back .ensures) .2 ∙ sym (start-of t (loop-of t (rows-below t w)) .pre .1 .0 .2)
 
 search-same-length-4 : (t : ℕ) → search-lts.Need-same-length-4 (known t) (search-at t) search′.Post search-Inv-loop2 search-μ-loop2 search-Inv-loop search-μ-loop
-search-same-length-4 t c =
-    let w = c .before .before .before .before .before .before .before .before in
-    left-by t w .2 ∙ sym (start-of t (loop-of t (rows-of t (at-placed t w))) .pre .1 .0 .2)
-
-search-same-length-5 : (t : ℕ) → search-lts.Need-same-length-5 (known t) (search-at t) search′.Post search-Inv-loop2 search-μ-loop2 search-Inv-loop search-μ-loop
-search-same-length-5 t c = left-by t (c .before .before .before .before .before .before .before .before) .3
+search-same-length-4 t c = let b = c .before .before .before in left-by t (at-searched t b) (back t b) (b .put-back .ensures) .3
 
 search-returns-2 : (t : ℕ) → search-lts.Need-returns-2 (known t) (search-at t) search′.Post search-Inv-loop2 search-μ-loop2 search-Inv-loop search-μ-loop
 search-returns-2 t c =
-    let w = c .before .before .before .before .before .before .before .before in
-    let g = left-by t w in (
+    let b = c .before .before .before in
+    let w = at-searched t b in
+    let g = left-by t w (back t b) (b .put-back .ensures) in (
       sym (emits-done _ _ _ (c .if5 .taken)) ∙ g .4,
-      (g .0, record { rows = g .1; long = g .2 ∙ sym (start-of t (loop-of t (rows-of t (at-placed t w))) .pre .1 .0 .2) }),
+      (g .0, record { rows = g .1; long = g .2 ∙ sym (start-of t (loop-of t (rows-below t w)) .pre .1 .0 .2) }),
     )
 
 search-add-r : (t : ℕ) → search-lts.Need-add-r (known t) (search-at t) search′.Post search-Inv-loop2 search-μ-loop2 search-Inv-loop search-μ-loop
@@ -504,40 +601,21 @@ search-loop2-again t c =
     let same = ap (λ (u : State). emits capacity (choicesFrom (system t z) i u (r + 1)) new) (state-same t g) in
     ⊎-elim
     (λ v.
-    let w = left-by t (record {
-      before = record {
-        before = record {
-          before = record {
-            before = record {
-              before = record { before = record { before = record { before = tried; if4 = v .0 }; slice-known6 = v .1 }; mask-at = v .2 };
-              union = v .3;
-            };
-            search-arg = v .4;
-          };
-          search-arg2 = v .5;
-        };
-        search-arg3 = v .6;
-      };
-      search = v .7;
-    }) in (
-      v .16 ∙ w .0 ∙ sym (l .loop .inv .0),
-      ap (λ (m : List ℕ). take (a .n) m) (v .17) ∙ w .1 ∙ sym (l .loop .inv .1),
-      ap (λ (m : List ℕ). length m) (v .17) ∙ w .2,
-      ap (λ (m : List ℕ). length m) (v .18) ∙ w .3 ∙ sym (l .loop .inv .3),
-      omega (arith, rows .loop2 .inv .4),
-      omega (arith, turn .loop2-test .taken),
-      same ∙ ap₂ (λ e m. emits capacity (choicesFrom (system t z) i (state t z) (r + 1)) (emittedOf e (a .last .now) m)) (v .19) (v .18) ∙ w .4 ∙ sym (begun t g),
-    ))
+    let q : Placed t = record { before = record { before = record { before = tried; if4 = v .0 }; place-row-arg = v .1 }; place-row = v .2 } in
+    let at-m : Masked t = record { before = record { before = record { before = q; state = v .3 }; slice-known4 = v .4 }; mask-at = v .5 } in
+    let at-more : United t = record { before = at-m; union = v .6 } in
+    let below : Searched t = record { before = record { before = record { before = at-more; search-arg = v .7 }; search-arg2 = v .8 }; search = v .9 } in
+    again-back t below (c .if4 .state) (c .if4 .answers) (c .if4 .s) (v .19 ∙ v .15 .ensures) (v .20) (v .21))
     (λ v. (
-      v .1 ∙ rows .loop2 .inv .0,
-      ap (λ (m : List ℕ). take (a .n) m) (v .2) ∙ rows .loop2 .inv .1,
-      ap (λ (m : List ℕ). length m) (v .2) ∙ rows .loop2 .inv .2,
-      ap (λ (m : List ℕ). length m) (v .3) ∙ rows .loop2 .inv .3,
+      ap leftPart (v .1) ∙ rows .loop2 .inv .0,
+      ap (λ (m : List ℕ). take (a .n) m) (v .1) ∙ rows .loop2 .inv .1,
+      ap (λ (m : List ℕ). length m) (v .1) ∙ rows .loop2 .inv .2,
+      ap (λ (m : List ℕ). length m) (v .2) ∙ rows .loop2 .inv .3,
       omega (arith, rows .loop2 .inv .4),
       omega (arith, turn .loop2-test .taken),
-      same ∙ ap₂ (λ e m. emits capacity (choicesFrom (system t z) i (state t z) (r + 1)) (emittedOf e (a .last .now) m)) (v .4) (v .3)
+      same ∙ ap₂ (λ e m. emits capacity (choicesFrom (system t z) i (state t z) (r + 1)) (emittedOf e (a .last .now) m)) (v .3) (v .2)
           ∙ turn-passes x r (row .0) (row .2) (a .last .now) (a .shown .now) (z .pre .1 .0 .4)
-          (subst (λ (k : ℕ). 0 < getD (a .left .now) k 0) (sym (row .1)) (some-copy t (at-kind t g))) i capacity _ _ refl
+          (subst (λ (k : ℕ). 0 < getD (leftPart (a .state .now)) k 0) (sym (row .1)) (some-copy t (at-kind t g))) i capacity _ _ refl
           (ap (λ (m : List ℕ). apart 128 (has (maskAt (a .work .now) r)) (has (a .covered))
           && ((not (rows .loop2 .s .waiting) || showsRow (ownedIn (piecesPart (a .chart .now)) (a .d .pieces)) (a .shown .now) (rowAt (a .work .now) r))
           && goesOn (system t z) (choose (stateBy (system t z) m (a .covered) []) (rowAt (a .work .now) r)))) (sym (rows .loop2 .inv .0 ∙ l .loop .inv .0))
@@ -548,15 +626,15 @@ search-loop2-again t c =
     (c .if4 .came)
 
 search-add-kind : (t : ℕ) → search-lts.Need-add-kind (known t) (search-at t) search′.Post search-Inv-loop2 search-μ-loop2 search-Inv-loop search-μ-loop
-search-add-kind t c = omega (arith, c .before .before .if2 .taken)
+search-add-kind t c = omega (arith, c .before .before .before .if2 .taken)
 
 search-loop-less : (t : ℕ) → search-lts.Need-loop-less (known t) (search-at t) search′.Post search-Inv-loop2 search-μ-loop2 search-Inv-loop search-μ-loop
-search-loop-less t c = omega (arith, c .before .before .if2 .taken)
+search-loop-less t c = omega (arith, c .before .before .before .if2 .taken)
 
 search-loop-again : (t : ℕ) → search-lts.Need-loop-again (known t) (search-at t) search′.Post search-Inv-loop2 search-μ-loop2 search-Inv-loop search-μ-loop
 search-loop-again t c =
-    let known5 = c .before in
-    let l = known5 .before .before .before in
+    let copies = c .before in
+    let l = copies .before .before .before .before in
     let z = start-of t l in
     let a = z .args in
     let x = opened t (at-open t l) in
@@ -566,35 +644,32 @@ search-loop-again t c =
     let next = startOf (system t z .rows) (128 * (k + 1) + cell-of t l) in
     ⊎-elim
     (λ v.
-    let rows : Rows t = record { before = record { before = record { before = record { before = known5; if3 = v .0 }; start-at = v .1 }; start-at2 = v .2 }; loop2 = v .3 } in
-    let end = ends-is x k (known5 .before .if2 .taken) _ _ (v .1 .ensures) (v .2 .ensures) in
+    let rows : Rows t = record { before = record { before = record { before = record { before = copies; if3 = v .0 }; start-at = v .1 }; start-at2 = v .2 }; loop2 = v .3 } in
+    let end = ends-is x k (copies .before .before .if2 .taken) _ _ (v .1 .ensures) (v .2 .ensures) in
     let at-end : rows .loop2 .r ≡ v .2 .result = omega (arith, rows .loop2 .inv .5, v .4 .left) in (
-      v .5 ∙ rows .loop2 .inv .0 ∙ l .loop .inv .0,
-      ap (λ (m : List ℕ). take (a .n) m) (v .6) ∙ rows .loop2 .inv .1 ∙ l .loop .inv .1,
-      ap (λ (m : List ℕ). length m) (v .6) ∙ rows .loop2 .inv .2,
-      ap (λ (m : List ℕ). length m) (v .7) ∙ rows .loop2 .inv .3 ∙ l .loop .inv .3,
-      ap₂ (λ e m. emits capacity (choicesFrom (system t z) i (state t z) next) (emittedOf e (a .last .now) m)) (v .8) (v .7)
+      ap leftPart (v .5) ∙ rows .loop2 .inv .0 ∙ l .loop .inv .0,
+      ap (λ (m : List ℕ). take (a .n) m) (v .5) ∙ rows .loop2 .inv .1 ∙ l .loop .inv .1,
+      ap (λ (m : List ℕ). length m) (v .5) ∙ rows .loop2 .inv .2,
+      ap (λ (m : List ℕ). length m) (v .6) ∙ rows .loop2 .inv .3 ∙ l .loop .inv .3,
+      ap₂ (λ e m. emits capacity (choicesFrom (system t z) i (state t z) next) (emittedOf e (a .last .now) m)) (v .7) (v .6)
           ∙ kind-ends x i capacity _ k (rows .loop2 .r) _ (at-end ∙ end) (listed t rows),
     ))
     (λ v. (
-      v .1 ∙ l .loop .inv .0,
-      ap (λ (m : List ℕ). take (a .n) m) (v .2) ∙ l .loop .inv .1,
-      ap (λ (m : List ℕ). length m) (v .2) ∙ l .loop .inv .2,
-      ap (λ (m : List ℕ). length m) (v .3) ∙ l .loop .inv .3,
-      ap₂ (λ e m. emits capacity (choicesFrom (system t z) i (state t z) next) (emittedOf e (a .last .now) m)) (v .4) (v .3)
+      ap leftPart (v .1) ∙ l .loop .inv .0,
+      ap (λ (m : List ℕ). take (a .n) m) (v .1) ∙ l .loop .inv .1,
+      ap (λ (m : List ℕ). length m) (v .1) ∙ l .loop .inv .2,
+      ap (λ (m : List ℕ). length m) (v .2) ∙ l .loop .inv .3,
+      ap₂ (λ e m. emits capacity (choicesFrom (system t z) i (state t z) next) (emittedOf e (a .last .now) m)) (v .3) (v .2)
           ∙ kind-passes x i capacity _ k _
-          (let e = ap (λ (m : List ℕ). getD m k 0) (sym (l .loop .inv .0)) in let n = v .0 .left in omega (arith, e, n)) (l .loop .inv .4),
+          (let e = ap (λ (m : List ℕ). getD m k 0) (sym (l .loop .inv .0)) in let n = v .0 .left in omega (arith, e, n, copies .left-of .ensures)) (l .loop .inv .4),
     ))
     (c .if3 .came)
 
+search-same-length-5 : (t : ℕ) → search-lts.Need-same-length-5 (known t) (search-at t) search′.Post search-Inv-loop2 search-μ-loop2 search-Inv-loop search-μ-loop
+search-same-length-5 t c = let l = c .before .before in l .loop .inv .2 ∙ sym (start-of t l .pre .1 .0 .2)
+
 search-same-length-6 : (t : ℕ) → search-lts.Need-same-length-6 (known t) (search-at t) search′.Post search-Inv-loop2 search-μ-loop2 search-Inv-loop search-μ-loop
-search-same-length-6 t c = ap (λ (m : List ℕ). length m) (c .before .before .loop .inv .0)
-
-search-same-length-7 : (t : ℕ) → search-lts.Need-same-length-7 (known t) (search-at t) search′.Post search-Inv-loop2 search-μ-loop2 search-Inv-loop search-μ-loop
-search-same-length-7 t c = let l = c .before .before in l .loop .inv .2 ∙ sym (start-of t l .pre .1 .0 .2)
-
-search-same-length-8 : (t : ℕ) → search-lts.Need-same-length-8 (known t) (search-at t) search′.Post search-Inv-loop2 search-μ-loop2 search-Inv-loop search-μ-loop
-search-same-length-8 t c = c .before .before .loop .inv .3
+search-same-length-6 t c = c .before .before .loop .inv .3
 
 search-returns-3 : (t : ℕ) → search-lts.Need-returns-3 (known t) (search-at t) search′.Post search-Inv-loop2 search-μ-loop2 search-Inv-loop search-μ-loop
 search-returns-3 t c =
@@ -619,7 +694,7 @@ pub +search-spec : {M : Type 1} → statement M
     (search-same-length-2 t)
     (search-returns t)
     (search-loop-holds t)
-    (search-slice-read-if3 t)
+    (search-left-of-requires t)
     (search-mul-start-at t)
     (search-add-start-at t)
     (search-start-at-requires t)
@@ -629,22 +704,14 @@ pub +search-spec : {M : Type 1} → statement M
     (search-start-at-requires-2 t)
     (search-loop2-holds t)
     (search-is-tried-requires t)
-    (search-slice-read-left t)
-    (search-sub-left t)
-    (search-slice-write-left t)
-    (search-cast-path t)
-    (search-mul-path t)
-    (search-slice-write-path t)
+    (search-place-row-requires t)
     (search-mask-at-requires t)
     (search-union-requires t)
     (search-add-search t)
     (search-search-requires t)
-    (search-slice-read-left-2 t)
-    (search-add-left t)
-    (search-slice-write-left-2 t)
+    (search-put-back-requires t)
     (search-same-length-3 t)
     (search-same-length-4 t)
-    (search-same-length-5 t)
     (search-returns-2 t)
     (search-add-r t)
     (search-loop2-less t)
@@ -652,7 +719,6 @@ pub +search-spec : {M : Type 1} → statement M
     (search-add-kind t)
     (search-loop-less t)
     (search-loop-again t)
+    (search-same-length-5 t)
     (search-same-length-6 t)
-    (search-same-length-7 t)
-    (search-same-length-8 t)
     (search-returns-3 t)

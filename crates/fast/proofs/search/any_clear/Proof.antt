@@ -1,10 +1,9 @@
 -- `any_clear` meets its contract: what the rows from r on say is what those from the start on do. Assumes nothing.
-use Prim.Native.Nat.{ℕ, _-_, _≤_, _<_}
+use Prim.Native.Nat.{ℕ, _-_, _≤_}
 use mathlib.Core.Bool.{Bool}
 use mathlib.Core.List.{List}
 use mathlib.Core.Path.{_≡_, refl, sym, _∙_}
 use native.Mathlib.Omega.{arith}
-use borrow.Author.Tests.{not-true, not-false}
 use denote.Ref.{now}
 use Rattle.lists.specs.Lists.{any, from}
 use Rattle.lists.proofs.RangeLaws.{any-found, any-next, any-none}

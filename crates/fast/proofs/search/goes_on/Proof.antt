@@ -2,20 +2,22 @@
 use Prim.Native.Nat.{ℕ, _+_, _-_, _*_, _≤_, _<_}
 use mathlib.Core.List.{List}
 use mathlib.Core.Logic.{⊎-elim}
-use mathlib.Core.Path.{_≡_, sym, _∙_, subst}
+use mathlib.Core.Path.{sym, _∙_, subst}
 use native.Mathlib.Omega.{arith}
 use borrow.Author.Needs.{needs}
 use denote.Ref.{now}
 use lib.ListN.{getD, set}
+use Rattle.kept.proofs.ReadyLaws.{few-kinds}
+use Rattle.fast.specs.States.{leftPart}
 use Rattle.fast.proofs.AheadLaws.{Unplaced, goes-leaf, ahead-within, ahead-up, goes-found, kind-unplaced, kind-spent, goes-none}
 use Rattle.fast.proofs.search.goes_on.Statement.{statement}
 use Rattle.fast.proofs.search.goes_on.Tie as tie
 
 abbrev Inv-loop : tie.InvT-loop
-Inv-loop d work chart left kind covered c k₀ k = Unplaced d work chart (set left kind (getD left kind 0 - 1)) covered k
+Inv-loop d work chart state kind covered c k₀ k = let left = leftPart state in Unplaced d work chart (set left kind (getD left kind 0 - 1)) covered k
 
 abbrev μ-loop : tie.MeasureT-loop
-μ-loop d work chart left kind covered c k₀ k = d .kinds - k
+μ-loop d work chart state kind covered c k₀ k = d .kinds - k
 
 -- ---- from a place of the code back to an earlier one
 abbrev at-start : tie.After-next-open Inv-loop μ-loop → tie.Start Inv-loop μ-loop
@@ -32,7 +34,7 @@ start-of l = at-start (at-cell (l .before))
 
 -- the copies that are left
 abbrev after : tie.Start Inv-loop μ-loop → List ℕ
-after z = let left = now (z .args .left) in let k = z .args .kind in set left k (getD left k 0 - 1)
+after z = let left = leftPart (now (z .args .state)) in let k = z .args .kind in set left k (getD left k 0 - 1)
 
 -- the ranges of kind k at the cell
 within : (c : tie.Then3 Inv-loop μ-loop) → let l = at-loop (c .before) in
@@ -53,7 +55,10 @@ loop-holds : tie.Need-loop-holds Inv-loop μ-loop
 loop-holds c = λ r row h. absurd (omega arith)
 
 left-after-requires : tie.Need-left-after-requires Inv-loop μ-loop
-left-after-requires c κs = let z = start-of (c .before .before) in (omega (arith, z .pre .1, c .if2 .taken), z .pre .2)
+left-after-requires c κs =
+    let z = start-of (c .before .before) in
+    let a = z .args in
+    (omega (arith, few-kinds (a .d) (now (a .work)) (now (a .chart)) (z .pre .0 .lawful), c .if2 .taken), z .pre .1, z .pre .2)
 
 mul-start-at : tie.Need-mul-start-at Inv-loop μ-loop
 mul-start-at c = let h = within c .1 in omega arith

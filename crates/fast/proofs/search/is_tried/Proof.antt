@@ -1,11 +1,11 @@
 -- `is_tried` meets its contract: the three tests, one after the other. Assumes nothing.
 use mathlib.Core.Path.{ap, _∙_}
 use native.Mathlib.Omega.{arith}
-use borrow.Author.Needs.{needs}
 use borrow.Author.Tests.{not-true, not-false}
 use denote.Ref.{now}
 use Rattle.masks.specs.Masks.{has, either}
 use Rattle.masks.specs.declared.Mask.{Mask}
+use Rattle.fast.specs.States.{leftPart}
 use Rattle.fast.proofs.UnmetLaws.{test-fails, test-passes}
 use Rattle.fast.proofs.AheadLaws.{goes-below}
 use Rattle.fast.proofs.search.is_tried.Statement.{statement}
@@ -53,7 +53,7 @@ returns-3 c =
     test-passes _ _ (clear .result) _ (clear .ensures) (not-false (clear .result) (leads .before .if1 .left))
     (test-passes _ _ (leads .leads .result) _ (leads .leads .ensures) (not-false (leads .leads .result) (shown .if2 .left))
     (c .goes-on .ensures
-    ∙ goes-below (now (a .left)) (a .covered) (union .union .result) (z .pre .0 .0) (a .r) (a .kind) (z .pre .0 .1) (z .pre .0 .2)
+    ∙ goes-below (leftPart (now (a .state))) (a .covered) (union .union .result) (z .pre .0 .0) (a .r) (a .kind) (z .pre .0 .1) (z .pre .0 .2)
     (union .union .ensures ∙ ap (λ (m : Mask). either (has (a .covered)) (has m)) (mask .mask-at .ensures))))
 
 pub is-tried-spec : {M : Type 1} → statement M

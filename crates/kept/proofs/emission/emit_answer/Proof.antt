@@ -4,7 +4,7 @@ use mathlib.Core.Path.{sym}
 use native.Mathlib.Omega.{arith}
 use denote.Ref.{now}
 use lib.ListN.{length}
-use Rattle.definitions.proofs.EmissionLaws.{emit-done, emit-skipped, emit-full, room}
+use Rattle.theorems.proofs.EmissionLaws.{emit-done, emit-skipped, emit-full, room}
 use Rattle.rows.specs.Charts.{piecesPart, scansPart}
 use Rattle.rows.specs.Answering.{pathIn, takenBy}
 use Rattle.rows.proofs.ChartLaws.{scans-long}

@@ -7,42 +7,42 @@ use Rattle.masks.proofs.Trailing.{open-low, open-across, open-high, ope
 use Rattle.masks.proofs.Mask.next_open.Statement.{statement}
 use Rattle.masks.proofs.Mask.next_open.Tie as tie
 
-returns : tie.Need-returns
-returns c = record { from = omega arith; upTo = omega arith; passed = λ k u v. absurd (omega arith); stops = λ u. absurd (omega arith) }
-
 shr-t : tie.Need-shr-t
 shr-t c = search needs
 
 cast-t : tie.Need-cast-t
 cast-t c =
-    let a = c .before .before .before .args in
+    let a = c .before .before .args in
     omega (arith, trailing-le 64 ((2 ^ 64 - 1 - a .self .low) / 2 ^ a .n))
 
-sub-if3 : tie.Need-sub-if3
-sub-if3 c = search needs
+sub-if2 : tie.Need-sub-if2
+sub-if2 c = search needs
 
 add-result : tie.Need-add-result
 add-result c = search needs
 
-returns-2 : tie.Need-returns-2
-returns-2 c =
-    let a = c .before .before .before .before .args in
-    open-low (a .self .low) (a .self .high) (a .n) (omega arith) (omega arith) (omega arith) (c .if3 .taken)
+returns : tie.Need-returns
+returns c =
+    let a = c .before .before .before .args in
+    open-low (a .self .low) (a .self .high) (a .n) (omega arith) (omega arith) (omega arith) (c .if2 .taken)
 
 cast-result : tie.Need-cast-result
 cast-result c =
-    let a = c .before .before .before .before .before .args in
+    let a = c .before .before .before .before .args in
     omega (arith, trailing-le 64 (2 ^ 64 - 1 - a .self .high))
 
 add-result-2 : tie.Need-add-result-2
 add-result-2 c =
-    let a = c .before .before .before .before .before .args in
+    let a = c .before .before .before .before .args in
     omega (arith, trailing-le 64 (2 ^ 64 - 1 - a .self .high))
 
+returns-2 : tie.Need-returns-2
+returns-2 c =
+    let a = c .before .before .before .before .args in
+    open-across (a .self .low) (a .self .high) (a .n) (omega arith) (omega arith) (omega arith) (c .before .if2 .left)
+
 returns-3 : tie.Need-returns-3
-returns-3 c =
-    let a = c .before .before .before .before .before .args in
-    open-across (a .self .low) (a .self .high) (a .n) (omega arith) (omega arith) (omega arith) (c .before .if3 .left)
+returns-3 c = record { from = omega arith; upTo = omega arith; passed = λ k u v. absurd (omega arith); stops = λ u. absurd (omega arith) }
 
 shr-t-2 : tie.Need-shr-t-2
 shr-t-2 c = search needs
@@ -72,14 +72,14 @@ pub next-open-spec : {M : Type 1} → statement M
 next-open-spec =
     tie.close
     (tie.spec
-    returns
     shr-t
     cast-t
-    sub-if3
+    sub-if2
     add-result
-    returns-2
+    returns
     cast-result
     add-result-2
+    returns-2
     returns-3
     shr-t-2
     cast-t-2

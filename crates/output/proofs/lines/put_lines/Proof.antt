@@ -5,7 +5,7 @@ use mathlib.Core.Path.{_≡_, refl, _∙_}
 use native.Mathlib.Omega.{arith}
 use denote.Ref.{now}
 use lib.ListN.{length, drop, take}
-use Rattle.definitions.proofs.EmissionLaws.{room}
+use Rattle.theorems.proofs.EmissionLaws.{room}
 use Rattle.output.specs.Rest.{restFrom, Stands}
 use Rattle.output.proofs.RestLaws.{rest-more, kept-behind, line-some}
 use Rattle.output.proofs.lines.put_lines.Statement.{statement}

@@ -5,7 +5,7 @@ use native.Mathlib.Omega.{arith}
 use denote.Ref.{now}
 use lib.ListN.{length}
 use lib.Seq.{length-take-le}
-use Rattle.definitions.proofs.EmissionLaws.{room}
+use Rattle.theorems.proofs.EmissionLaws.{room}
 use Rattle.output.proofs.TurnLaws.{never-missing, never-refused, turned}
 use borrow.Author.Needs.{needs}
 use Rattle.output.proofs.pages.turn_page.Statement.{statement}

@@ -57,7 +57,7 @@ stand c =
     let start = to-start c in
     let a = start .args in
     posed-stand (asOrder (a .order)) (axes (asSides (a .b))) (asGrid (a .s) (now (a .cells))) (now (a .turnings)) (posed c) (a .k) (c .pose-all .result) (start .pre .2 .isOrder) (start .pre .3)
-    (c .pose-all .ensures)
+    (c .pose-all .ensures .0)
 
 are : (c : tie.After-pose-all Inv-loop μ-loop)
     → (let a = to-start c .args in variantsIn (axes (asSides (a .b))) (posed c) (c .pose-all .result) (a .k) ≡ map (scan (asOrder (a .order))) (made (to-start c)))
@@ -65,7 +65,7 @@ are c =
     let start = to-start c in
     let a = start .args in
     posed-make (asOrder (a .order)) (axes (asSides (a .b))) (asGrid (a .s) (now (a .cells))) (now (a .turnings)) (posed c) (a .k) (c .pose-all .result) (start .pre .2 .isOrder) (start .pre .3)
-    (c .pose-all .ensures)
+    (c .pose-all .ensures .0)
 
 -- what fits at a place, as the invariant has it
 abbrev found : tie.After-pose-all Inv-loop μ-loop → ℕ → ℕ

@@ -63,7 +63,7 @@ variants-of-requires : tie.Need-variants-of-requires
 variants-of-requires c κs =
     let turned = c .before .before .before in
     let start = turned .before .before .before .before .before .before in
-    (start .pre .1, turned .turn-all .ensures, search needs)
+    (start .pre .1, turned .turn-all .ensures .0, search needs)
 
 cast-turnings : tie.Need-cast-turnings
 cast-turnings c = search needs

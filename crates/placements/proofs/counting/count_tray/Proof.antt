@@ -90,7 +90,7 @@ merge-requires : tie.Need-merge-requires
 merge-requires c κs =
     let maps = c .before .before .before .before in
     let z = to-start (to-sides (to-cells (to-places maps))) in
-    (sound _ _ _ (lent z), maps .smallest-maps .ensures, omega (arith, z .pre .3))
+    (sound _ _ _ (lent z), maps .smallest-maps .ensures .0, omega (arith, z .pre .3))
 
 count-kinds-requires : tie.Need-count-kinds-requires
 count-kinds-requires c κs =
@@ -98,7 +98,7 @@ count-kinds-requires c κs =
     let m = merged .merge in
     let maps = to-maps merged in
     let z = to-start (to-sides (to-cells (to-places maps))) in
-    (z .pre .0, cells-on (to-places maps), maps .smallest-maps .ensures, m .ensures .0, omega (arith, lent z .few, m .ensures .0 .few, m .kept .1 .1 .1 .0, z .pre .3), z .pre .4)
+    (z .pre .0, cells-on (to-places maps), maps .smallest-maps .ensures .0, m .ensures .0, omega (arith, lent z .few, m .ensures .0 .few, m .kept .1 .1 .1 .0, z .pre .3), z .pre .4)
 
 same-length : tie.Need-same-length
 same-length c = search needs
@@ -115,7 +115,7 @@ same-length-4 c = search needs
 returns : tie.Need-returns
 returns c =
     let counted = c .before .before in
-    (counted .count-kinds .ensures, to-maps (to-merge (counted .before)) .smallest-maps .ensures)
+    (counted .count-kinds .ensures, to-maps (to-merge (counted .before)) .smallest-maps .ensures .0)
 
 pub count-tray-spec : {M : Type 1} → statement M
 count-tray-spec =

@@ -4,7 +4,7 @@ use native.Mathlib.Omega.{arith}
 use borrow.Author.Needs.{needs}
 use denote.Ref.{now}
 use Rattle.definitions.specs.Grid.{volume}
-use Rattle.definitions.proofs.RefusalLaws.{fit-volume}
+use Rattle.theorems.proofs.RefusalLaws.{fit-volume}
 use Rattle.placements.proofs.RefusalLaws.{grid-is, grid-whole}
 use Rattle.placements.proofs.StrippingLaws.{strips-record}
 use Rattle.placements.proofs.stripping.strip_record.Statement.{statement}

@@ -20,7 +20,7 @@ abbrev μ-loop : tie.MeasureT-loop
 μ-loop mask c told₀ i₀ told i = 128 - i
 
 next-cell-requires : tie.Need-next-cell-requires Inv-loop μ-loop
-next-cell-requires c κs = omega arith
+next-cell-requires c κs = search needs
 
 loop-holds : tie.Need-loop-holds Inv-loop μ-loop
 loop-holds c =
@@ -30,7 +30,7 @@ loop-holds c =
       search needs,
       n .upTo,
       n .stops,
-      laid-none (a .mask) (asCopy (a .c)) (now (a .told)) (start .pre) ∙ laid-on (a .mask) (asCopy (a .c)) (now (a .told)) (start .pre) 0 _ n,
+      laid-none (a .mask) (asCopy (a .c)) (now (a .told)) (start .pre) ∙ laid-on (a .mask) (asCopy (a .c)) (now (a .told)) (start .pre) 0 _ (omega arith) n,
     )
 
 mul-told : tie.Need-mul-told Inv-loop μ-loop
@@ -52,7 +52,7 @@ add-next-cell : tie.Need-add-next-cell Inv-loop μ-loop
 add-next-cell c = omega arith
 
 next-cell-requires-2 : tie.Need-next-cell-requires-2 Inv-loop μ-loop
-next-cell-requires-2 c κs = omega arith
+next-cell-requires-2 c κs = search needs
 
 loop-less : tie.Need-loop-less Inv-loop μ-loop
 loop-less c = omega (arith, c .next-cell2 .ensures .from)
@@ -69,7 +69,7 @@ loop-again c =
       n .upTo,
       n .stops,
       laid-hit (a .mask) (asCopy (a .c)) (now (a .told)) (start .pre) (l .i) (omega arith) (l .inv .2 (omega arith)) (l .told) (l .inv .3)
-          ∙ laid-on (a .mask) (asCopy (a .c)) (now (a .told)) (start .pre) (l .i + 1) _ n,
+          ∙ laid-on (a .mask) (asCopy (a .c)) (now (a .told)) (start .pre) (l .i + 1) _ (omega arith) n,
     )
 
 same-length : tie.Need-same-length Inv-loop μ-loop

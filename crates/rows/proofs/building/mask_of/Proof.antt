@@ -11,6 +11,7 @@ use Rattle.lists.specs.Lists.{member}
 use Rattle.definitions.specs.Grid.{Cell, InBox, placeOf}
 use Rattle.definitions.specs.Placements.{lies, reaches}
 use Rattle.masks.specs.Masks.{has, only, either}
+use Rattle.masks.proofs.MaskLaws.{cell-taken}
 use Rattle.shape.specs.Coords.{asSides, asCell}
 use Rattle.placements.specs.Poses.{cellOf, cellsIn, originIn}
 use Rattle.rows.proofs.RowLaws.{numbersFrom, mask-start, mask-next, mask-end, landing}
@@ -88,8 +89,7 @@ cast-n : tie.Need-cast-n Inv-loop μ-loop
 cast-n c = omega (arith, c .shared-slice-known3 .given (c .before .place .result))
 
 with-cell-requires : tie.Need-with-cell-requires Inv-loop μ-loop
-with-cell-requires c κs =
-    subst (λ (n : ℕ). getD (now (to-start (to-turn (c .before .before) .before) .args .scans)) n 0 < 128) (sym (c .before .place .ensures .0)) (landed (c .before .before) .1)
+with-cell-requires c κs = search needs
 
 add-k : tie.Need-add-k Inv-loop μ-loop
 add-k c = search needs
@@ -105,10 +105,11 @@ loop-again c =
     let at-loop = turn .before in
     let z = to-start at-loop in
     let a = z .args in
+    let numbered = subst (λ (n : ℕ). getD (now (a .scans)) n 0 < 128) (sym (place .ensures .0)) (landed lain .1) in
     let l = at-loop .loop in (
       omega (arith, turn .loop-test .taken),
       mask-next (λ n. number z (cellOf (getD (now (a .poses)) (512 * a .i + n) 0))) (has (l .mask)) (l .k) (a .size) (has (c .with-cell .result)) (turn .loop-test .taken)
-          (c .with-cell .ensures
+          (c .with-cell .ensures ∙ cell-taken _ _ _ numbered
           ∙ ap (λ (n : ℕ). either (has (l .mask)) (only (getD (now (a .scans)) n 0))) (place .ensures .0 ∙ ap (placeOf (asSides (a .b))) (landed lain .2)))
           ∙ l .inv .1,
     )

@@ -1,8 +1,7 @@
 -- `range_rows` meets its contract. The loop's invariant: the starts of the ranges before i stand there, and r is no later than that of range i. Assumes nothing.
-use Prim.Native.Nat.{ℕ, _-_, _+_, _≤_}
-use mathlib.Core.Path.{_≡_, sym, subst}
+use Prim.Native.Nat.{_-_, _+_, _≤_}
+use mathlib.Core.Path.{_≡_, subst}
 use native.Mathlib.Omega.{arith}
-use borrow.Author.Needs.{needs}
 use denote.Ref.{now}
 use lib.ListN.{length, length-set}
 use Rattle.rows.specs.Rows.{rowsIn}

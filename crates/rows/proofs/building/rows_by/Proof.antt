@@ -73,7 +73,7 @@ stand c =
     let z = to-start c in
     let a = z .args in
     posed-stand (asOrder (a .order)) (axes (asSides (a .b))) (asGrid (a .s) (now (a .cells))) (now (a .turnings)) (posed c) (length (now (a .turnings))) (c .pose-all .result) (z .pre .0 .3 .isOrder)
-    (omega arith) (c .pose-all .ensures)
+    (omega arith) (c .pose-all .ensures .0)
 
 are : (c : tie.After-pose-all Inv-loop μ-loop)
     → (let a = to-start c .args in turned c ≡ map (scan (asOrder (a .order))) (turnedBy (asGrid (a .s) (now (a .cells))) (now (a .turnings))))
@@ -81,7 +81,7 @@ are c =
     let z = to-start c in
     let a = z .args in
     posed-make (asOrder (a .order)) (axes (asSides (a .b))) (asGrid (a .s) (now (a .cells))) (now (a .turnings)) (posed c) (length (now (a .turnings))) (c .pose-all .result) (z .pre .0 .3 .isOrder)
-    (omega arith) (c .pose-all .ensures)
+    (omega arith) (c .pose-all .ensures .0)
     ∙ ap (λ (ks : List ℕ). map (scan (asOrder (a .order))) (turnedBy (asGrid (a .s) (now (a .cells))) ks)) (take-all (length (now (a .turnings))) (now (a .turnings)) (omega arith))
 
 -- all placements, their placements at a cell, and what is left from cell p on

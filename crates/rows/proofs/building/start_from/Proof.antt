@@ -1,7 +1,6 @@
 -- `start_from` meets its contract. The loop's invariant: s is no later than where the ranges from i on begin. Assumes nothing.
 use Prim.Native.Nat.{_-_, _≤_, _<_}
 use native.Mathlib.Omega.{arith}
-use borrow.Author.Needs.{needs}
 use denote.Ref.{now}
 use Rattle.rows.specs.Rows.{rowAt, rowsIn}
 use Rattle.rows.specs.Ranges.{startOf}

@@ -11,6 +11,7 @@ use Rattle.definitions.specs.Scan.{axes}
 use Rattle.shape.specs.Coords.{asSides}
 use Rattle.shape.specs.Grids.{asGrid}
 use Rattle.shape.specs.Scans.{asOrder}
+use Rattle.shape.proofs.GridTestLaws.{whole-tells}
 use Rattle.placements.specs.Counting.{OnBoard}
 use Rattle.rows.specs.Boards.{Numbered, Pictured}
 use Rattle.rows.proofs.PictureLaws.{DoneTo, picturesFrom, done-none, done-hit, done-miss, done-all, can-move}
@@ -56,6 +57,7 @@ loop-again c =
     let k = c .before .before .before .before .before .before .before .before in
     let a = k .args in
     let g = asGrid (a .b) (now (a .board)) in
+    let keeps = c .before .keeps .ensures ∙ whole-tells (a .b) (now (a .board)) (k .pre .0 .0) _ in
     let on = subst (λ (o : List ℕ). OnBoard o g (now (a .places)) (a .size)) (sym (k .pre .0 .2 .isOrder)) (k .pre .0 .2) in
     let num = subst (λ (o : List ℕ). Numbered o g (now (a .scans))) (sym (k .pre .0 .1 .isOrder)) (k .pre .0 .1) in
     ⊎-elim
@@ -64,7 +66,7 @@ loop-again c =
       omega arith,
       omega arith,
       omega arith,
-      done-hit (axes (asSides (a .b))) g (a .size) (now (a .images)) (a .n) (a .start) (a .end) (l .images) (l .r) (l .m) (omega arith) (l .inv .4) (sym (c .before .keeps .ensures) ∙ w .0 .taken)
+      done-hit (axes (asSides (a .b))) g (a .size) (now (a .images)) (a .n) (a .start) (a .end) (l .images) (l .r) (l .m) (omega arith) (l .inv .4) (sym keeps ∙ w .0 .taken)
           (now (a .places)) (now (a .scans)) on num (omega arith) _ (w .5 ∙ w .2 .ensures) _ (w .6),
     ))
     (λ w. (
@@ -72,7 +74,7 @@ loop-again c =
       omega arith,
       omega arith,
       omega arith,
-      done-miss (axes (asSides (a .b))) g (a .size) (now (a .images)) (a .n) (a .start) (a .end) (l .images) (l .r) (l .m) (omega arith) (l .inv .4) (sym (c .before .keeps .ensures) ∙ w .0 .left) _ (w .1) _ (w .2),
+      done-miss (axes (asSides (a .b))) g (a .size) (now (a .images)) (a .n) (a .start) (a .end) (l .images) (l .r) (l .m) (omega arith) (l .inv .4) (sym keeps ∙ w .0 .left) _ (w .1) _ (w .2),
     ))
     (c .if1 .came)
 

@@ -1,7 +1,7 @@
 -- `moved_word` meets its contract. The loop's invariant: `rest` is what is left of the word from number i on, shifted down, and the images taken up so far and
 -- those of the numbers from i on are all (`TakenUp`). The measure is what is left of 64 numbers. Assumes nothing.
 use Prim.Native.Nat.{ℕ, _+_, _-_, _/_, _^_, _≤_, _<_}
-use mathlib.Core.Bool.{Bool, true, false}
+use mathlib.Core.Bool.{true}
 use mathlib.Core.Path.{_≡_, sym, ap, _∙_, subst}
 use native.Mathlib.Nat.{div-one}
 use native.Mathlib.Omega.{arith}
@@ -10,6 +10,7 @@ use denote.Ref.{now}
 use lib.Count.{trailingZeros, trailing-le}
 use lib.ListN.{getD}
 use Rattle.masks.specs.Masks.{has, hit}
+use Rattle.masks.proofs.MaskLaws.{cell-taken}
 use Rattle.masks.proofs.Trailing.{word-passed, word-done, word-hit, word-within, word-next}
 use Rattle.rows.specs.Charts.{imagesPart}
 use Rattle.rows.proofs.MovedLaws.{TakenUp, taken-none, taken-past, taken-hit, taken-all}
@@ -82,7 +83,7 @@ image-at-requires : tie.Need-image-at-requires Inv-loop μ-loop
 image-at-requires c κs = let p = asked (c .before) .pre in let h = p .1 in let l = c .if1 .left in (omega arith, p .2)
 
 with-cell-requires : tie.Need-with-cell-requires Inv-loop μ-loop
-with-cell-requires c κs = let at = c .before .before in omega (arith, c .image-at .ensures, asked at .pre .3 (cell at) (c .before .if1 .left))
+with-cell-requires c κs = search needs
 
 shr-rest : tie.Need-shr-rest Inv-loop μ-loop
 shr-rest c = let w = within (c .before .before .before) in omega arith
@@ -98,10 +99,13 @@ loop-again c =
     let at = c .before .before .before in
     let l = at .before .loop in
     let a = asked at .args in
+    let image = c .before .image-at .ensures in
+    let numbered : c .before .image-at .result < 128 = omega (arith, image, asked at .pre .3 (cell at) (c .before .before .if1 .left)) in
     let w = within at in (
       omega arith,
       ap (λ (r : ℕ). r / 2 ^ trailingZeros 64 (l .rest) / 2 ^ 1) (l .inv .1) ∙ word-next (a .word) (l .i) (omega arith) (trailingZeros 64 (l .rest)),
-      taken-hit (hit (a .word)) (to (asked at)) (a .size) (cell at) (has (l .moved)) (c .before .before .if1 .left) (up-to at) (is-hit at) _ (c .before .image-at .ensures) _ (c .with-cell .ensures),
+      taken-hit (hit (a .word)) (to (asked at)) (a .size) (cell at) (has (l .moved)) (c .before .before .if1 .left) (up-to at) (is-hit at) _ image _
+          (c .with-cell .ensures ∙ cell-taken _ _ _ numbered),
     )
 
 returns-2 : tie.Need-returns-2 Inv-loop μ-loop

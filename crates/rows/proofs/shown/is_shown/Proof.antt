@@ -64,7 +64,7 @@ mask-at-requires : tie.Need-mask-at-requires Inv-loop μ-loop
 mask-at-requires c κs = search needs
 
 next-cell-requires : tie.Need-next-cell-requires Inv-loop μ-loop
-next-cell-requires c κs = omega arith
+next-cell-requires c κs = search needs
 
 loop-holds : tie.Need-loop-holds Inv-loop μ-loop
 loop-holds c = shown-on _ _ _ _ 0 _ (c .next-cell .ensures) (below-none _)
@@ -110,7 +110,7 @@ add-next-cell : tie.Need-add-next-cell Inv-loop μ-loop
 add-next-cell c = omega arith
 
 next-cell-requires-2 : tie.Need-next-cell-requires-2 Inv-loop μ-loop
-next-cell-requires-2 c κs = omega arith
+next-cell-requires-2 c κs = search needs
 
 loop-less : tie.Need-loop-less Inv-loop μ-loop
 loop-less c = omega (arith, c .next-cell2 .ensures .from)

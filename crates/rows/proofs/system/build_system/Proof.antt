@@ -13,6 +13,7 @@ use Rattle.definitions.specs.Grid.{Sides, volume}
 use Rattle.definitions.specs.Stripping.{FitsIn}
 use Rattle.shape.specs.Coords.{asSides}
 use Rattle.shape.proofs.PlaceLaws.{volume-small}
+use Rattle.shape.proofs.GridTestLaws.{fit-cells}
 use Rattle.placements.specs.Pieces.{recordsOf}
 use Rattle.placements.specs.Stripping.{lentPlace}
 use Rattle.placements.proofs.CountingLaws.{Lent, lent-passes}
@@ -118,7 +119,7 @@ number-places-requires c κs =
     )
 
 volume-of-requires : tie.Need-volume-of-requires
-volume-of-requires c κs = from-sides (to-put (c .before) .before) .pre .1 .0 .0
+volume-of-requires c κs = search needs
 
 slice-aggregate-lay-chart : tie.Need-slice-aggregate-lay-chart
 slice-aggregate-lay-chart c = search needs
@@ -185,7 +186,7 @@ returns c =
     let ps = pieces .list-pieces .last .1 .1 .1 .1 .1 .1 .0 in
     let chart = laid .lay-chart .last .1 .1 .1 .1 .1 .1 .0 in
     let long = laid .lay-chart .kept .1 .1 .1 .1 .1 .1 .0 ∙ z .pre .1 .1 .3 in
-    let size = v .volume-of .ensures .0 in
+    let size = v .volume-of .ensures .0 ∙ fit-cells _ (z .pre .1 .0 .0) in
     let d : Dims =
     record {
       size = a .counts .size;

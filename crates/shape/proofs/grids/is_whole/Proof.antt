@@ -14,13 +14,13 @@ returns-2 c = search needs
 returns-3 : tie.Need-returns-3
 returns-3 c = search needs
 
-volume-of-requires : tie.Need-volume-of-requires
-volume-of-requires c κs = search needs
+fit-volume-requires : tie.Need-fit-volume-requires
+fit-volume-requires c κs = search needs
 
 returns-4 : tie.Need-returns-4
 returns-4 c =
     let k = c .before .before .before .before .before .before .before .before in
-    whole-test (k .args .s) (now (k .args .cells)) (c .volume-of .result) (search needs) (c .volume-of .ensures .0)
+    whole-test (k .args .s) (now (k .args .cells)) (c .fit-volume .result) (search needs) (c .fit-volume .ensures .0)
 
 pub is-whole-spec : {M : Type 1} → statement M
-is-whole-spec = tie.close (tie.spec returns returns-2 returns-3 volume-of-requires returns-4)
+is-whole-spec = tie.close (tie.spec returns returns-2 returns-3 fit-volume-requires returns-4)

@@ -1,6 +1,6 @@
 -- `line_along` meets its contract. Assumes nothing.
 use Prim.Native.Nat.{_≤_}
-use mathlib.Core.Path.{_≡_, sym, subst}
+use mathlib.Core.Path.{sym, subst}
 use borrow.Author.Needs.{needs}
 use Rattle.shape.specs.Coords.{asSides}
 use Rattle.shape.proofs.PlaceLaws.{side-fit}

@@ -8,7 +8,7 @@ use denote.Ref.{now}
 use lib.ListN.{length}
 use lib.Seq.{paste, paste-zero}
 use Rattle.shape.specs.Lines.{layerOf}
-use Rattle.shape.proofs.TurningLaws.{part-fits}
+use Rattle.lists.proofs.PartLaws.{part-fits}
 use Rattle.shape.proofs.LineLaws.{layer-next}
 use Rattle.shape.proofs.lines.turn_layer.Statement.{statement}
 use Rattle.shape.proofs.lines.turn_layer.Tie as tie

@@ -21,8 +21,8 @@ Inv-loop cells s out₀ start at sides v j₀ out j =
 abbrev μ-loop : tie.MeasureT-loop
 μ-loop cells s out₀ start at sides v j₀ out j = v - j
 
-volume-of-requires : tie.Need-volume-of-requires Inv-loop μ-loop
-volume-of-requires c κs = let start = c .before .before .before .before in part-fit (start .pre .0 .fit) (start .pre .1)
+fit-volume-requires : tie.Need-fit-volume-requires Inv-loop μ-loop
+fit-volume-requires c κs = let start = c .before .before .before .before in part-fit (start .pre .0 .fit) (start .pre .1)
 
 loop-holds : tie.Need-loop-holds Inv-loop μ-loop
 loop-holds c =
@@ -66,12 +66,12 @@ get-requires c κs =
 add-out : tie.Need-add-out Inv-loop μ-loop
 add-out c =
     let at-loop = c .before .before .before .before .before .before .before .before .before in
-    omega (arith, at-loop .loop .inv, at-loop .before .volume-of .ensures, at-loop .before .before .before .before .before .before .pre .2)
+    omega (arith, at-loop .loop .inv, at-loop .before .fit-volume .ensures, at-loop .before .before .before .before .before .before .pre .2)
 
 slice-write-out : tie.Need-slice-write-out Inv-loop μ-loop
 slice-write-out c =
     let at-loop = c .before .before .before .before .before .before .before .before .before in
-    omega (arith, at-loop .loop .inv, at-loop .before .volume-of .ensures, at-loop .before .before .before .before .before .before .pre .2)
+    omega (arith, at-loop .loop .inv, at-loop .before .fit-volume .ensures, at-loop .before .before .before .before .before .before .pre .2)
 
 add-j : tie.Need-add-j Inv-loop μ-loop
 add-j c = search needs
@@ -92,7 +92,7 @@ loop-again c =
       search needs,
       omega arith,
       part-next g at (asSides (a .part .sides)) (now (a .out)) (l .out) (a .start) (l .j) (c .get .result) (start .pre .2)
-          (omega (arith, at-loop .before .volume-of .ensures)) (l .inv .2)
+          (omega (arith, at-loop .before .fit-volume .ensures)) (l .inv .2)
           (c .get .ensures ∙ ap (λ (u : Cell). byteAt g (setDown at u)) (at-cell .cell-at .ensures .0)),
     )
 
@@ -104,12 +104,12 @@ returns c =
     let at-loop = c .before in
     let a = at-loop .before .before .before .before .before .before .args in
     let l = at-loop .loop in
-    let e : l .j ≡ volume (asSides (a .part .sides)) = omega (arith, at-loop .before .volume-of .ensures) in
+    let e : l .j ≡ volume (asSides (a .part .sides)) = omega (arith, at-loop .before .fit-volume .ensures) in
     let bytes = partOf (asGrid (a .s) (now (a .cells))) (asCell (a .part .at)) (asSides (a .part .sides)) in
     l .inv .2 ∙ ap (paste (now (a .out)) (a .start) bytes) e
 
 pub copy-part-spec : {M : Type 1} → statement M
 copy-part-spec =
     tie.close
-    (tie.spec Inv-loop μ-loop volume-of-requires loop-holds cell-at-requires add-t13 add-t14 add-t15 get-requires add-out slice-write-out add-j loop-less
+    (tie.spec Inv-loop μ-loop fit-volume-requires loop-holds cell-at-requires add-t13 add-t14 add-t15 get-requires add-out slice-write-out add-j loop-less
     loop-again same-length returns)

@@ -6,7 +6,7 @@ use native.Mathlib.Omega.{arith}
 use borrow.Author.Needs.{needs}
 use denote.Ref.{now}
 use lib.ListN.{length}
-use Rattle.definitions.proofs.MapLaws.{cell-path}
+use Rattle.theorems.proofs.MapLaws.{cell-path}
 use Rattle.shape.specs.Coords.{asSides, asCell}
 use Rattle.shape.proofs.StrippingLaws.{AllMet, all-none, all-same, all-more, found-none, found-some, found-order}
 use Rattle.shape.proofs.stripping.window_of.Statement.{statement}

@@ -1,11 +1,11 @@
 -- `list` meets its contract: the engine that the configuration names lists, and one that is not ported lists nothing. Assumes nothing.
 use Prim.Native.Nat.{_*_}
-use mathlib.Core.Path.{refl, ap}
+use mathlib.Core.Path.{refl, sym, ap}
 use native.Mathlib.Nat.{div-mul-le-self}
 use borrow.Author.Needs.{needs}
 use denote.Ref.{now}
 use lib.ListN.{length}
-use Rattle.definitions.specs.Emission.{emits}
+use Rattle.theorems.proofs.EmissionLaws.{emits-none}
 use Rattle.definitions.specs.Refusals.{identifyOf, isKnuth}
 use Rattle.solver.specs.Lent.{LinksAfter, answersBy}
 use Rattle.solver.proofs.CallLaws.{by-engine}
@@ -48,13 +48,13 @@ list-requires-2 c κs =
     (z .pre .0, z .pre .2 is, z .pre .3 is, div-mul-le-self (length (now (z .args .answers))) (2 * z .args .d .places))
 
 returns : tie.Need-returns
-unfolding answersBy emits LinksAfter
+unfolding answersBy LinksAfter
 returns c =
-    by-engine (c .enum-told .given .1) _ _ _ _ _ _ _ refl refl
+    by-engine (c .enum-told .given .1) _ _ _ _ _ _ _ (sym (emits-none _ _)) refl
 
 returns-2 : tie.Need-returns-2
-unfolding answersBy emits LinksAfter
-returns-2 c = by-engine (c .enum-told2 .given .1) _ _ _ _ _ _ _ refl refl
+unfolding answersBy LinksAfter
+returns-2 c = by-engine (c .enum-told2 .given .1) _ _ _ _ _ _ _ (sym (emits-none _ _)) refl
 
 same-length : tie.Need-same-length
 same-length c = search needs

@@ -9,7 +9,7 @@ use lib.ListN.{length}
 use Rattle.definitions.specs.Outcomes.{outcomeOf}
 use Rattle.definitions.specs.declared.Listing.{Listing}
 use Rattle.definitions.specs.declared.Listing.the-variants as listing
-use Rattle.definitions.proofs.StartLaws.{meets-from}
+use Rattle.theorems.proofs.StartLaws.{meets-from}
 use Rattle.placements.specs.Pieces.{recordsOf}
 use Rattle.solver.specs.Lent.{callWith}
 use Rattle.solver.specs.Preparing.{Prepares, Stands}

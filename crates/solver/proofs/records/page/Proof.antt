@@ -43,7 +43,7 @@ use denote.Exit.{yes}
 use Rattle.definitions.specs.Outcomes.{outcomeOf}
 use Rattle.definitions.specs.Refusals.{Call}
 use Rattle.definitions.specs.Starts.{Meets, outcomeFrom}
-use Rattle.definitions.proofs.StartLaws.{meets-from}
+use Rattle.theorems.proofs.StartLaws.{meets-from}
 use Rattle.placements.specs.Pieces.{recordsOf, piecesOf}
 use Rattle.solver.specs.Lent.{callWith}
 use Rattle.solver.proofs.RecordLaws.{outcome-same}

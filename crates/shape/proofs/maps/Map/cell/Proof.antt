@@ -1,7 +1,7 @@
 -- `Map::cell` meets its contract: each coordinate is taken by the axis and the flip in the table. Assumes nothing.
 use mathlib.Core.Path.{ap, _∙_}
 use Rattle.definitions.specs.Maps.{Map, mapCell}
-use Rattle.definitions.proofs.MapLaws.{cell-path}
+use Rattle.theorems.proofs.MapLaws.{cell-path}
 use Rattle.shape.specs.Coords.{asSides, asCell, asMap}
 use borrow.Author.Needs.{needs}
 use Rattle.shape.proofs.maps.Map.cell.Statement.{statement}

@@ -1,7 +1,7 @@
 -- `Map::index` meets its contract: a number from 48 on stands for the map that moves nothing, as 0 does. Assumes nothing.
 use mathlib.Core.Path.{sym, _∙_}
 use native.Mathlib.Omega.{arith}
-use Rattle.definitions.proofs.MapNumberLaws.{past-maps}
+use Rattle.theorems.proofs.MapNumberLaws.{past-maps}
 use Rattle.shape.proofs.MapTableLaws.{map-zero}
 use borrow.Author.Needs.{needs}
 use Rattle.shape.proofs.maps.Map.index.Statement.{statement}
