@@ -1,1 +1,1 @@
-// No code: specs/ has a table of small trays with the pages that they come to, and proofs/ the theorem that they do.
+// No code: specs/ has tables that take longer to compute than those of definitions (lists and pages, slices afterwards, large boards), proofs/ that they hold.

@@ -7,5 +7,6 @@ pub mod NormalFormLaws
 pub mod StartLaws
 pub mod IdentityLaws
 pub mod LeafLaws
+pub mod LeastLaws
 pub mod EntryLaws
 pub mod ReadyLaws

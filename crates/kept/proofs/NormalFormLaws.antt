@@ -11,7 +11,7 @@ use lib.ListN.{length, take, drop, getD, set, length-drop, length-map, drop-of-l
 use lib.Seq.{length-take-le, drop-cons, take-suc, getD-take, getD-drop}
 use Rattle.lists.specs.Lists.{consIf, keep, all, each, howMany, from, below, same, less, ascending}
 use Rattle.lists.proofs.TestLaws.{and-true, and-left, and-right, by-order}
-use Rattle.lists.proofs.ListLaws.{all-same, all-append, before-few, all-at, all-of, all-map, take-set-next}
+use Rattle.lists.proofs.ListLaws.{all-same, all-append, any-at, before-few, all-at, all-of, all-map, howMany-any, mem-getD, take-set-next}
 use Rattle.lists.proofs.SortLaws.{less-level, less-over, less-under}
 use Rattle.lists.proofs.RangeLaws.{all-failed, all-next, from-start, from-end, from-next, getD-below, from-at, from-append}
 use Rattle.lists.proofs.NthLaws.{nth-mem, nth-at}
@@ -172,20 +172,20 @@ module _ (d : Dims) (work chart : List ℕ) where
         go true = refl
         go false = refl
 
-    module _ (maps : ℕ) (r : Bool) (is : r ≡ all (isKept rs) (below maps)) (turned mirrored : Bool) (t : turned ≡ true) where
-      pub normal-turned : mirrored ≡ false → maps ≡ d .turns → r ≡ normal S (identifies turned mirrored) rs
+    module _ (end : ℕ) (r : Bool) (is : r ≡ all (isKept rs) (below end)) (turned mirrored : Bool) (t : turned ≡ true) where
+      pub normal-turned : mirrored ≡ false → end ≡ d .turns → r ≡ normal S (identifies turned mirrored) rs
       unfolding normal identifies
       normal-turned m e =
           is ∙ ap (λ (n : ℕ). all (isKept rs) (below n)) e ∙ turned-all ∙ ap₂ (λ (a b : Bool). normal S (identifies a b) rs) (sym t) (sym m)
 
-      pub normal-unmirrorable : mirrored ≡ true → mirrorable S rs ≡ false → maps ≡ d .turns → r ≡ normal S (identifies turned mirrored) rs
+      pub normal-unmirrorable : mirrored ≡ true → mirrorable S rs ≡ false → end ≡ d .turns → r ≡ normal S (identifies turned mirrored) rs
       unfolding normal identifies
       normal-unmirrorable m k e =
           is ∙ ap (λ (n : ℕ). all (isKept rs) (below n)) e ∙ turned-all ∙ sym (and-true (all (λ f. not (imageSmaller S false rs f)) (S .turned)))
           ∙ ap (λ (b : Bool). all (λ f. not (imageSmaller S false rs f)) (S .turned) && (not b || all (λ f. not (imageSmaller S true rs f)) (S .mirrored))) (sym k)
           ∙ ap₂ (λ (a b : Bool). normal S (identifies a b) rs) (sym t) (sym m)
 
-      pub normal-mirrored : mirrored ≡ true → mirrorable S rs ≡ true → maps ≡ d .turns + d .mirrorings → r ≡ normal S (identifies turned mirrored) rs
+      pub normal-mirrored : mirrored ≡ true → mirrorable S rs ≡ true → end ≡ d .turns + d .mirrorings → r ≡ normal S (identifies turned mirrored) rs
       unfolding normal identifies
       normal-mirrored m k e =
           is ∙ ap (λ (n : ℕ). all (isKept rs) (below n)) e ∙ both-all
@@ -214,15 +214,15 @@ module _ (d : Dims) (work chart : List ℕ) where
     kept-by : (m k : ℕ) (b : Bool) → smallerFrom m k ≡ smallerFrom m 0 → smallerFrom m k ≡ b → isKept rs m ≡ not b
     kept-by m k b e f = ap not (sym (smaller-all m) ∙ sym e ∙ f)
 
-    module _ (maps m k : ℕ) (h : m < maps) (e : smallerFrom m k ≡ smallerFrom m 0) (l : all (isKept rs) (from m (maps - m)) ≡ all (isKept rs) (below maps)) where
-      map-passes : smallerFrom m k ≡ false → all (isKept rs) (from (m + 1) (maps - (m + 1))) ≡ all (isKept rs) (below maps)
-      map-passes f = sym (all-next (isKept rs) m maps h (kept-by m k false e f)) ∙ l
+    module _ (end m k : ℕ) (h : m < end) (e : smallerFrom m k ≡ smallerFrom m 0) (l : all (isKept rs) (from m (end - m)) ≡ all (isKept rs) (below end)) where
+      map-passes : smallerFrom m k ≡ false → all (isKept rs) (from (m + 1) (end - (m + 1))) ≡ all (isKept rs) (below end)
+      map-passes f = sym (all-next (isKept rs) m end h (kept-by m k false e f)) ∙ l
 
-      map-stops : smallerFrom m k ≡ true → false ≡ all (isKept rs) (below maps)
-      map-stops f = sym (all-failed (isKept rs) m maps h (kept-by m k true e f)) ∙ l
+      map-stops : smallerFrom m k ≡ true → false ≡ all (isKept rs) (below end)
+      map-stops f = sym (all-failed (isKept rs) m end h (kept-by m k true e f)) ∙ l
 
       -- no kind is left
-      pub kinds-end : d .kinds ≤ k → all (isKept rs) (from (m + 1) (maps - (m + 1))) ≡ all (isKept rs) (below maps)
+      pub kinds-end : d .kinds ≤ k → all (isKept rs) (from (m + 1) (end - (m + 1))) ≡ all (isKept rs) (below end)
       kinds-end g = map-passes (less-end (otherRows m) ownRows (d .kinds) k g)
 
   image-few : (x : List ℕ) → rowWith (rowsIn work (d .rows)) x ≤ d .rows
@@ -274,15 +274,15 @@ module _ (d : Dims) (work chart : List ℕ) where
 
 -- ---- a kind of a packing against that of its image under map m: so many rows are of it, so many of the image's are; the kinds before are equal, and no map
 -- before is smaller
-pub record Compared (d : Dims) (work chart rows : List ℕ) (n maps m kind used others : ℕ) : Type 0 where
-  pub isMap : m < maps
+pub record Compared (d : Dims) (work chart rows : List ℕ) (n end m kind used others : ℕ) : Type 0 where
+  pub isMap : m < end
   pub isKind : kind < d .kinds
   pub own : length (ownRows d work chart (take n rows) kind) ≡ used
   pub other : length (otherRows d work chart (take n rows) m kind) ≡ others
   pub decides : smallerFrom d work chart (take n rows) m kind ≡ smallerFrom d work chart (take n rows) m 0
-  pub left : all (isKept d work chart (take n rows)) (from m (maps - m)) ≡ all (isKept d work chart (take n rows)) (below maps)
+  pub left : all (isKept d work chart (take n rows)) (from m (end - m)) ≡ all (isKept d work chart (take n rows)) (below end)
 
-module _ {d : Dims} {work chart rows : List ℕ} {n maps m kind used others : ℕ} (t : Compared d work chart rows n maps m kind used others) where
+module _ {d : Dims} {work chart rows : List ℕ} {n end m kind used others : ℕ} (t : Compared d work chart rows n end m kind used others) where
   abbrev own : ℕ → List ℕ
   own = ownRows d work chart (take n rows)
 
@@ -293,21 +293,21 @@ module _ {d : Dims} {work chart rows : List ℕ} {n maps m kind used others : �
   kept = isKept d work chart (take n rows)
 
   -- this map's image is not smaller: on to the next; or it is
-  on : smallerFrom d work chart (take n rows) m kind ≡ false → all kept (from (m + 1) (maps - (m + 1))) ≡ all kept (below maps)
-  on e = map-passes d work chart (take n rows) maps m kind (t .isMap) (t .decides) (t .left) e
+  on : smallerFrom d work chart (take n rows) m kind ≡ false → all kept (from (m + 1) (end - (m + 1))) ≡ all kept (below end)
+  on e = map-passes d work chart (take n rows) end m kind (t .isMap) (t .decides) (t .left) e
 
-  stop : smallerFrom d work chart (take n rows) m kind ≡ true → false ≡ all kept (below maps)
-  stop e = map-stops d work chart (take n rows) maps m kind (t .isMap) (t .decides) (t .left) e
+  stop : smallerFrom d work chart (take n rows) m kind ≡ true → false ≡ all kept (below end)
+  stop e = map-stops d work chart (take n rows) end m kind (t .isMap) (t .decides) (t .left) e
 
-  pub more-others : used < others → all kept (from (m + 1) (maps - (m + 1))) ≡ all kept (below maps)
+  pub more-others : used < others → all kept (from (m + 1) (end - (m + 1))) ≡ all kept (below end)
   more-others h = on (kind-more other own (d .kinds) kind (t .isKind) (let a = t .own in let b = t .other in omega arith))
 
-  pub fewer-others : others < used → false ≡ all kept (below maps)
+  pub fewer-others : others < used → false ≡ all kept (below end)
   fewer-others h = stop (kind-fewer other own (d .kinds) kind (t .isKind) (let a = t .own in let b = t .other in omega arith))
 
-  -- as many of both: its rows stand from `at` on, the image's in `moved`, in any order
-  module _ (g : others ≤ used) (h : used ≤ others) (at : ℕ) (moved : List ℕ) (fits : at + used ≤ n) (part : take used (drop at (take n rows)) ≡ own kind)
-      (stands : sortRows (take used moved) ≡ other kind) where
+  -- as many of both: its rows stand from `at` on, the image's are `images`, in any order
+  module _ (g : others ≤ used) (h : used ≤ others) (at : ℕ) (images : List ℕ) (fits : at + used ≤ n) (part : take used (drop at (take n rows)) ≡ own kind)
+      (stands : sortRows images ≡ other kind) where
     pub rows-start : smallerAt d work chart (take n rows) m kind 0 ≡ smallerFrom d work chart (take n rows) m kind
     rows-start = sym (kind-level other own (d .kinds) kind (t .isKind) (let a = t .own in let b = t .other in omega arith))
 
@@ -328,31 +328,49 @@ module _ {d : Dims} {work chart rows : List ℕ} {n maps m kind used others : �
             ∙ sym (getD-take used (drop at (take n rows)) i 0 k) ∙ ap (λ (xs : List ℕ). getD xs i 0) part
 
         ascends : T (ascending leb (other kind))
-        ascends = subst (λ (xs : List ℕ). T (ascending leb xs)) stands (sort-ascends (take used moved))
+        ascends = subst (λ (xs : List ℕ). T (ascending leb xs)) stands (sort-ascends images)
 
-        count-is : (v : ℕ) → howMany (λ s. ltb s v) (take used moved) ≡ howMany (λ s. ltb s v) (other kind)
-        count-is v = sym (sort-count (λ s. ltb s v) (take used moved)) ∙ ap (howMany (λ (s : ℕ). ltb s v)) stands
+        count-is : (v : ℕ) → howMany (λ s. ltb s v) images ≡ howMany (λ s. ltb s v) (other kind)
+        count-is v = sym (sort-count (λ s. ltb s v) images) ∙ ap (howMany (λ (s : ℕ). ltb s v)) stands
 
         -- by how many of the images are below a number: the i-th of them, in ascending order, is below it or not
-        under : (v : ℕ) → i < howMany (λ s. ltb s v) (take used moved) → getD (other kind) i 0 < v
+        under : (v : ℕ) → i < howMany (λ s. ltb s v) images → getD (other kind) i 0 < v
         under v l = by-order v (getD (other kind) i 0) (λ u. absurd (let a = nth-over (other kind) ascends v i in-other u in let b = count-is v in omega arith)) (λ u. u)
 
-        over : (v : ℕ) → howMany (λ s. ltb s v) (take used moved) ≤ i → v ≤ getD (other kind) i 0
+        over : (v : ℕ) → howMany (λ s. ltb s v) images ≤ i → v ≤ getD (other kind) i 0
         over v l = by-order v (getD (other kind) i 0) (λ u. u) (λ u. absurd (let a = nth-under (other kind) ascends v i in-other u in let b = count-is v in omega arith))
 
-        pub larger-other : howMany (λ s. ltb s (getD rows (at + i) 0 + 1)) (take used moved) ≤ i → all kept (from (m + 1) (maps - (m + 1))) ≡ all kept (below maps)
+        pub larger-other : howMany (λ s. ltb s (getD rows (at + i) 0 + 1)) images ≤ i → all kept (from (m + 1) (end - (m + 1))) ≡ all kept (below end)
         larger-other l = let b = over (getD rows (at + i) 0 + 1) l in on (sym e ∙ entry-more other own (d .kinds) kind i in-other in-own (let a = own-at in omega arith))
 
-        pub smaller-other : i < howMany (λ s. ltb s (getD rows (at + i) 0)) (take used moved) → false ≡ all kept (below maps)
+        pub smaller-other : i < howMany (λ s. ltb s (getD rows (at + i) 0)) images → false ≡ all kept (below end)
         smaller-other l = let b = under (getD rows (at + i) 0) l in stop (sym e ∙ entry-fewer other own (d .kinds) kind i in-other in-own (let a = own-at in omega arith))
 
-        pub row-next : i < howMany (λ s. ltb s (getD rows (at + i) 0 + 1)) (take used moved) → howMany (λ s. ltb s (getD rows (at + i) 0)) (take used moved) ≤ i
+        pub row-next : i < howMany (λ s. ltb s (getD rows (at + i) 0 + 1)) images → howMany (λ s. ltb s (getD rows (at + i) 0)) images ≤ i
             → smallerAt d work chart (take n rows) m kind (i + 1) ≡ smallerFrom d work chart (take n rows) m kind
         row-next p q =
             let a = own-at in
             let b = under (getD rows (at + i) 0 + 1) p in
             let c = over (getD rows (at + i) 0) q in
             sym (entry-level other own (d .kinds) kind i in-other in-own (omega arith)) ∙ e
+
+    -- the least of the images against the least row
+    images-many : length images ≡ others
+    images-many = sym (sort-rows-length images) ∙ ap length stands ∙ t .other
+
+    at-zero : at ≡ at + 0
+    at-zero = omega arith
+
+    pub larger-least : 0 < length images → howMany (λ s. ltb s (getD rows at 0 + 1)) images ≤ 0 → all kept (from (m + 1) (end - (m + 1))) ≡ all kept (below end)
+    larger-least k l =
+        larger-other 0 rows-start (let e = images-many in omega arith) (subst (λ (j : ℕ). howMany (λ s. ltb s (getD rows j 0 + 1)) images ≤ 0) at-zero l)
+
+    pub smaller-least : 0 < howMany (λ s. ltb s (getD rows at 0)) images → false ≡ all kept (below end)
+    smaller-least l =
+        let x = any-at (λ s. ltb s (getD rows at 0)) images (howMany-any (λ s. ltb s (getD rows at 0)) images l) in
+        let y = mem-getD 0 images (x .1) in
+        let e = images-many in
+        smaller-other 0 rows-start (let k = y .1 in omega arith) (subst (λ (j : ℕ). 0 < howMany (λ s. ltb s (getD rows j 0)) images) at-zero l)
 
 -- the images of the rows that become of a kind, sorted, are the image's rows of that kind, and as many
 module _ (d : Dims) (work chart rows : List ℕ) (n m kind source : ℕ)
@@ -368,8 +386,8 @@ module _ (d : Dims) (work chart rows : List ℕ) (n m kind source : ℕ)
       sort-rows-length (map (imageOf (systemIn d work chart) (leb (d .turns) m) (imagesOf chart (d .size) m)) (ownRows d work chart (take n rows) (kindBy (systemIn d work chart .partners) (leb (d .turns) m) kind)))
       ∙ ap length (sym becomes) ∙ length-map (ownRows d work chart (take n rows) source) (imageOf (systemIn d work chart) (leb (d .turns) m) (imagesOf chart (d .size) m))
 
-  pub others-are : (used : ℕ) (moved part : List ℕ) → take used moved ≡ map (imageOf (systemIn d work chart) (leb (d .turns) m) (imagesOf chart (d .size) m)) part
-      → part ≡ ownRows d work chart (take n rows) source → sortRows (take used moved) ≡ otherRows d work chart (take n rows) m kind
+  pub others-are : (images part : List ℕ) → images ≡ map (imageOf (systemIn d work chart) (leb (d .turns) m) (imagesOf chart (d .size) m)) part
+      → part ≡ ownRows d work chart (take n rows) source → sortRows images ≡ otherRows d work chart (take n rows) m kind
   unfolding movedRows
-  others-are used moved part f g =
+  others-are images part f g =
       ap sortRows (f ∙ ap (map (imageOf (systemIn d work chart) (leb (d .turns) m) (imagesOf chart (d .size) m))) g ∙ becomes)

@@ -1,6 +1,6 @@
 -- Which packing is kept, by row numbers. A packing is the ascending list of its rows' numbers; within a kind, ascending numbers are ascending (p, j).
 -- Proved in proofs/NormalLaws: of a packing's rows, `normal` says what `kept` of document 01's definitions says of the packing.
-use Prim.Native.Nat.{ℕ, _+_, _-_, _≤_}
+use Prim.Native.Nat.{ℕ, _+_, _-_, _≤_, _<_}
 use mathlib.Core.Bool.{Bool, true, false, cond, not, _&&_, _||_}
 use mathlib.Core.List.{List, [], _∷_, map}
 use mathlib.Core.Path.{_≡_}
@@ -10,6 +10,8 @@ use Rattle.lists.specs.Lists.{all, keep, each, howMany, below, less}
 use Rattle.definitions.specs.Placements.{Placement}
 use Rattle.definitions.specs.Kept.{Identify}
 use Rattle.definitions.specs.Kept.Identify.{None, Turned, Mirrored}
+use Rattle.shape.specs.declared.Ordering.{Ordering}
+use Rattle.shape.specs.declared.Ordering.the-variants.{Less, Equal, Greater}
 use Rattle.rows.specs.Systems.{System, kindBy, movedBy, rowWith}
 use Rattle.rows.specs.Answering.{pathIn}
 
@@ -31,6 +33,10 @@ rowOf s r = getD (s .rows) r noRow
 
 unfoldable pub ofKind : System → ℕ → List ℕ → List ℕ
 ofKind s k rs = keep (λ r. eqb (rowOf s r .kind) k) rs
+
+-- the kind of the row at number i of a path
+abbrev pub kindAt : System → List ℕ → ℕ → ℕ
+kindAt s path i = rowOf s (getD path i 0) .kind
 
 -- the number of a row's image, and the images that are of kind k: those of the rows whose kind becomes k
 unfoldable pub imageOf : System → Bool → List ℕ → ℕ → ℕ
@@ -81,3 +87,9 @@ usedIn starts kinds k = cond (ltb k kinds) (getD starts (k + 1) 0 - getD starts 
 -- the rows stand kind by kind
 abbrev pub InKinds : System → List ℕ → Type 0
 InKinds s rs = each (below (length (s .copies))) (λ k. ofKind s k rs) ≡ rs
+
+-- the least of some images against a row: it is below it, or there is one and it is above it; or nothing is said
+abbrev pub LeastIs : Ordering → ℕ → List ℕ → Type 0
+LeastIs Less head images = 0 < howMany (λ s. ltb s head) images
+LeastIs Equal head images = Unit {0}
+LeastIs Greater head images = (0 < length images) × (howMany (λ s. ltb s (head + 1)) images ≤ 0)

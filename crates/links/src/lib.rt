@@ -120,6 +120,7 @@ fn hide_row(links: &mut [u16], x: usize)
 {
     let end = wide(links[8 * x + END]);
     let mut y = wide(links[8 * x + FIRST]);
+    // the nodes of the row before y are hidden
     while y < end {
         hide_one(links, x, y);
         y += 1;
@@ -134,6 +135,7 @@ fn show_row(links: &mut [u16], x: usize)
 {
     let first = wide(links[8 * x + FIRST]);
     let mut y = wide(links[8 * x + END]);
+    // the nodes from y on are back, in the reverse order
     while first < y {
         y -= 1;
         show_one(links, x, y);
@@ -147,6 +149,7 @@ fn purge_column(links: &mut [u16], c: usize)
         → now (links .exit) ≡ cover w c (now (links .entry))) ⌝ }
 {
     let mut k = wide(links[8 * c + DOWN]);
+    // the rows above node k are hidden; none of this touches the ring of c, so it leads on
     while k != c {
         hide_row(links, k);
         k = wide(links[8 * k + DOWN]);
@@ -160,6 +163,7 @@ fn unpurge_column(links: &mut [u16], c: usize)
         → now (links .entry) ≡ cover w c m → now (links .exit) ≡ m) ⌝ }
 {
     let mut k = wide(links[8 * c + UP]);
+    // the rows below node k are back
     while k != c {
         show_row(links, k);
         k = wide(links[8 * k + UP]);
@@ -173,6 +177,7 @@ fn purge_run(links: &mut [u16], a: usize, b: usize)
         → now (links .exit) ≡ runTo w a (now (links .entry)) (b - a)) ⌝ }
 {
     let mut y = a;
+    // the columns of the nodes before y are covered
     while y < b {
         let c = wide(links[8 * y + COLUMN]);
         purge_column(links, c);
@@ -187,6 +192,7 @@ fn unpurge_run(links: &mut [u16], a: usize, b: usize)
         → now (links .entry) ≡ runTo w a m (b - a) → now (links .exit) ≡ m) ⌝ }
 {
     let mut y = b;
+    // the columns of the nodes from y on are back, in the reverse order
     while a < y {
         y -= 1;
         let c = wide(links[8 * y + COLUMN]);
@@ -211,6 +217,7 @@ pub fn choose_column(links: &[u16], primary: usize) -> usize
     let mut at = 4096;
     let mut fewest = 65536;
     let mut i = 0;
+    // of the columns before i, `at` is the first with the fewest rows, and these are `fewest`
     while i < primary {
         let n = wide(links[8 * i + SIZE]);
         if is_better(n, fewest) {
@@ -378,6 +385,7 @@ fn link_nodes(links: &mut [u16], cols: usize, nodes: usize)
     ensures behind { λ _. ⌜ ((i : ℕ) → Still i → getD (now (links .exit)) i 0 ≡ getD (now (links .entry)) i 0) ⌝ }
 {
     let mut x = cols;
+    // each column's ring has its nodes before x
     while x < nodes {
         link_last(links, x);
         x += 1;

@@ -8,11 +8,12 @@ ghost use Rattle.definitions.specs.Grid.{InBox, sameCell, filledCells};
 ghost use Rattle.definitions.specs.Scan.{axes, scan};
 ghost use Rattle.definitions.specs.Placements.{reaches, lies, fits};
 ghost use Rattle.shape.specs.Coords.{asSides, asCell};
-ghost use Rattle.shape.specs.Grids.{asGrid, Whole, Decided};
+ghost use Rattle.shape.specs.Grids.{asGrid, Whole};
 ghost use Rattle.placements.specs.Poses.{posesLength, Poses, variantsIn};
 ghost use Rattle.placements.specs.Fitting.{fitsPose};
 use super::poses;
 use shape::Coord;
+use shape::cells;
 use shape::grids;
 
 // Whether the origin o of a grid reaches no further than the cell at which it lies.
@@ -28,25 +29,12 @@ fn does_reach(at: Coord, o: Coord) -> bool
     o.2 <= at.2
 }
 
-// Whether a box has a cell.
-fn in_box(s: Coord, u: Coord) -> bool
-    ensures { λ r. ⌜ Decided r (InBox (asSides s) (asCell u)) ⌝ }
-{
-    if s.0 <= u.0 {
-        return false;
-    }
-    if s.1 <= u.1 {
-        return false;
-    }
-    u.2 < s.2
-}
-
 // Whether a cell is a filled cell of a grid.
 fn is_filled(cells: &[u8], s: Coord, u: Coord) -> bool
     requires { ⌜ Whole s (now cells) ⌝ }
     ensures { λ r. ⌜ r ≡ any (sameCell (asCell u)) (filledCells (asGrid s (now (cells .entry)))) ⌝ }
 {
-    if in_box(s, u) {
+    if cells::in_box(s, u) {
         grids::get(cells, s, u) == 1
     } else {
         false

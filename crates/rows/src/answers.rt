@@ -27,6 +27,7 @@ fn copy_of(chart: &[u16], n: usize, kind: usize, i: usize) -> Copied
 {
     let mut left = i;
     let mut p = 0;
+    // the copy is number `left` among those of the pieces from p on
     while p < n {
         if chart::kind_of(chart, p) == kind {
             let count = chart::count_of(chart, p);
@@ -86,6 +87,7 @@ fn tell_cells(d: Dims, work: &[u64], chart: &[u16], path: &[u16], n: usize, told
     let mut i = n;
     let mut kind = d.kinds;
     let mut used = 0;
+    // the rows from i on are laid; `used` of the rows before the last one laid are of its kind
     while 0 < i {
         i -= 1;
         let r = path[i] as usize;

@@ -59,6 +59,7 @@ fn window_of(cells: &[u8], s: Coord) -> Window
     let mut low = Coord(8, 8, 8);
     let mut high = Coord(0, 0, 0);
     let mut i = 0;
+    // of the filled cells before place i: low the smallest coordinates, high one past the largest
     while i < cells.len() {
         if cells[i] == 1 {
             let u = cells::cell_at(s, i);
