@@ -7,13 +7,13 @@ use borrow.Author.Tests.{ltb-false}
 use lib.Dec.{T, ltb}
 use Rattle.lists.specs.Lists.{all}
 use Rattle.lists.proofs.TestLaws.{and-left, and-right}
-use Rattle.definitions.specs.Placements.{Compiled, compile}
+use Rattle.definitions.specs.Placements.{Compiled}
 use Rattle.definitions.specs.Refusals.{Row, placementCount, firstThatApplies}
 use Rattle.definitions.specs.declared.Record.{Record}
 use Rattle.definitions.specs.declared.Config.{Config}
 use Rattle.theorems.proofs.RefusalLaws.{none-first, none-applies}
 use Rattle.placements.specs.declared.Pieces.{Pieces}
-use Rattle.placements.specs.Pieces.{recordsOf, trayIn}
+use Rattle.placements.specs.Pieces.{recordsOf}
 use Rattle.placements.specs.Stages.{lentRows, gridRows, configRows, sliceRows, countRowsBy, countRows}
 use Rattle.placements.specs.Counting.{Accepted9}
 
@@ -48,9 +48,6 @@ module _ (t : Pieces) (board : Record) (bytes : List ℕ) (config : Config) (wor
   abbrev early : List Row
   early = lentRows (recordsOf t) board bytes ++ configRows config ++ sliceRows config work links
 
-  abbrev counts : List Row
-  counts = countRows (compile (trayIn (recordsOf t) board bytes)) config
-
   lent-numbered : T (all (λ r. ltb 0 (r .number)) lent)
   unfolding lentRows gridRows
   lent-numbered = tt
@@ -58,10 +55,6 @@ module _ (t : Pieces) (board : Record) (bytes : List ℕ) (config : Config) (wor
   config-numbered : T (all (λ r. ltb 0 (r .number)) chosen)
   unfolding configRows
   config-numbered = tt
-
-  early-numbered : T (all (λ r. ltb 0 (r .number)) early)
-  unfolding lentRows gridRows configRows sliceRows
-  early-numbered = tt
 
   early-nested : lent ++ (chosen ++ slices) ≡ early
   unfolding lentRows gridRows configRows sliceRows
@@ -79,20 +72,8 @@ module _ (t : Pieces) (board : Record) (bytes : List ℕ) (config : Config) (wor
     unfolding Accepted9
     early-lent = lent-and-rest .0
 
-    pub early-config : firstThatApplies (configRows config) ≡ 0
-    early-config = config-and-slices .0
-
     pub early-slices : firstThatApplies (sliceRows config work links) ≡ 0
     early-slices = config-and-slices .1
 
     pub early-work : 8192 ≤ work
     early-work = work-long config work links early-slices
-
-  -- and all rows do
-  module _ (ok : firstThatApplies (lentRows (recordsOf t) board bytes ++ configRows config ++ sliceRows config work links
-      ++ countRows (compile (trayIn (recordsOf t) board bytes)) config) ≡ 0) where
-    early-and-counts : (firstThatApplies early ≡ 0) × (firstThatApplies counts ≡ 0)
-    early-and-counts = none-of-either early counts early-numbered ok
-
-    pub accepted-counts : firstThatApplies (countRows (compile (trayIn (recordsOf t) board bytes)) config) ≡ 0
-    accepted-counts = early-and-counts .1
