@@ -5,7 +5,7 @@ use mathlib.Core.List.{List, [], ◌∷◌, ◌++◌, map}
 use mathlib.Core.Logic.{◌⊎◌, ⊎_elim}
 use mathlib.Core.Path.{◌≡◌, refl, sym, ap, ap₂, ◌∙◌, subst}
 use native.Mathlib.Omega.{arith}
-use borrow.Author.Tests.{ltb-true, lt-ltb, le-ltb, le-leb, lt-leb, eq-eqb, ne_eqb, not_true, not-false}
+use borrow.Author.Tests.{ltb-true, lt-ltb, le-ltb, le-leb, lt-leb, eq-eqb, ne_eqb, not-true, not-false}
 use lib.Dec.{ltb, leb, eqb, lt→ltb}
 use lib.ListN.{length, get_or, take, set}
 use Rattle.lists.specs.Lists.{all, any, below, from, keep, each}
@@ -288,7 +288,7 @@ module _ (d : Dims) (work chart : List ℕ) (ready : Ready d work chart) (r : �
             → emits capacity (first_from (system_in d work chart) i (state_by (system_in d work chart) left₀ nothing_covered []) d.rows (r + 1)) x ≡ z
         first_untried f k =
             ⊎_elim (λ a. first_passed sys i begun d.rows r capacity x z h first_kind (not-false (pruned_by sys i r) a) k)
-            (λ a. first_emitted sys i begun d.rows r capacity x z x h first_kind (not_true (pruned_by sys i r) a.0) (sym (hides a.2 a.1)) k)
+            (λ a. first_emitted sys i begun d.rows r capacity x z x h first_kind (not-true (pruned_by sys i r) a.0) (sym (hides a.2 a.1)) k)
             (untried (not (pruned_by sys i r)) x.waiting (shows_row (owned_in (pieces_part chart) d.pieces) shown (row_at work r)) f)
 
     -- the state with it chosen: of a state with the copies of the first

@@ -9,7 +9,7 @@ use native.Mathlib.Omega.{arith}
 use borrow.Author.Tests.{leb-true, leb-false, lt-leb}
 use lib.Dec.{T, leb, eqb, eqb→eq}
 use lib.ListN.{length, get_or, take, drop, length-map, length-append, length-drop, drop_of_length-le}
-use lib.Seq.{drop-drop, paste, paste-zero, take_length, length-paste, take-paste, drop-paste}
+use lib.Seq.{drop-drop, paste, paste-zero, take-length, length-paste, take-paste, drop-paste}
 use Rattle.lists.specs.Lists.{all, before, is_empty}
 use Rattle.lists.proofs.TestLaws.{and_left, and_right, eqb_of, decide, clash}
 use Rattle.definitions.specs.Files.{Written, record_at, records_from, on_first, parts, field, fields_of, without_last, last_of, lines_of, number_in, grid_in, is_config, is_board, is_piece, wood_in, piece_in, is_file, call_on, call_in}
@@ -140,7 +140,7 @@ module _ (old xs ys : List ℕ) (h : length xs + length ys ≤ length old) where
   one = paste old 0 xs (length xs)
 
   front : take (length xs) one ≡ xs
-  front = let z : length xs ≡ 0 + length xs = omega arith in ap (λ (k : ℕ). take k one) z ∙ take-paste old 0 xs (length xs) (omega arith) (omega arith) ∙ take_length xs
+  front = let z : length xs ≡ 0 + length xs = omega arith in ap (λ (k : ℕ). take k one) z ∙ take-paste old 0 xs (length xs) (omega arith) (omega arith) ∙ take-length xs
 
   back : drop (length xs + length ys) one ≡ drop (0 + (length xs + length ys)) old
   back =
@@ -151,12 +151,12 @@ module _ (old xs ys : List ℕ) (h : length xs + length ys ≤ length old) where
       ∙ drop-drop (length ys) (0 + length xs) old ∙ ap (λ (k : ℕ). drop k old) s
 
   take_both : take (length xs + length ys) (xs ++ ys) ≡ xs ++ ys
-  take_both = ap (λ (k : ℕ). take k (xs ++ ys)) (sym (length-append xs ys)) ∙ take_length (xs ++ ys)
+  take_both = ap (λ (k : ℕ). take k (xs ++ ys)) (sym (length-append xs ys)) ∙ take-length (xs ++ ys)
 
   paste_behind : paste one (length xs) ys (length ys) ≡ paste old 0 (xs ++ ys) (length xs + length ys)
   paste_behind =
       ap₂ (λ (a b : List ℕ). a ++ take (length ys) ys ++ b) front back
-      ∙ ap (λ (a : List ℕ). xs ++ a ++ drop (0 + (length xs + length ys)) old) (take_length ys)
+      ∙ ap (λ (a : List ℕ). xs ++ a ++ drop (0 + (length xs + length ys)) old) (take-length ys)
       ∙ ap (λ (a : List ℕ). a ++ drop (0 + (length xs + length ys)) old) (sym take_both)
 
   -- the whole, as it is read

@@ -6,7 +6,7 @@ use mathlib.Core.Path.{◌≡◌, refl, sym, ap, ap₂, ◌∙◌}
 use native.Mathlib.Omega.{arith}
 use lib.Dec.{ltb, lt→ltb, ltb→lt}
 use lib.ListN.{length, take, drop, get_or, length-take, length-append, length-drop}
-use lib.Seq.{paste, take-paste, drop-paste, take_length, take_all, drop-length, drop-cons, drop-drop, get_or-take, length-take-le}
+use lib.Seq.{paste, take-paste, drop-paste, take-length, take_all, drop-length, drop-cons, drop-drop, get_or-take, length-take-le}
 use Rattle.lists.specs.Lists.{joined, numbered, numbered_from}
 use Rattle.lists.proofs.TestLaws.{is_true, is_false}
 use Rattle.definitions.specs.Texts.{text}
@@ -66,7 +66,7 @@ listing_rest list = listed_with (2 ^ 64) list
 -- a line put behind what was made
 pub made_more : {mid line new : List ℕ} {at r : ℕ} → Put mid at line new r → at ≤ length mid → take r new ≡ take at mid ++ line
 made_more {mid} {line} {new} {at} {r} p h =
-    ap₂ (λ (k : ℕ) (l : List ℕ). take k l) p.end p.bytes ∙ take-paste mid at line (length line) h (omega arith) ∙ ap (λ (l : List ℕ). take at mid ++ l) (take_length line)
+    ap₂ (λ (k : ℕ) (l : List ℕ). take k l) p.end p.bytes ∙ take-paste mid at line (length line) h (omega arith) ∙ ap (λ (l : List ℕ). take at mid ++ l) (take-length line)
 
 -- one entry more
 pub rest_more : {base size end at r : ℕ} {answers mid new before : List ℕ} (list : List (List ℕ)) (i : ℕ) → Stands list base size end answers → i < end → base + end ≤ 18446744073709551616

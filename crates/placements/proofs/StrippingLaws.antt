@@ -11,7 +11,7 @@ use native.Mathlib.Omega.{arith}
 use borrow.Author.Tests.{le-ltb}
 use lib.Dec.{T, ltb, leb, leb→le, le→leb}
 use lib.ListN.{length, get_or, take, drop, set, length-set, length-map}
-use lib.Seq.{paste, append_snoc, set_at, get_or_at, drop-cons, take-take, take_length, take_at, drop_at, take-suc, take-suc-set, take-paste, length-take-le, length-paste}
+use lib.Seq.{paste, append_snoc, set_at, get_or_at, drop-cons, take-take, take-length, take_at, drop_at, take-suc, take-suc-set, take-paste, length-take-le, length-paste}
 use Rattle.lists.specs.Lists.{all, sum}
 use Rattle.lists.proofs.TestLaws.{and_left, and_right, and_both, is_true}
 use Rattle.lists.proofs.ListLaws.{all_at, all_of, all_map, drop_take, map_same}
@@ -80,7 +80,7 @@ module _ (old xs : List ℕ) (start : ℕ) (fits : start + length xs ≤ length 
   paste_part =
       let e : start + length xs - start ≡ length xs = omega arith in
       ap (λ (n : ℕ). take n (drop start new)) (sym e) ∙ sym (drop_take start (start + length xs) new)
-      ∙ ap (drop start) front ∙ drop_at (take start old) (take (length xs) xs) start start_long ∙ take_length xs
+      ∙ ap (drop start) front ∙ drop_at (take start old) (take (length xs) xs) start start_long ∙ take-length xs
 
 -- grids written one after the other, and one more
 grids_more : (qs : List Piece) (q : Piece) (old : List ℕ) (start : ℕ)

@@ -1,7 +1,7 @@
 -- Grids: how numbers, sides and grids compare, and the cells of a box by their places. Assumes nothing.
 use Prim.Native.Nat.{ℕ, suc, ◌+◌, ◌≤◌, ◌<◌}
 use mathlib.Core.Bool.{Bool, true, false, not, ◌&&◌, ◌||◌}
-use mathlib.Core.List.{List, [], ◌∷◌, map, Memᴰ, map_id, map-map}
+use mathlib.Core.List.{List, [], ◌∷◌, map, Memᴰ, map-id, map-map}
 use mathlib.Core.Path.{◌≡◌, refl, sym, ap, ap₂, ◌∙◌, subst}
 use mathlib.Core.Logic.{◌⊎◌, inl, inr}
 use native.Mathlib.Numerals.{add-one}
@@ -263,7 +263,7 @@ module _ (p : ℕ → Bool) (xs : List ℕ) (i : ℕ) where
 pub box_places : (s : Sides) → box s ≡ map (cell_at s) (below (volume s))
 unfolding byte_at
 box_places s =
-    sym (map_id (box s)) ∙ map_same (λ u. u) (λ u. cell_at s (byte_at g u)) (box s) back ∙ sym (map-map (cell_at s) (byte_at g) (box s))
+    sym (map-id (box s)) ∙ map_same (λ u. u) (λ u. cell_at s (byte_at g u)) (box s) back ∙ sym (map-map (cell_at s) (byte_at g) (box s))
     ∙ ap (map (cell_at s)) (bytes_whole g (length_below (volume s)))
   where
     g : Grid

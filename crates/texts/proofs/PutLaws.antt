@@ -6,11 +6,11 @@ use mathlib.Core.Path.{◌≡◌, refl, sym, ap, ap₂, ◌∙◌, subst}
 use native.Mathlib.Numerals.{add-one}
 use native.Mathlib.Omega.{arith}
 use lib.ListN.{length, take, drop, set, get_or, length-append}
-use lib.Seq.{paste, paste-zero, paste-suc, take-paste, drop-paste, length-paste, take_length, drop-drop, set_split, append_snoc}
+use lib.Seq.{paste, paste-zero, paste-suc, take-paste, drop-paste, length-paste, take-length, drop-drop, set_split, append_snoc}
 use Rattle.texts.specs.Put.{Put}
 
 put_over : (old xs : List ℕ) (at : ℕ) → paste old at xs (length xs) ≡ take at old ++ xs ++ drop (at + length xs) old
-put_over old xs at = ap (λ (l : List ℕ). take at old ++ l ++ drop (at + length xs) old) (take_length xs)
+put_over old xs at = ap (λ (l : List ℕ). take at old ++ l ++ drop (at + length xs) old) (take-length xs)
 
 pub put_none : (old : List ℕ) (at : ℕ) → Put old at [] old at
 put_none old at = record { bytes = paste-zero old at []; end = omega arith }
@@ -26,7 +26,7 @@ put_then {old} {xs} {mid} {ys} {new} {at} {m} {r} p q h =
     let f = q.end in
     let long = length-append xs ys in
     let head : take m mid ≡ take at old ++ xs
-    = ap₂ (λ (k : ℕ) (l : List ℕ). take k l) e p.bytes ∙ take-paste old at xs (length xs) (omega arith) (omega arith) ∙ ap (λ (l : List ℕ). take at old ++ l) (take_length xs) in
+    = ap₂ (λ (k : ℕ) (l : List ℕ). take k l) e p.bytes ∙ take-paste old at xs (length xs) (omega arith) (omega arith) ∙ ap (λ (l : List ℕ). take at old ++ l) (take-length xs) in
     let behind : drop m mid ≡ drop m old
     = ap₂ (λ (k : ℕ) (l : List ℕ). drop k l) e p.bytes ∙ drop-paste old at xs (length xs) (omega arith) (omega arith) ∙ ap (λ (k : ℕ). drop k old) (sym e) in
     let same : m + length ys ≡ at + length (xs ++ ys) = omega arith in

@@ -2,7 +2,7 @@
 use Prim.Native.Nat.{ℕ, ◌+◌, ◌-◌, ◌≤◌}
 use mathlib.Core.Bool.{Bool, true, false, cond, not, ◌&&◌}
 use mathlib.Core.List.Memᴰ
-use mathlib.Core.List.{List, map, Memᴰ, map_id}
+use mathlib.Core.List.{List, map, Memᴰ, map-id}
 use mathlib.Core.Path.{◌≡◌, refl, sym, ap, ap₂, ◌∙◌, subst}
 use mathlib.Core.Logic.{◌⊎◌, inl, inr}
 use native.Mathlib.Nat.{le_antisymm}
@@ -294,10 +294,10 @@ module _ (t : Tray) (facts : ShapeFacts t) (w : WellMade (compile t))
 
       variants_eq : X.variant ≡ Y.variant
       variants_eq =
-          sym (map_id X.variant)
+          sym (map-id X.variant)
           ∙ map_through (lies X.on (origin X.variant)) (lies Y.on (origin Y.variant)) (λ u. u) (λ u. u) X.variant Y.variant
           (λ u v m l i. lies_inj Y.on (origin Y.variant) u v (ap₂ (λ (z o : Cell). lies z o u) (sym on_eq) (sym origins) ∙ i)) placed
-          ∙ map_id Y.variant
+          ∙ map-id Y.variant
 
       list_eq : keep (fits bd X.on) (map (scan or) (variants X.kind.shape)) ≡ keep (fits bd Y.on) (map (scan or) (variants Y.kind.shape))
       list_eq = ap₂ (λ (v : Cell) (d : Kind). keep (fits bd v) (map (scan or) (variants d.shape))) on_eq (kind_same q r a b k e)

@@ -10,7 +10,7 @@ use native.Mathlib.Omega.{arith}
 use borrow.Author.Tests.{lt-ltb, le-ltb, ltb-true, ltb-false}
 use lib.Dec.{ltb, leb-suc-suc}
 use lib.ListN.{length, take, drop, length-map, length-take, length-drop, drop_of_length-le, take-append-drop}
-use lib.Seq.{paste, take-nil, drop-nil, take_length, take-paste, drop-paste, drop-drop, length-paste}
+use lib.Seq.{paste, take-nil, drop-nil, take-length, take-paste, drop-paste, drop-drop, length-paste}
 use Rattle.lists.specs.Lists.{any, joined, same}
 use Rattle.lists.proofs.TestLaws.{ltb_same, lt_or_ge}
 use Rattle.lists.proofs.ListLaws.{drop_map, length_joined, drop_in, take_in}
@@ -139,7 +139,7 @@ module _ (n : ℕ) (o a : List ℕ) (w : ℕ) (size : length a ≡ n) (fits : w 
   head_more : (f : List ℕ) → take ((w + 1) * n) (paste o (w * n) a n) ++ f ≡ take (w * n) o ++ (a ++ f)
   head_more f =
       let e : (w + 1) * n ≡ w * n + n = rw (add-one w) (suc-mul w n) in
-      let t : take n a ≡ a = rw (← size) (take_length a) in
+      let t : take n a ≡ a = rw (← size) (take-length a) in
       rw (e, take-paste o (w * n) a n (omega arith) (omega arith), t) (append_assoc (take (w * n) o) a f)
 
   tail_more : (m k : ℕ) → k ≡ w + 1 + m → drop (k * n) (paste o (w * n) a n) ≡ drop (k * n) o

@@ -1,6 +1,6 @@
 -- Laws of the search: for any engine whose choices are fair, it lists packings, all of them, and none twice. Assumes nothing.
 use Prim.Native.Nat.{ℕ, zero, suc, ◌+◌, ◌-◌, ◌≤◌, ◌<◌}
-use mathlib.Core.Bool.{Bool, true, false, cond, not, ◌&&◌, and_true}
+use mathlib.Core.Bool.{Bool, true, false, cond, not, ◌&&◌, and-true}
 use mathlib.Core.List.Memᴰ
 use mathlib.Core.List.{List, [], ◌∷◌, Memᴰ}
 use mathlib.Core.Path.{◌≡◌, refl, sym, ap, ◌∙◌, subst}
@@ -110,7 +110,7 @@ module _ (c : Compiled) (w : WellMade c) (s : State) (h : Sound c s) where
         go true e = and_no (eqb (covering s.chosen n) 0) ∙ sym (is_false (eqb (covering (put ahead q s.chosen) n) 0) (λ z. let y = eqb→eq (covering (put ahead q s.chosen) n) 0 z in omega arith))
         go false e =
             let y : covering s.chosen n ≡ covering (put ahead q s.chosen) n = omega arith in
-            and_true (eqb (covering s.chosen n) 0) ∙ ap (λ (i : ℕ). eqb i 0) y
+            and-true (eqb (covering s.chosen n) 0) ∙ ap (λ (i : ℕ). eqb i 0) y
 
     once_put : (n : ℕ) → n < length c.cells → covering (put ahead q s.chosen) n ≤ 1
     once_put n k = go (decide (member n q.cells))

@@ -4,7 +4,7 @@ use mathlib.Core.Path.{◌≡◌, sym, ap, ◌∙◌}
 use native.Mathlib.Nat.{le_trans, le_of_eq}
 use native.Mathlib.Omega.{arith}
 use borrow.Author.Rules.{rules}
-use borrow.Author.Tests.{not_true, not-false}
+use borrow.Author.Tests.{not-true, not-false}
 use lib.ListN.{drop}
 use Rattle.definitions.specs.Files.{is_file}
 use Rattle.files.specs.Reading.{Asks}
@@ -124,7 +124,7 @@ returns-2 c =
     let start = start_at at_read in
     let x = start.args in
     let room = start.pre.1 in
-    let not = not_true _ no-file.if2.true in
+    let not = not-true _ no-file.if2.true in
     refused_step x.text.now x.p x.p 16 x.cells.now x.work.now x.links.now x.out.now _ _ _ _ _ at-refused.refused-line.result
     (unbegun at_read).if1.false (packed_malformed x.text.now (told at_read ∙ not)) at-refused.refused-line.ensures (omega arith)
     (ap (drop 16384) (at_read.read-file.ensures.nothing not).1) (scratch_same _ _)

@@ -3,7 +3,7 @@ use Prim.Native.Nat.{ℕ}
 use mathlib.Core.List.{List}
 use mathlib.Core.Path.{◌≡◌, sym, ◌∙◌}
 use native.Mathlib.Omega.{arith}
-use borrow.Author.Tests.{not_true, not-false}
+use borrow.Author.Tests.{not-true, not-false}
 use lib.ListN.{get_or}
 use Rattle.rows.specs.Charts.{kinds_part}
 use Rattle.fast.specs.Listing.{cells_in}
@@ -35,7 +35,7 @@ first c = let a = (entry (is_turned c)).args in copies_first a.chart.now a.d.kin
 returns : tie.Need-returns
 returns c =
     let z = c.before.before in
-    first_unless z.args.turned (copies z) (cells z) z.args.d.size (not_true z.args.turned c.if1.true)
+    first_unless z.args.turned (copies z) (cells z) z.args.d.size (not-true z.args.turned c.if1.true)
 
 returns-2 : tie.Need-returns-2
 returns-2 c =

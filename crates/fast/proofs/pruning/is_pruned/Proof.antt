@@ -3,7 +3,7 @@ use mathlib.Core.Bool.{true, false}
 use mathlib.Core.Path.{◌≡◌, sym, ◌∙◌}
 use native.Mathlib.Omega.{arith}
 use borrow.Author.Rules.{rules}
-use borrow.Author.Tests.{not_true, not-false}
+use borrow.Author.Tests.{not-true, not-false}
 use Rattle.rows.specs.Systems.{System, system_in, system_over}
 use Rattle.kept.proofs.ReadyLaws.{few-kinds, row_kind}
 use Rattle.fast.specs.Pruned.{moved_before, always_mirrorable_by}
@@ -49,7 +49,7 @@ are-alike c = let m = c.before.always-mirrorable in sym m.ensures ∙ not-false 
 returns : tie.Need-returns
 returns c =
     let z = c.before.before.before in
-    pruned_none (S z) z.args.r z.args.turned z.args.mirrored (not_true z.args.turned c.if1.true)
+    pruned_none (S z) z.args.r z.args.turned z.args.mirrored (not-true z.args.turned c.if1.true)
 
 moves-before-requires : tie.Need-moves-before-requires
 moves-before-requires c κs = search rules
@@ -64,7 +64,7 @@ returns-3 : tie.Need-returns-3
 returns-3 c =
     let k = c.before in
     let z = entry (turned-at k) in
-    pruned_not (S z) z.args.r z.args.turned z.args.mirrored (is_turned (turned-at k)) (is-still k) (not_true z.args.mirrored c.if3.true)
+    pruned_not (S z) z.args.r z.args.turned z.args.mirrored (is_turned (turned-at k)) (is-still k) (not-true z.args.mirrored c.if3.true)
 
 always-mirrorable-requires : tie.Need-always-mirrorable-requires
 always-mirrorable-requires c κs = search rules
@@ -76,7 +76,7 @@ returns-4 c =
     let j = turned-at (still-at k) in
     let z = entry j in
     pruned_unlike (S z) z.args.r z.args.turned z.args.mirrored (is_turned j) (is-still (still-at k)) (is-mirrored k)
-    (sym m.ensures ∙ not_true m.result c.if4.true)
+    (sym m.ensures ∙ not-true m.result c.if4.true)
 
 kind-after-requires : tie.Need-kind-after-requires
 kind-after-requires c κs =

@@ -6,7 +6,7 @@ use mathlib.Core.Logic.{⊎_elim}
 use mathlib.Core.Path.{◌≡◌, refl, sym, ap, ap₂, ◌∙◌, subst}
 use native.Mathlib.Omega.{arith}
 use borrow.Author.Rules.{rules}
-use borrow.Author.Tests.{not_true}
+use borrow.Author.Tests.{not-true}
 use lib.ListN.{length, get_or}
 use Rattle.lists.proofs.TestLaws.{and_true_left}
 use Rattle.definitions.specs.Emission.{Emitted, Listed, emits}
@@ -211,7 +211,7 @@ module _ (b : Back) where
       let k = kind-zero row in
       let r = l.loop.r in
       let mask = c.before.before.before.mask_at in
-      let pruned = not_true (pruned_by (S z) (i z) r) (and_true_left _ _ (sym tried.before.is-first.ensures ∙ tried.if3.taken)) in
+      let pruned = not-true (pruned_by (S z) (i z) r) (and_true_left _ _ (sym tried.before.is-first.ensures ∙ tried.if3.taken)) in
       let first = first_kind a.d a.work.now a.chart.now (ready z) r h k in
       let below =
       first_state a.d a.work.now a.chart.now (ready z) r h k a.state.now l.loop.state (placed q) l.loop.inv.0 l.loop.inv.1

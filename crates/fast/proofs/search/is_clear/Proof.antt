@@ -1,5 +1,5 @@
 -- `is_clear` meets its contract: what meets no covered cell is apart from them. Assumes nothing.
-use mathlib.Core.Bool.{not_not, not}
+use mathlib.Core.Bool.{not-not, not}
 use mathlib.Core.Path.{ap, ◌∙◌}
 use borrow.Author.Rules.{rules}
 use Rattle.masks.specs.Masks.{has, apart}
@@ -17,7 +17,7 @@ returns : tie.Need-returns
 returns c =
     let mask = c.before.mask_at in
     let a = c.before.before.before.args in
-    ap not c.meets.ensures ∙ not_not (apart 128 (has mask.result) (has a.covered))
+    ap not c.meets.ensures ∙ not-not (apart 128 (has mask.result) (has a.covered))
     ∙ ap (λ (m : Mask). apart 128 (has m) (has a.covered)) mask.ensures
 
 pub is-clear-spec : {M : Type 1} → statement M

@@ -1,7 +1,7 @@
 -- `is_tried` meets its contract: the three tests, one after the other. Assumes nothing.
 use mathlib.Core.Path.{ap, ◌∙◌}
 use native.Mathlib.Omega.{arith}
-use borrow.Author.Tests.{not_true, not-false}
+use borrow.Author.Tests.{not-true, not-false}
 use Rattle.masks.specs.Masks.{has, either}
 use Rattle.masks.specs.declared.Mask.{Mask}
 use Rattle.fast.specs.States.{left_part}
@@ -17,7 +17,7 @@ is-clear-requires : tie.Need-is-clear-requires
 is-clear-requires c κs = let z = c.before.before.before.before in omega (arith, z.requires.0.0.rows_fit, z.requires.0.1)
 
 returns : tie.Need-returns
-returns c = test_fails _ _ c.before.is-clear.result c.before.is-clear.ensures (not_true c.before.is-clear.result c.if1.true)
+returns c = test_fails _ _ c.before.is-clear.result c.before.is-clear.ensures (not-true c.before.is-clear.result c.if1.true)
 
 leads-requires : tie.Need-leads-requires
 leads-requires c κs =
@@ -29,7 +29,7 @@ returns-2 c =
     let leads = c.before in
     let clear = leads.before.before.is-clear in
     test_passes _ _ clear.result _ clear.ensures (not-false clear.result leads.before.if1.false)
-    (test_fails _ _ leads.leads.result leads.leads.ensures (not_true leads.leads.result c.if2.true))
+    (test_fails _ _ leads.leads.result leads.leads.ensures (not-true leads.leads.result c.if2.true))
 
 mask-at-requires : tie.Need-mask-at-requires
 mask-at-requires c κs = let z = at_start c.before.before.before in omega (arith, z.pre.0.0.rows_fit, z.pre.0.1)

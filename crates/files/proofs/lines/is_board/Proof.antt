@@ -9,7 +9,7 @@ use Rattle.lists.specs.Lists.{same}
 use Rattle.definitions.specs.Files.{fields_of}
 use Rattle.definitions.specs.Texts.{text}
 use Rattle.files.specs.Stretches.{stretch}
-use borrow.Author.Tests.{not_true, not-false}
+use borrow.Author.Tests.{not-true, not-false}
 use Rattle.files.proofs.LineLaws.{of_field, count_is, count_is_not, board_no_count, board_no_word, board-is}
 use borrow.Author.Rules.{rules}
 use Rattle.files.proofs.lines.is_board.Statement.{statement}
@@ -43,7 +43,7 @@ returns-2 c =
     let at_field = at-word.before.before in
     let counted = at_field.before in
     board_no_word (line_of counted.before) (five counted)
-    (of_field (λ l. same l (text "board")) at-word.is_is_word.ensures at_field.field_of.ensures.1 (not_true _ c.if2.true))
+    (of_field (λ l. same l (text "board")) at-word.is_is_word.ensures at_field.field_of.ensures.1 (not-true _ c.if2.true))
 
 is-grid-in-requires : tie.Need-is-grid-in-requires
 is-grid-in-requires c κs = search rules

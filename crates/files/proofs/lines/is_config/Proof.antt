@@ -7,7 +7,7 @@ use Prim.Native.Nat.{ℕ}
 use lib.Dec.{eqb}
 use lib.ListN.{length}
 use borrow.Author.Rules.{rules}
-use borrow.Author.Tests.{not_true, not-false}
+use borrow.Author.Tests.{not-true, not-false}
 use Rattle.lists.specs.Lists.{same}
 use Rattle.definitions.specs.Texts.{text}
 use Rattle.definitions.specs.Files.{field, fields_of}
@@ -41,7 +41,7 @@ worded c =
 not_fast : (c : tie.Then3) → same (field (line_at2 c.before.before.before) 1) (text "fast") ≡ false
 not_fast c =
     let at-word = c.before in
-    of_field (λ l. same l (text "fast")) at-word.is-word2.ensures at-word.before.before.field-of2.ensures.1 (not_true _ c.if3.true)
+    of_field (λ l. same l (text "fast")) at-word.is-word2.ensures at-word.before.before.field-of2.ensures.1 (not-true _ c.if3.true)
 
 engined : (c : tie.Joined3)
     → same (field (line_at2 c.before.before.before) 1) (text "fast") || same (field (line_at2 c.before.before.before) 1) (text "knuth") ≡ true
@@ -50,7 +50,7 @@ engined c =
     let line = line_at2 at-word.before.before in
     let is_field = at-word.before.before.field-of2.ensures.1 in
     ⊎_elim
-    (λ v. engine_knuth line (of_field (λ l. same l (text "fast")) at-word.is-word2.ensures is_field (not_true _ v.0.taken))
+    (λ v. engine_knuth line (of_field (λ l. same l (text "fast")) at-word.is-word2.ensures is_field (not-true _ v.0.taken))
     (of_field (λ l. same l (text "knuth")) v.2.ensures is_field (not-false _ v.3.left)))
     (λ v. engine_fast line (of_field (λ l. same l (text "fast")) at-word.is-word2.ensures is_field (not-false _ v.left)))
     c.if3.branch
@@ -81,7 +81,7 @@ returns-2 c =
     let at_field = at-word.before.before in
     let counted = at_field.before in
     config_no_word (line_of counted.before) (three counted)
-    (of_field (λ l. same l (text "config")) at-word.is_is_word.ensures at_field.field_of.ensures.1 (not_true _ c.if2.true))
+    (of_field (λ l. same l (text "config")) at-word.is_is_word.ensures at_field.field_of.ensures.1 (not-true _ c.if2.true))
 
 field-of-requires-2 : tie.Need-field-of-requires-2
 field-of-requires-2 c κs = search rules
@@ -104,7 +104,7 @@ returns-3 c =
     let not-fast = at-knuth.before.before in
     let at_field = not-fast.before.before.before in
     config_no_engine (line_at2 at_field) (three (counted_at at_field)) (worded at_field.before) (not_fast not-fast)
-    (of_field (λ l. same l (text "knuth")) at-knuth.is-word3.ensures at_field.field-of2.ensures.1 (not_true _ c.if4.true))
+    (of_field (λ l. same l (text "knuth")) at-knuth.is-word3.ensures at_field.field-of2.ensures.1 (not-true _ c.if4.true))
 
 field-of-requires-3 : tie.Need-field-of-requires-3
 field-of-requires-3 c κs = search rules

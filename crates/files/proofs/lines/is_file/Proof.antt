@@ -4,7 +4,7 @@ use mathlib.Core.Path.{◌≡◌, refl, sym, ◌∙◌}
 use native.Mathlib.Omega.{arith}
 use lib.ListN.{length, drop}
 use Rattle.definitions.specs.Files.{is_file}
-use borrow.Author.Tests.{not_true, not-false}
+use borrow.Author.Tests.{not-true, not-false}
 use Rattle.files.proofs.LineLaws.{file_from, file_long, file_starts, file_over, not_ended, next_fails, next_passes}
 use Rattle.files.proofs.lines.is_file.Statement.{statement}
 use Rattle.files.proofs.lines.is_file.Tie as tie
@@ -40,7 +40,7 @@ returns-3 c =
     let at-find = at-is-line.before.before in
     let at-loop = at-find.before.before in
     let start = at-loop.before.before.before in
-    sym (at-loop.loop.invariant.3 ∙ next_fails at-loop.loop.number start.args.text.now at-loop.loop.from at-find.find.result at-find.find.ensures.0 (omega arith) at-is-line.is-line.ensures (not_true _ c.if3.true))
+    sym (at-loop.loop.invariant.3 ∙ next_fails at-loop.loop.number start.args.text.now at-loop.loop.from at-find.find.result at-find.find.ensures.0 (omega arith) at-is-line.is-line.ensures (not-true _ c.if3.true))
 
 add-from : tie.Need-overflow-add-from invariant-loop decreases-loop
 add-from c = omega arith

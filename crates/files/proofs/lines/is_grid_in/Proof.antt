@@ -5,7 +5,7 @@ use mathlib.Core.List.{List}
 use mathlib.Core.Path.{◌≡◌, sym, ap, ◌∙◌}
 use native.Mathlib.Omega.{arith}
 use borrow.Author.Rules.{rules}
-use borrow.Author.Tests.{not_true, not-false}
+use borrow.Author.Tests.{not-true, not-false}
 use lib.Dec.{eqb}
 use lib.ListN.{length}
 use Rattle.lists.specs.Lists.{all}
@@ -92,7 +92,7 @@ returns : tie.Need-returns
 returns c =
     let at-number = c.before in
     let f = at-number.before in
-    grid_no_a (from_of f) (line_of f) (of_field (is_number 3) at-number.is-number.ensures (first_of f).field_of.ensures.1 (not_true _ c.if1.true))
+    grid_no_a (from_of f) (line_of f) (of_field (is_number 3) at-number.is-number.ensures (first_of f).field_of.ensures.1 (not-true _ c.if1.true))
 
 is-number-requires-2 : tie.Need-is-number-requires-2
 is-number-requires-2 c κs = search rules
@@ -103,7 +103,7 @@ returns-2 c =
     let is-a = at-number.before in
     let f = fields_at1 is-a in
     grid_no_b (from_of f) (line_of f) (side_a is-a)
-    (of_field (is_number 3) at-number.is-number2.ensures f.before.before.field-of2.ensures.1 (not_true _ c.if2.true))
+    (of_field (is_number 3) at-number.is-number2.ensures f.before.before.field-of2.ensures.1 (not-true _ c.if2.true))
 
 is-number-requires-3 : tie.Need-is-number-requires-3
 is-number-requires-3 c κs = search rules
@@ -114,7 +114,7 @@ returns-3 c =
     let is_b = at-number.before in
     let f = fields_at2 is_b in
     grid_no_c (from_of f) (line_of f) (side_a is_b.before.before) (side_b is_b)
-    (of_field (is_number 3) at-number.is-number3.ensures f.before.field-of3.ensures.1 (not_true _ c.if3.true))
+    (of_field (is_number 3) at-number.is-number3.ensures f.before.field-of3.ensures.1 (not-true _ c.if3.true))
 
 are-cells-requires : tie.Need-are-cells-requires
 are-cells-requires c κs = search rules
@@ -126,7 +126,7 @@ returns-4 c =
     let is_b = is_c.before.before in
     let f = fields_at3 is_c in
     grid_no_cells (from_of f) (line_of f) (side_a is_b.before.before) (side_b is_b) (side_c is_c)
-    (of_field (all (λ x. eqb x 48 || eqb x 49)) at_cells.are-cells.ensures f.field-of4.ensures.1 (not_true _ c.if4.true))
+    (of_field (all (λ x. eqb x 48 || eqb x 49)) at_cells.are-cells.ensures f.field-of4.ensures.1 (not-true _ c.if4.true))
 
 number-in-requires : tie.Need-number-in-requires
 number-in-requires c κs =

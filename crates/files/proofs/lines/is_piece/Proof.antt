@@ -6,7 +6,7 @@ use Prim.Native.Nat.{ℕ, ◌≤◌}
 use native.Mathlib.Omega.{arith}
 use lib.ListN.{length}
 use borrow.Author.Rules.{rules}
-use borrow.Author.Tests.{not_true, not-false}
+use borrow.Author.Tests.{not-true, not-false}
 use Rattle.lists.specs.Lists.{same}
 use Rattle.lists.proofs.TestLaws.{holds}
 use Rattle.definitions.specs.Texts.{text}
@@ -31,7 +31,7 @@ has-piece-fields-requires : tie.Need-has-piece-fields-requires
 has-piece-fields-requires c κs = search rules
 
 returns : tie.Need-returns
-returns c = let at_fields = c.before in piece_no_fields (line_of at_fields) (sym at_fields.has-piece-fields.ensures ∙ not_true _ c.if1.true)
+returns c = let at_fields = c.before in piece_no_fields (line_of at_fields) (sym at_fields.has-piece-fields.ensures ∙ not-true _ c.if1.true)
 
 field-of-requires : tie.Need-field-of-requires
 field-of-requires c κs = (c.before.before.before.requires, omega (arith, many c))
@@ -46,7 +46,7 @@ returns-2 : tie.Need-returns-2
 returns-2 c =
     let at-word = c.before in
     let at_field = at-word.before.before in
-    piece_no_word (line_of at_field.before.before) (long at_field.before) (of_field (λ l. same l (text "piece")) at-word.is_is_word.ensures at_field.field_of.ensures.1 (not_true _ c.if2.true))
+    piece_no_word (line_of at_field.before.before) (long at_field.before) (of_field (λ l. same l (text "piece")) at-word.is_is_word.ensures at_field.field_of.ensures.1 (not-true _ c.if2.true))
 
 -- behind the test of the word
 abbrev fields_at : tie.Else2 → tie.Else1
@@ -66,7 +66,7 @@ returns-3 c =
     let at-number = c.before in
     let at_field = at-number.before in
     let at-word = at_field.before in
-    piece_no_number (line_of (fields_at at-word).before) (long (fields_at at-word)) (worded at-word) (of_field (is_number 9) at-number.is-number.ensures at_field.field-of2.ensures.1 (not_true _ c.if3.true))
+    piece_no_number (line_of (fields_at at-word).before) (long (fields_at at-word)) (worded at-word) (of_field (is_number 9) at-number.is-number.ensures at_field.field-of2.ensures.1 (not-true _ c.if3.true))
 
 is-grid-in-requires : tie.Need-is-grid-in-requires
 is-grid-in-requires c κs = let at-word = c.before.before.before in ((fields_at at-word).before.before.before.requires, omega (arith, many (fields_at at-word)))

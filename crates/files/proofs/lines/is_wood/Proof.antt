@@ -3,7 +3,7 @@ use mathlib.Core.List.{List}
 use mathlib.Core.Path.{ap, ◌∙◌}
 use Prim.Native.Nat.{ℕ}
 use borrow.Author.Rules.{rules}
-use borrow.Author.Tests.{not_true, not-false}
+use borrow.Author.Tests.{not-true, not-false}
 use Rattle.definitions.specs.Files.{field, is_number, number_in}
 use Rattle.files.specs.Stretches.{stretch}
 use Rattle.files.proofs.LineLaws.{of_field, wide, wood_no_number, wood_is}
@@ -26,7 +26,7 @@ is-number-requires c κs = search rules
 returns : tie.Need-returns
 returns c =
     let at-number = c.before in
-    wood_no_number (tested at-number) (of_field (is_number 3) at-number.is-number.ensures (at_field at-number).field_of.ensures.1 (not_true _ c.if1.true))
+    wood_no_number (tested at-number) (of_field (is_number 3) at-number.is-number.ensures (at_field at-number).field_of.ensures.1 (not-true _ c.if1.true))
 
 number-in-requires : tie.Need-number-in-requires
 number-in-requires c κs =

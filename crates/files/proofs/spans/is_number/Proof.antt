@@ -2,7 +2,7 @@
 use Prim.Native.Nat.{◌-◌, ◌≤◌}
 use mathlib.Core.Path.{◌≡◌, refl, sym, ◌∙◌}
 use native.Mathlib.Omega.{arith}
-use borrow.Author.Tests.{not_true, not-false}
+use borrow.Author.Tests.{not-true, not-false}
 use borrow.Author.Rules.{rules}
 use Rattle.lists.specs.Lists.{all, before}
 use Rattle.definitions.specs.Files.{is_digit}
@@ -56,7 +56,7 @@ returns-3 c =
     let l = at-loop.loop in
     let a = start.args in
     let t = a.text.now in
-    sym (sym (laws.number_digits a.most t a.s.from a.s.to (omega arith) (omega arith) (omega arith)) ∙ sym l.invariant.2 ∙ laws.all_stops is_digit t l.i a.s.to (omega arith) (omega arith) (sym at-is-digit.is_digit.ensures ∙ not_true _ c.if3.true))
+    sym (sym (laws.number_digits a.most t a.s.from a.s.to (omega arith) (omega arith) (omega arith)) ∙ sym l.invariant.2 ∙ laws.all_stops is_digit t l.i a.s.to (omega arith) (omega arith) (sym at-is-digit.is_digit.ensures ∙ not-true _ c.if3.true))
 
 add-i : tie.Need-overflow-add-i invariant-loop decreases-loop
 add-i c = omega arith

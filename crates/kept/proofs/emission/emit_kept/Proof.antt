@@ -1,5 +1,5 @@
 -- `rows::emission::emit_kept` meets its contract: its rows in ascending order stand kind by kind, and give the packing's answer. Assumes nothing.
-use borrow.Author.Tests.{not_true, not-false}
+use borrow.Author.Tests.{not-true, not-false}
 use Rattle.kept.specs.Emission.{emitted_of, identified}
 use Rattle.kept.proofs.EmitLaws.{sorted_rows, sorted_kinds, sorted_up, sorted_held, emit_left, emit_put}
 use borrow.Author.Rules.{rules}
@@ -28,7 +28,7 @@ returns c =
     let a = k.args in
     let r = c.before.before.before.before.sort-path in
     let v = c.before.is-normal-form in
-    emit_left a.d a.work.now a.chart.now k.requires.0 a.path.now a.n k.requires.1 k.requires.2 r.new.1.1.0 r.auto.1.1.0 r.ensures.0 (identified a.wanted) a.wanted.capacity (emitted_of a.e a.last.now a.answers.now) v.result v.ensures (not_true v.result c.if1.true)
+    emit_left a.d a.work.now a.chart.now k.requires.0 a.path.now a.n k.requires.1 k.requires.2 r.new.1.1.0 r.auto.1.1.0 r.ensures.0 (identified a.wanted) a.wanted.capacity (emitted_of a.e a.last.now a.answers.now) v.result v.ensures (not-true v.result c.if1.true)
 
 slice-aggregate-emit-answer : tie.Need-slice-aggregate-emit-answer
 slice-aggregate-emit-answer c = search rules

@@ -13,7 +13,7 @@ use Rattle.knuth.proofs.CycleLaws.{same_twice, path_kept, path_still, path_twice
 use Rattle.knuth.proofs.CycleStepLaws.{of_seek, leaf_fills, column_tryable, path_same, path_room, row_bound, row_words, row_first, path_rows, row_choosable, next_tryable}
 use Rattle.knuth.proofs.CycleStepLaws.{found_leaf, found_few, found_none, found_rows, found_head, found_stop, found_on, found_passed}
 use borrow.Author.Rules.{rules}
-use borrow.Author.Tests.{not_true}
+use borrow.Author.Tests.{not-true}
 use borrow.Fn.Kinds.{In}
 use borrow.Fn.PlainCycle.{Measures, is, falls, and}
 use Rattle.knuth.proofs.search.choose.Reads as choose
@@ -366,7 +366,7 @@ try-rows-returns-2 t c =
       rest.ensures.0,
       λ w uncovered copies g s st e h. found_passed a.d a.work.now a.chart.now q.0.0.lawful a.path.now a.at.n q.0.2 q.0.1 q.1 kc
           row.result row.ensures a.shown.now old q.0.4 led.result led.ensures
-          (not_true led.result at_hidden.if2.true) i a.wanted.capacity s st e next.result next.ensures new rest.ensures.1 g h,
+          (not-true led.result at_hidden.if2.true) i a.wanted.capacity s st e next.result next.ensures new rest.ensures.1 g h,
     )
 
 try-rows-row-cells-requires : (t : ℕ) → try-rows-lts.Need-row-cells-requires (try-rows-knows t) (try-rows-at t) try-rows.Post

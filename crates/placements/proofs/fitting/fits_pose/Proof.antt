@@ -3,7 +3,7 @@ use Prim.Native.Nat.{◌+◌, ◌*◌, ◌-◌, ◌≤◌}
 use mathlib.Core.Path.{◌≡◌, sym, ap, ◌∙◌}
 use native.Mathlib.Omega.{arith}
 use borrow.Author.Rules.{rules}
-use borrow.Author.Tests.{not_true, not-false}
+use borrow.Author.Tests.{not-true, not-false}
 use lib.ListN.{get_or}
 use Rattle.lists.specs.Lists.{all, from}
 use Rattle.lists.proofs.TestLaws.{holds}
@@ -55,7 +55,7 @@ does-reach-requires c κs = search rules
 returns : tie.Need-returns invariant-loop decreases-loop
 returns c =
     let a = (to_start c.before.before).args in
-    fits_not (as_grid a.b a.board.now) (as_cell a.at) a.poses.now a.size a.i (reached c.before ∙ not_true c.before.does-reach.result c.if1.true)
+    fits_not (as_grid a.b a.board.now) (as_cell a.at) a.poses.now a.size a.i (reached c.before ∙ not-true c.before.does-reach.result c.if1.true)
 
 loop-holds : tie.Need-loop-init invariant-loop decreases-loop
 loop-holds c =
@@ -96,7 +96,7 @@ returns-2 c =
     let a = (to_start (to_origin at-loop)).args in
     sym (at-loop.loop.invariant.1
     ∙ all_failed (lands_at (as_grid a.b a.board.now) (as_cell a.at) a.poses.now a.i) at-loop.loop.k a.size c.before.before.before.before.loop-test.true
-    (landed c.before ∙ not_true c.before.is-filled.result c.if2.true))
+    (landed c.before ∙ not-true c.before.is-filled.result c.if2.true))
 
 add-k : tie.Need-overflow-add-k invariant-loop decreases-loop
 add-k c = search rules

@@ -1,7 +1,7 @@
 -- `sides_fit` meets its contract: the tests are those of the definition, in its order. Assumes nothing.
 use mathlib.Core.Path.{sym, ◌∙◌}
 use borrow.Author.Rules.{rules}
-use borrow.Author.Tests.{not_true, not-false}
+use borrow.Author.Tests.{not-true, not-false}
 use Rattle.definitions.specs.Refusals.{sides_fit}
 use Rattle.placements.proofs.records.sides_fit.Statement.{statement}
 use Rattle.placements.proofs.records.sides_fit.Tie as tie
@@ -11,7 +11,7 @@ is-side-requires c κs = search rules
 
 returns : tie.Need-returns
 unfolding sides_fit
-returns c = rw (sym c.before.is-side.ensures ∙ not_true _ c.if1.true)
+returns c = rw (sym c.before.is-side.ensures ∙ not-true _ c.if1.true)
 
 is-side-requires-2 : tie.Need-is-side-requires-2
 is-side-requires-2 c κs = search rules
@@ -20,7 +20,7 @@ returns-2 : tie.Need-returns-2
 unfolding sides_fit
 returns-2 c =
     let k = c.before.before in
-    rw (sym k.before.is-side.ensures ∙ not-false _ k.if1.false, sym c.before.is-side2.ensures ∙ not_true _ c.if2.true)
+    rw (sym k.before.is-side.ensures ∙ not-false _ k.if1.false, sym c.before.is-side2.ensures ∙ not-true _ c.if2.true)
 
 is-side-requires-3 : tie.Need-is-side-requires-3
 is-side-requires-3 c κs = search rules

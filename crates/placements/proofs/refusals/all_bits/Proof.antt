@@ -3,7 +3,7 @@ use Prim.Native.Nat.{◌-◌}
 use mathlib.Core.Path.{refl, ◌∙◌}
 use native.Mathlib.Omega.{arith}
 use borrow.Author.Rules.{rules}
-use borrow.Author.Tests.{not_true, not-false}
+use borrow.Author.Tests.{not-true, not-false}
 use Rattle.definitions.specs.Refusals.{grid_of, sides_fit, cells_lie, are_bits}
 use Rattle.placements.proofs.RefusalLaws.{Left, left_fails, left_passes, left_ends, records_long, record_passes, bits_told}
 use Rattle.placements.proofs.refusals.all_bits.Statement.{statement}
@@ -42,7 +42,7 @@ returns c =
     let k = e.before.before.before in
     let t = k.args.t1 in
     left_fails (λ q. are_bits (grid_of k.args.bytes.now q)) t k.requires.0 (records_long t k.well-formed.0) e.before.loop.i e.before.loop.invariant e.loop-test.true
-    (bits_told k.args.bytes.now _ _ c.before.before.cells-of.ensures.0 _ c.before.are-bits.ensures ∙ not_true _ c.if1.true)
+    (bits_told k.args.bytes.now _ _ c.before.before.cells-of.ensures.0 _ c.before.are-bits.ensures ∙ not-true _ c.if1.true)
 
 add-i : tie.Need-overflow-add-i invariant-loop decreases-loop
 add-i c = omega arith

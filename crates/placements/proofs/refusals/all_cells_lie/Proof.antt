@@ -2,7 +2,7 @@
 use Prim.Native.Nat.{◌-◌}
 use mathlib.Core.Path.{refl, sym, ◌∙◌}
 use native.Mathlib.Omega.{arith}
-use borrow.Author.Tests.{not_true, not-false}
+use borrow.Author.Tests.{not-true, not-false}
 use Rattle.definitions.specs.Refusals.{sides_fit, cells_lie}
 use Rattle.placements.proofs.RefusalLaws.{Left, left_fails, left_passes, left_ends, records_long, record_passes}
 use Rattle.placements.proofs.refusals.all_cells_lie.Statement.{statement}
@@ -36,7 +36,7 @@ returns c =
     let k = e.before.before.before in
     let t = k.args.t1 in
     left_fails (cells_lie k.args.bytes.now) t k.requires.0 (records_long t k.well-formed.0) e.before.loop.i e.before.loop.invariant e.loop-test.true
-    (sym c.before.cells-lie.ensures ∙ not_true _ c.if1.true)
+    (sym c.before.cells-lie.ensures ∙ not-true _ c.if1.true)
 
 add-i : tie.Need-overflow-add-i invariant-loop decreases-loop
 add-i c = omega arith

@@ -3,7 +3,7 @@ use Prim.Native.Nat.{◌-◌}
 use mathlib.Core.Path.{refl, sym, ◌∙◌}
 use native.Mathlib.Omega.{arith}
 use borrow.Author.Rules.{rules}
-use borrow.Author.Tests.{not_true, not-false}
+use borrow.Author.Tests.{not-true, not-false}
 use Rattle.definitions.specs.Refusals.{sides_fit}
 use Rattle.placements.proofs.RefusalLaws.{Left, left_fails, left_passes, left_ends, records_long}
 use Rattle.placements.proofs.refusals.all_sides_fit.Statement.{statement}
@@ -32,7 +32,7 @@ returns c =
     let e = c.before.before.before in
     let k = e.before.before in
     left_fails sides_fit k.args.t1 k.requires (records_long k.args.t1 k.well-formed.0) e.before.loop.i e.before.loop.invariant e.loop-test.true
-    (sym c.before.sides-fit.ensures ∙ not_true _ c.if1.true)
+    (sym c.before.sides-fit.ensures ∙ not-true _ c.if1.true)
 
 add-i : tie.Need-overflow-add-i invariant-loop decreases-loop
 add-i c = omega arith

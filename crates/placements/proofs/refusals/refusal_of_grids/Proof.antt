@@ -2,7 +2,7 @@
 use Prim.Native.Nat.{ℕ, ◌≤◌}
 use mathlib.Core.Path.{◌≡◌, sym, ◌∙◌}
 use borrow.Author.Rules.{rules}
-use borrow.Author.Tests.{not_true, not-false, lt-ltb, le-ltb}
+use borrow.Author.Tests.{not-true, not-false, lt-ltb, le-ltb}
 use lib.Dec.{T}
 use lib.ListN.{drop}
 use Rattle.lists.specs.Lists.{all, sum}
@@ -45,7 +45,7 @@ board-bits c =
     bits_told k.args.bytes.now k.args.board _ c.before.cells-of.ensures.0 _ c.are-bits.ensures
 
 returns : tie.Need-returns
-returns c = rw (grid-rows, board-bits c.before ∙ not_true _ c.if1.true)
+returns c = rw (grid-rows, board-bits c.before ∙ not-true _ c.if1.true)
 
 all-bits-requires : tie.Need-all-bits-requires
 all-bits-requires c κs = pieces-sound c.before.before.before.before
@@ -53,7 +53,7 @@ all-bits-requires c κs = pieces-sound c.before.before.before.before
 returns-2 : tie.Need-returns-2
 returns-2 c =
     let k = c.before.before in
-    rw (grid-rows, board-bits k.before ∙ not-false _ k.if1.false, sym c.before.all-bits.ensures ∙ not_true _ c.if2.true)
+    rw (grid-rows, board-bits k.before ∙ not-false _ k.if1.false, sym c.before.all-bits.ensures ∙ not-true _ c.if2.true)
 
 past-5 : (c : tie.Else2) → (let k = c.before.before.before.before.before.before in rest k 0 ≡ rest k 1)
 past-5 c =
@@ -64,7 +64,7 @@ all-filled-requires : tie.Need-all-filled-requires
 all-filled-requires c κs = pieces-sound c.before.before.before.before.before.before
 
 returns-3 : tie.Need-returns-3
-returns-3 c = sym (past-5 c.before.before ∙ rw (grid-rows, sym c.before.all-filled.ensures ∙ not_true _ c.if3.true))
+returns-3 c = sym (past-5 c.before.before ∙ rw (grid-rows, sym c.before.all-filled.ensures ∙ not-true _ c.if3.true))
 
 past-6 : (c : tie.Else3) → (let k = c.before.before.before.before.before.before.before.before in rest k 0 ≡ rest k 2)
 past-6 c = past-5 c.before.before ∙ rw (grid-rows, sym c.before.all-filled.ensures ∙ not-false _ c.if3.false)

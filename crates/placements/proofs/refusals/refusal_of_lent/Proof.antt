@@ -4,7 +4,7 @@ use mathlib.Core.Bool.{true}
 use mathlib.Core.Path.{◌≡◌, sym, ◌∙◌}
 use native.Mathlib.Omega.{arith}
 use borrow.Author.Rules.{rules}
-use borrow.Author.Tests.{not_true, not-false, lt-ltb, le-ltb}
+use borrow.Author.Tests.{not-true, not-false, lt-ltb, le-ltb}
 use lib.ListN.{drop}
 use Rattle.lists.specs.Lists.{all}
 use Rattle.lists.proofs.TestLaws.{holds}
@@ -66,7 +66,7 @@ sides-fit-requires c κs = search rules
 
 returns-2 : tie.Need-returns-2
 unfolding lent_rows
-returns-2 c = sym (past-2 c.before.before ∙ rw (sym c.before.sides-fit.ensures ∙ not_true _ c.if2.true))
+returns-2 c = sym (past-2 c.before.before ∙ rw (sym c.before.sides-fit.ensures ∙ not-true _ c.if2.true))
 
 board_fits : (c : tie.Else2) → sides_fit (start-2 c).args.board ≡ true
 board_fits c = sym c.before.sides-fit.ensures ∙ not-false _ c.if2.false
@@ -78,7 +78,7 @@ returns-3 : tie.Need-returns-3
 unfolding lent_rows
 returns-3 c =
     let e = c.before.before in
-    sym (past-2 (few e) ∙ rw (board_fits e, sym c.before.all-sides-fit.ensures ∙ not_true _ c.if3.true))
+    sym (past-2 (few e) ∙ rw (board_fits e, sym c.before.all-sides-fit.ensures ∙ not-true _ c.if3.true))
 
 pieces-fit : (c : tie.Else3) → all sides_fit (records_of (start-3 c).args.t) ≡ true
 pieces-fit c = sym c.before.all-sides-fit.ensures ∙ not-false _ c.if3.false
@@ -93,7 +93,7 @@ cells-lie-requires c κs = holds _ (board_fits (board-fitting c))
 
 returns-4 : tie.Need-returns-4
 unfolding lent_rows
-returns-4 c = sym (past-3 c.before.before ∙ rw (sym c.before.cells-lie.ensures ∙ not_true _ c.if4.true))
+returns-4 c = sym (past-3 c.before.before ∙ rw (sym c.before.cells-lie.ensures ∙ not-true _ c.if4.true))
 
 board-lies : (c : tie.Else4) → cells_lie (start-4 c).args.bytes.now (start-4 c).args.board ≡ true
 board-lies c = sym c.before.cells-lie.ensures ∙ not-false _ c.if4.false
@@ -105,7 +105,7 @@ returns-5 : tie.Need-returns-5
 unfolding lent_rows
 returns-5 c =
     let e = c.before.before in
-    sym (past-3 (all-fitting e) ∙ rw (board-lies e, sym c.before.all-cells-lie.ensures ∙ not_true _ c.if5.true))
+    sym (past-3 (all-fitting e) ∙ rw (board-lies e, sym c.before.all-cells-lie.ensures ∙ not-true _ c.if5.true))
 
 pieces-lie : (c : tie.Else5) → all (cells_lie (start-5 c).args.bytes.now) (records_of (start-5 c).args.t) ≡ true
 pieces-lie c = sym c.before.all-cells-lie.ensures ∙ not-false _ c.if5.false

@@ -2,7 +2,7 @@
 use mathlib.Core.Bool.{Bool, true, false, ◌&&◌}
 use mathlib.Core.Path.{◌≡◌, sym, ap, ◌∙◌}
 use borrow.Author.Rules.{rules}
-use borrow.Author.Tests.{not_true, not-false}
+use borrow.Author.Tests.{not-true, not-false}
 use Rattle.definitions.specs.Grid.{same_grid}
 use Rattle.definitions.specs.Maps.{map_of, map_grid}
 use Rattle.shape.specs.Grids.{as_grid, Whole, is_whole, grid_order}
@@ -22,7 +22,7 @@ returns : tie.Need-returns
 returns c =
     let a = c.before.before.before.args in
     let t = c.before.is_whole in
-    broken_tells a.s a.cells.now (untold t.result (not_true t.result c.if1.true) t.ensures) _
+    broken_tells a.s a.cells.now (untold t.result (not-true t.result c.if1.true) t.ensures) _
 
 compare-turned-requires : tie.Need-compare-turned-requires
 compare-turned-requires c κs = (whole c, whole c)

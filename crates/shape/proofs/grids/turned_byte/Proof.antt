@@ -2,7 +2,7 @@
 use mathlib.Core.Path.{sym, ◌∙◌}
 use native.Mathlib.Omega.{arith}
 use borrow.Author.Rules.{rules}
-use borrow.Author.Tests.{not_true, not-false}
+use borrow.Author.Tests.{not-true, not-false}
 use lib.ListN.{get_or-eq_default}
 use Rattle.definitions.specs.Maps.{map_of, map_grid}
 use Rattle.shape.specs.Grids.{as_grid, Whole}
@@ -24,7 +24,7 @@ returns : tie.Need-returns
 returns c =
     let a = c.before.before.before.args in
     let t = c.before.is_whole in
-    broken_reads a.s a.cells.now (untold t.result (not_true t.result c.if1.true) t.ensures) _
+    broken_reads a.s a.cells.now (untold t.result (not-true t.result c.if1.true) t.ensures) _
 
 returns-2 : tie.Need-returns-2
 returns-2 c =

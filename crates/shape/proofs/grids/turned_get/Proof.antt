@@ -2,7 +2,7 @@
 use Prim.Native.Nat.{ℕ, ◌<◌}
 use mathlib.Core.Path.{sym, ap, ◌∙◌, subst, subst⁻¹}
 use borrow.Author.Rules.{rules}
-use borrow.Author.Tests.{not_true, not-false}
+use borrow.Author.Tests.{not-true, not-false}
 use lib.ListN.{get_or}
 use Rattle.definitions.specs.Grid.{Sides, volume, place_of, InBox, byte_at}
 use Rattle.definitions.specs.Maps.{map_of, map_sides, map_grid}
@@ -38,7 +38,7 @@ returns : tie.Need-returns
 returns c =
     let a = c.before.before.before.args in
     let t = c.before.is_whole in
-    broken_cell a.s a.cells.now (untold t.result (not_true t.result c.if1.true) t.ensures) _ _
+    broken_cell a.s a.cells.now (untold t.result (not-true t.result c.if1.true) t.ensures) _ _
 
 sides-requires : tie.Need-sides-requires
 sides-requires c κs = search rules
@@ -50,7 +50,7 @@ returns-2 : tie.Need-returns-2
 returns-2 c =
     let a = (to_start (to_whole c.before)).args in
     let t = c.before.in-box in
-    let out = untold t.result (not_true t.result c.if2.true) t.ensures in
+    let out = untold t.result (not-true t.result c.if2.true) t.ensures in
     no_cell a.s a.cells.now _ _ _ (λ i. out (subst⁻¹ (λ (t : Sides). InBox t (as_cell a.u)) c.before.before.sides.ensures i))
 
 place-requires : tie.Need-place-requires
