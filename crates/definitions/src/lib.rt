@@ -1,5 +1,7 @@
 // The types that a call takes and hands back. Document 01 is written as definitions in specs/, and these types meet them there; proofs/ has only tables
 // that are computed of them. What follows from the definitions is the crate theorems.
+#![tactic(auto)]
+
 ghost use Rattle.std.specs.Prelude.{◌≡◌};
 ghost use Rattle.definitions.specs.Outcomes.{number_of};
 
@@ -7,7 +9,7 @@ ghost use Rattle.definitions.specs.Outcomes.{number_of};
 // cells begin in the lent bytes. A board's count and wood are not read. Sides have the width of an index, so that one of 257
 // is refused and not taken for 1. The wood lies behind the count, in bytes that were padding: size and other places stay.
 #[repr(C)]
-#[derive(Drop)]
+#[derive(Clone, Copy)]
 pub struct Record {
     pub a: usize,
     pub b: usize,
@@ -17,7 +19,7 @@ pub struct Record {
     pub start: usize,
 }
 
-#[derive(Drop)]
+#[derive(Clone, Copy)]
 pub enum SolverKind {
     Auto,
     Naive,
@@ -25,7 +27,7 @@ pub enum SolverKind {
     KnuthAlgorithm,
 }
 
-#[derive(Drop)]
+#[derive(Clone, Copy)]
 pub struct Config {
     pub identify_transformed_answers: bool,
     pub identify_mirrored_answers: bool,
@@ -33,7 +35,7 @@ pub struct Config {
 }
 
 // Why a call is refused: the rows 2 to 15 of document 01's table, in its order.
-#[derive(Drop)]
+#[derive(Clone, Copy)]
 pub enum Refusal {
     TooManyPieces,
     SideOutOfRange,
@@ -51,7 +53,7 @@ pub enum Refusal {
 }
 
 // Where a page starts: at an entry of the list, by its number, or behind the entry that is lent.
-#[derive(Drop)]
+#[derive(Clone, Copy)]
 pub enum Start {
     Entry(u64),
     Behind,
@@ -60,7 +62,7 @@ pub enum Start {
 // What a call hands back beside the slices: how many answers were written and whether a further one follows; or the refusal; or,
 // of a call for what lies behind an entry, that no entry of the list equals the one that was lent (no refusal: the search has run
 // and found none, and nothing is written).
-#[derive(Drop)]
+#[derive(Clone, Copy)]
 pub enum Listing {
     Page(usize, bool),
     Refused(Refusal),

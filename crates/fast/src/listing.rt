@@ -9,7 +9,7 @@ ghost use Rattle.kept.specs.Ready.{Ready};
 ghost use Rattle.fast.specs.Listing.{cells_in, fast_answers};
 ghost use Rattle.fast.specs.States.{left_part, path_part, state_length};
 
-use super::{Pruning, search, state};
+use super::{pruning, search, state};
 use kept::emission::{Emission, Wanted};
 use masks::Mask;
 use rows::{Dims, chart, shown};
@@ -82,7 +82,7 @@ pub fn list(
     let mut shown = [0u8; 256];
     shown::show_cells(d, chart, last, &mut shown);
     if is_kind_0_first(d, chart, wanted.turned) {
-        return Pruning::search_first(d, work, chart, wanted, &mut state, last, &shown, answers, e);
+        return pruning::search_first(d, work, chart, wanted, &mut state, last, &shown, answers, e);
     }
     search::search(
         d,

@@ -1,4 +1,6 @@
 // The page call for C and Rust, with what it answers as numbers (docs/INTERFACE.md). Nothing is assumed of what is lent; promised is document 01's outcome.
+#![tactic(auto)]
+
 ghost use Rattle.std.specs.Prelude.{◌≡◌};
 ghost use Rattle.definitions.specs.Starts.{Meets, outcome_from};
 ghost use Rattle.solver.specs.Lent.{call_with};
@@ -10,7 +12,7 @@ use solver::records;
 // What a call answers: the refusal's number in document 01's table, 0 where it is accepted; how many answers were written; whether a further one follows;
 // and whether no entry of the list equals the one that was lent, to begin behind it.
 #[repr(C)]
-#[derive(Drop)]
+#[derive(Clone, Copy)]
 pub struct Answer {
     pub number: u32,
     pub written: usize,

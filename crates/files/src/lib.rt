@@ -2,6 +2,8 @@
 //
 // Every function here is proved, and the crate assumes nothing. `reading::read_file` takes any text and says whether it is a file; the
 // functions of `printing` ask for room in their buffer.
+#![tactic(auto)]
+
 mod lines;
 pub mod printing;
 pub mod reading;

@@ -12,14 +12,14 @@ use definitions::{Config, Record, SolverKind};
 use placements::{Pieces, records};
 
 // The pieces of a file: the first 16 records, how many pieces there are, and how many cells they have together.
-#[derive(Drop)]
+#[derive(Clone, Copy)]
 struct FilePieces {
     pieces: Pieces,
     used: usize,
 }
 
 // What a text asks for: its pieces, its board, its configuration, and how many cells they have together.
-#[derive(Drop)]
+#[derive(Clone, Copy)]
 pub struct Asked {
     pub pieces: Pieces,
     pub board: Record,
@@ -28,7 +28,7 @@ pub struct Asked {
 }
 
 // Whether a text was read, and what it asks for: nothing where it was not.
-#[derive(Drop)]
+#[derive(Clone, Copy)]
 pub struct Reading {
     pub is_read: bool,
     pub asked: Asked,

@@ -5,7 +5,7 @@ ghost use Rattle.definitions.specs.Files.{field, fields_of, is_digit, is_number,
 ghost use Rattle.files.specs.Stretches.{Within, stretch};
 
 // From one place to below another.
-#[derive(Drop)]
+#[derive(Clone, Copy)]
 pub struct Span {
     pub from: usize,
     pub to: usize,

@@ -11,7 +11,7 @@ use super::{normal_form, sorting};
 use rows::{Dims, answers};
 
 // Whether an entry is still waited for; how many entries are still to be skipped, how many were written, and whether a further one is known.
-#[derive(Drop)]
+#[derive(Clone, Copy)]
 pub struct Emission {
     pub waiting: bool,
     pub skip: u64,
@@ -20,7 +20,7 @@ pub struct Emission {
 }
 
 // What is wanted of the packings that a search finds: which are identified, and for how many answers there is room.
-#[derive(Drop)]
+#[derive(Clone, Copy)]
 pub struct Wanted {
     pub turned: bool,
     pub mirrored: bool,

@@ -15,7 +15,7 @@ use kept::emission::{Emission, Wanted};
 use rows::{Dims, shown};
 
 // The column that a search covers: its cell, how many cells are uncovered and how many rows chosen.
-#[derive(Drop)]
+#[derive(Clone, Copy)]
 pub struct Column {
     pub cell: usize,
     pub left: usize,

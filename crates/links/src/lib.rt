@@ -1,4 +1,6 @@
 // Dancing links (knuth_algo.rs) over a lent slice of numbers, eight to a node: field F of node x stands at 8 * x + F.
+#![tactic(auto)]
+
 ghost use Rattle.std.specs.Prelude.{◌≡◌, Bool, true, cond, List, ℕ, ◌+◌, ◌-◌, ◌≤◌, ◌<◌, length, get_or, eqb};
 ghost use Rattle.links.specs.Search.{better, has_row, pivot, Seek, Shape, spent, regained, Takes, Gives, Sized, Selectable, Selected, selected, first_covered};
 ghost use Rattle.links.specs.Links.{down, column_of, first_of, end_of, size_of, copies_of, row_number, Still, unlink as unlinked, relink as relinked, Matrix, LawfulMatrix, Fields};

@@ -1,9 +1,11 @@
 // Sets of board cells, by their scan numbers 0 to 127, as two words. Nothing is assumed; each function is a set operation on `has`. A number from 128 on is
 // no cell and is in no set.
+#![tactic(auto)]
+
 ghost use Rattle.std.specs.Prelude.{◌≡◌, cond, not, ltb};
 ghost use Rattle.masks.specs.Masks.{has, nothing, only, either, apart, SameCells, FirstOpen, FirstIn};
 
-#[derive(Drop)]
+#[derive(Clone, Copy)]
 pub struct Mask {
     pub low: u64,
     pub high: u64,

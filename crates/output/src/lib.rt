@@ -3,6 +3,8 @@
 // for the text, whatever the text is.
 //
 // Every function here is proved, and the crate assumes nothing.
+#![tactic(auto)]
+
 mod lines;
 mod pages;
 mod stretches;
@@ -16,7 +18,7 @@ use files::reading::Asked;
 // How far the output is. Once it has begun, what the text asks for was read; `written` entries stand in the answer buffer, the first
 // of them entry `base` of the list, and `from` of them are printed; `further`: whether an entry follows them; the next page has room
 // for `room` entries at least; the board's box has `places` cells.
-#[derive(Drop)]
+#[derive(Clone, Copy)]
 pub struct Progress {
     pub begun: bool,
     pub asked: Asked,
@@ -29,7 +31,7 @@ pub struct Progress {
 }
 
 // How many bytes were made, whether that is all, and, where it is not, how far the output is.
-#[derive(Drop)]
+#[derive(Clone, Copy)]
 pub struct Stretch {
     pub made: usize,
     pub done: bool,

@@ -6,7 +6,7 @@ ghost use Rattle.output.specs.Rest.{LinesPut};
 use files::printing;
 
 // How many bytes were made, and the entry of the page behind those whose lines they are.
-#[derive(Drop)]
+#[derive(Clone, Copy)]
 pub struct Lines {
     pub made: usize,
     pub next: usize,

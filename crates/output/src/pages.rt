@@ -104,7 +104,7 @@ pub fn turn_page(
 }
 
 // How a listing begins: with its first page, or with a refusal's number.
-#[derive(Drop)]
+#[derive(Clone, Copy)]
 pub struct Begun {
     pub number: u64,
     pub progress: Progress,

@@ -1,4 +1,6 @@
 // Lists every packing of the tray on standard input. What is printed is made by proved functions, stretch by stretch (crate `output`): here it is only read and written.
+#![tactic(auto)]
+
 use libc::{STDIN_FILENO, STDOUT_FILENO};
 
 fn main() {

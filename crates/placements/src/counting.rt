@@ -15,7 +15,7 @@ use shape::scan::AxisOrder;
 use shape::{Coord, cells, grids, scan, variants};
 
 // What counting works out of a tray and building goes on from: filled board cells, kinds, and placements and links as 14 and 15 count them.
-#[derive(Drop)]
+#[derive(Clone, Copy)]
 pub struct Counts {
     pub size: usize,
     pub kinds: usize,

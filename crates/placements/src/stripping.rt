@@ -14,14 +14,14 @@ use shape::{Coord, stripping};
 pub const ROOM: usize = 8704;
 
 // A record over the stripped grid, and where that grid's corner lies in the lent box.
-#[derive(Drop)]
+#[derive(Clone, Copy)]
 struct StrippedRecord {
     row: Record,
     at: Coord,
 }
 
 // The records of a stripped tray, and where the corner of its board lies in the lent box.
-#[derive(Drop)]
+#[derive(Clone, Copy)]
 pub struct StrippedRecords {
     pub pieces: Pieces,
     pub board: Record,

@@ -1,5 +1,7 @@
 // Reads calls from standard input, each as numbers, and prints the refusal of each, or its row system: sizes, kinds, pieces, what the allowed maps do to
 // cells on smaller boards, and rows; for some calls pages of both engines' lists too. The stored output is the oracle's (oracle/replay.py).
+#![tactic(auto)]
+
 ghost use Rattle.std.specs.Prelude.{◌≡◌, ◌+◌, ◌*◌, ◌<◌, ◌≤◌, length};
 ghost use Rattle.rows.specs.Charts.{chart_length};
 
@@ -11,7 +13,7 @@ use solver::prepare::Prepared;
 use solver::{pages, prepare};
 
 // A number that was read, and where the next begins.
-#[derive(Drop)]
+#[derive(Clone, Copy)]
 struct Token {
     value: usize,
     next: usize,
@@ -66,7 +68,7 @@ fn number(text: &[u8], i: usize) -> Token {
 }
 
 // A record that was read, and where what follows begins.
-#[derive(Drop)]
+#[derive(Clone, Copy)]
 struct Lent {
     record: Record,
     next: usize,
@@ -450,7 +452,7 @@ fn times(n: usize, m: usize) -> usize
 
 // What a page call gave: the refusal or 0, entries written, whether a further one follows, the sum over what was written, and whether what it must not
 // touch was as before.
-#[derive(Drop)]
+#[derive(Clone, Copy)]
 struct Given {
     refused: usize,
     written: usize,
@@ -530,7 +532,7 @@ fn ask(
 }
 
 // The engine that is asked, and how long the slices are that it works in.
-#[derive(Drop)]
+#[derive(Clone, Copy)]
 struct Asked {
     knuth: bool,
     words: usize,

@@ -11,7 +11,7 @@ use super::{Dims, chart, row};
 use masks::Mask;
 
 // A copy of a piece: the piece's number as lent, and the copy's.
-#[derive(Drop)]
+#[derive(Clone, Copy)]
 pub struct Copied {
     pub piece: u8,
     pub copy: u8,

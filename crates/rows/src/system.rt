@@ -123,7 +123,7 @@ fn lay_chart(
 }
 
 // How many rows, allowed turns and allowed mirrorings there are.
-#[derive(Drop)]
+#[derive(Clone, Copy)]
 struct Placed {
     rows: usize,
     turns: usize,

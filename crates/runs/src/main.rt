@@ -1,5 +1,7 @@
 // Runs of `pack`: what it prints for each of these files, one after the other, held to the stored output. A file that is missing and a folder in place of a file make reads
 // that fail.
+#![tactic(auto)]
+
 use libc::STDOUT_FILENO;
 
 // What `pack` prints for a file.

@@ -1,7 +1,7 @@
 // Constants: the 48 maps, their products and their inverses.
 
 // A map: for each axis of the mapped grid, the number of the axis that it was, and 1 where it is counted from the other end.
-#[derive(Drop)]
+#[derive(Clone, Copy)]
 pub struct Axes {
     pub x: u8,
     pub y: u8,

@@ -7,7 +7,7 @@ ghost use Rattle.shape.specs.Lines.{stride_of, line_by, step_to, line_of, layer_
 use super::{Coord, maps};
 
 // n cells with a step between them, counted from the other end where the flip is set.
-#[derive(Drop)]
+#[derive(Clone, Copy)]
 pub(crate) struct Line {
     pub flip: u8,
     pub n: usize,

@@ -7,7 +7,7 @@ use super::Coord;
 use super::constants::{Axes, INVERSES, MAPS, PRODUCTS};
 
 // A map, by its number: below 24 a turn, from 24 to 47 a mirroring. A larger number stands for the map that moves nothing.
-#[derive(Drop)]
+#[derive(Clone, Copy)]
 pub struct Map(pub u8);
 
 impl Map {

@@ -10,7 +10,7 @@ ghost use Rattle.shape.specs.Stripping.{part_of, StripsInto};
 use super::{Coord, cells, grids};
 
 // The box that a grid's filled cells span: where its corner lies, and its sides. A grid without filled cells keeps its box.
-#[derive(Drop)]
+#[derive(Clone, Copy)]
 pub struct Window {
     pub at: Coord,
     pub sides: Coord,

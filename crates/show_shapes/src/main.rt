@@ -1,5 +1,7 @@
 // Prints what the crate shape makes of some grids: turned and mirrored grids, variants with their origins, symmetries, scan order,
 // and how the grids compare by their smallest turned grids. The stored output is the original's (oracle, `shapes`).
+#![tactic(auto)]
+
 ghost use Rattle.std.specs.Prelude.{◌≤◌, length};
 ghost use Rattle.shape.specs.Grids.{Whole};
 ghost use Rattle.shape.specs.Scans.{IsOrder, as_order};

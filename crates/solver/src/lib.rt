@@ -1,5 +1,6 @@
 // One entry point for every engine (solver/mod.rs): a call is refused, or its row system is prepared, an engine lists over it, and the slices are cleared.
 // The pieces come as a slice of records (`records`), or by value (`pages`). No public function of these two has a `requires`; nothing is assumed.
+#![tactic(auto)]
 
 mod clearing;
 pub mod pages;

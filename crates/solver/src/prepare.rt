@@ -11,7 +11,7 @@ use placements::{Pieces, Verdict, counting, records, refusals, stripping};
 use rows::{Dims, system};
 
 // What preparation answers: why the call is refused, or how large its row system is, which then stands in the slices.
-#[derive(Drop)]
+#[derive(Clone, Copy)]
 pub enum Prepared {
     Refused(Refusal),
     System(Dims),

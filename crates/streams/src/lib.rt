@@ -2,6 +2,8 @@
 //
 // Every function here is proved. No contract can say which bytes are read or written: that `read_text` puts the input's bytes one after the other into its slice, and
 // that `print` has each stretch written that a step makes, is for the eye, and for the stored runs of the programs above.
+#![tactic(auto)]
+
 ghost use Rattle.std.specs.Prelude.{◌≤◌, ◌<◌, ◌≡◌, true, length, take};
 ghost use Rattle.definitions.specs.Files.{packed};
 ghost use Rattle.streams.specs.Printing.{Ends, Lent};

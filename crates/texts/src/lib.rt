@@ -2,6 +2,8 @@
 // other byte as it was, and hands back the place behind them.
 //
 // Every function here is proved, and the crate assumes nothing. Each asks that the buffer has room for the most that it can put.
+#![tactic(auto)]
+
 ghost use Rattle.std.specs.Prelude.{◌++◌, ◌∷◌, [], ◌+◌, ◌≤◌, length};
 ghost use Rattle.definitions.specs.Files.{decimal};
 ghost use Rattle.texts.specs.Put.{Put};

@@ -1,5 +1,7 @@
 // A view of lent cells with three sides stands for `CubicGrid` (shape.rs): get and turned-get, thin above the functions on slice and sides.
 // Nothing is assumed: a cell outside the box is 0. No other crate uses it (docs/DECISIONS.md says why it stands).
+#![tactic(auto)]
+
 ghost use Rattle.std.specs.Prelude.{◌≡◌};
 ghost use Rattle.views.specs.Views.{cell_seen, turned_seen};
 
@@ -36,7 +38,7 @@ pub fn turned_at(
     grids::turned_get(cells, Coord(a, b, c), Map(map), Coord(x, y, z))
 }
 
-#[derive(Drop)]
+#[derive(Clone, Copy)]
 pub struct GridView<'a> {
     pub cells: &'a [u8],
     pub a: usize,

@@ -9,8 +9,8 @@ use Rattle.lists.specs.Lists.{all, from}
 use Rattle.lists.proofs.RangeLaws.{all_failed, all_next, all_done}
 use Rattle.kept.proofs.ReadyLaws.{few-kinds}
 use Rattle.fast.proofs.PrunedLaws.{mirrors, mirrors_not, mirrors_told, mirrorable_start}
-use Rattle.fast.proofs.Pruning.always_mirrorable.Statement.{statement}
-use Rattle.fast.proofs.Pruning.always_mirrorable.Tie as tie
+use Rattle.fast.proofs.pruning.always_mirrorable.Statement.{statement}
+use Rattle.fast.proofs.pruning.always_mirrorable.Tie as tie
 
 abbrev invariant-loop : tie.invariant-loop
 invariant-loop d work chart k₀ k =

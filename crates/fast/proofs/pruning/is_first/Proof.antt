@@ -5,8 +5,8 @@ use native.Mathlib.Omega.{arith}
 use borrow.Author.Rules.{rules}
 use Rattle.fast.proofs.PrunedLaws.{first_small}
 use Rattle.fast.proofs.UnmetLaws.{test_fails, test_passes}
-use Rattle.fast.proofs.Pruning.is_first.Statement.{statement}
-use Rattle.fast.proofs.Pruning.is_first.Tie as tie
+use Rattle.fast.proofs.pruning.is_first.Statement.{statement}
+use Rattle.fast.proofs.pruning.is_first.Tie as tie
 
 is-pruned-requires : tie.Need-is-pruned-requires
 is-pruned-requires c κs = search rules

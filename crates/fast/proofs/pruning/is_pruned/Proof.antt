@@ -8,8 +8,8 @@ use Rattle.rows.specs.Systems.{System, system_in, system_over}
 use Rattle.kept.proofs.ReadyLaws.{few-kinds, row_kind}
 use Rattle.fast.specs.Pruned.{moved_before, always_mirrorable_by}
 use Rattle.fast.proofs.PrunedLaws.{turned_before, mirrored_before, pruned_none, pruned_turned, pruned_not, pruned_unlike, pruned_other, pruned_mirrored}
-use Rattle.fast.proofs.Pruning.is_pruned.Statement.{statement}
-use Rattle.fast.proofs.Pruning.is_pruned.Tie as tie
+use Rattle.fast.proofs.pruning.is_pruned.Statement.{statement}
+use Rattle.fast.proofs.pruning.is_pruned.Tie as tie
 
 abbrev S : tie.Start → System
 S z = system_in z.args.d z.args.work.now z.args.chart.now

@@ -9,8 +9,8 @@ use Rattle.lists.specs.Lists.{any, from}
 use Rattle.lists.proofs.RangeLaws.{any_found, any_next, any_none}
 use Rattle.kept.proofs.ReadyLaws.{image_asked}
 use Rattle.fast.proofs.PrunedLaws.{moves, moves_told}
-use Rattle.fast.proofs.Pruning.moves_before.Statement.{statement}
-use Rattle.fast.proofs.Pruning.moves_before.Tie as tie
+use Rattle.fast.proofs.pruning.moves_before.Statement.{statement}
+use Rattle.fast.proofs.pruning.moves_before.Tie as tie
 
 abbrev invariant-loop : tie.invariant-loop
 invariant-loop d work chart start end r m₀ m =

@@ -24,8 +24,8 @@ use Rattle.kept.proofs.ReadyLaws.{rows_many, few-rows}
 use Rattle.fast.proofs.PrunedLaws.{nothing_covered, first_from, first_start, first_emitted, first_untried, first_full, first_over, first_left}
 use Rattle.fast.proofs.PrunedLaws.{later_kinds, first_kind, first_path, first_state, first_searching}
 use Rattle.fast.proofs.StateLaws.{left-at, placed_length, after_count, restored_left, restored_length}
-use Rattle.fast.proofs.Pruning.search_first.Statement.{statement}
-use Rattle.fast.proofs.Pruning.search_first.Tie as tie
+use Rattle.fast.proofs.pruning.search_first.Statement.{statement}
+use Rattle.fast.proofs.pruning.search_first.Tie as tie
 
 abbrev invariant-loop : tie.invariant-loop
 invariant-loop d work chart wanted state₀ last shown answers₀ s₀ r₀ state answers s r =
