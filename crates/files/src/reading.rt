@@ -61,9 +61,9 @@ fn config_in(text: &[u8], line: Span) -> Config
 
 // The record of the grid from field n on, whose cells are lent from a place on.
 fn record_in(text: &[u8], line: Span, n: usize, count: u32, wood: u8, start: usize) -> Record
-    requires* { do
-      let s = stretch line text.now
-      ⌜ Within line text.now × (n + 4 ≤ length (fields_of s)) × T (is_grid_in n s) ⌝ }
+    requires {
+        let s = stretch line text.now in
+        Within line text.now × (n + 4 ≤ length (fields_of s)) × T (is_grid_in n s) }
     ensures { result ≡ record_at start (grid_in count wood n (stretch line text.now)) }
 {
     Record {
@@ -91,10 +91,10 @@ fn wood_in(text: &[u8], line: Span) -> u8
 fn put_cells(text: &[u8], s: Span, cells: &mut [u8], at: usize) -> usize
     requires { Within s text.now × T (all (λ x. eqb x 48 || eqb x 49) (stretch s text.now))
         × (at + (s.to - s.from) ≤ length cells.old) }
-    ensures* { do
-      let n = s.to - s.from
-      let bits = map (λ x. x - 48) (stretch s text.now)
-      ⌜ (result ≡ at + n) × (cells.new ≡ paste cells.old at bits n) ⌝ }
+    ensures {
+        let n = s.to - s.from in
+        let bits = map (λ x. x - 48) (stretch s text.now) in
+        (result ≡ at + n) × (cells.new ≡ paste cells.old at bits n) }
 {
     let from = s.from;
     let n = s.to - from;

@@ -75,10 +75,10 @@ pub(crate) fn count_at(
     at: Coord,
 ) -> usize
     requires { Whole b board.now × InBox (as_sides b) (as_cell at) × Poses (axes (as_sides b)) poses.now size n }
-    ensures* { do
-      let g = as_grid b board.now
-      let vs = variants_in (axes (as_sides b)) poses.now size n
-      ⌜ (result ≡ how_many (fits (scan (axes (as_sides b)) g) (as_cell at)) vs) × (result ≤ n) ⌝ }
+    ensures {
+        let g = as_grid b board.now in
+        let vs = variants_in (axes (as_sides b)) poses.now size n in
+        (result ≡ how_many (fits (scan (axes (as_sides b)) g) (as_cell at)) vs) × (result ≤ n) }
 {
     let mut count = 0;
     let mut i = 0;

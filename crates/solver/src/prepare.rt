@@ -50,9 +50,9 @@ pub fn prepare(
     chart: &mut [u16],
 ) -> Prepared
     requires { length chart.old ≡ chart_length }
-    ensures* { do
-      let old = chart.old
-      ⌜ Prepares result (records_of t) board bytes.now config links work.old old work.new chart.new ⌝ }
+    ensures {
+        let old = chart.old in
+        Prepares result (records_of t) board bytes.now config links work.old old work.new chart.new }
 {
     let before = refusal_before_counting(t, board, bytes, config, work.len(), links);
     match before {
