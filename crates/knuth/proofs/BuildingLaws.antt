@@ -237,10 +237,10 @@ module _ (d : Dims) (work chart : List ℕ) where
     fields =
         record {
           long = long;
-          col = λ x h. ap (λ (n : Node). n.col) (node_is x h) ∙ sym (ListN.get_or_map (λ (n : Node). n.col) (link_nodes S) x no_node);
-          lo = λ x h. ap (λ (n : Node). n.lo) (node_is x h) ∙ sym (ListN.get_or_map (λ (n : Node). n.lo) (link_nodes S) x no_node);
-          hi = λ x h. ap (λ (n : Node). n.hi) (node_is x h) ∙ sym (ListN.get_or_map (λ (n : Node). n.hi) (link_nodes S) x no_node);
-          row = λ x h. ap (λ (n : Node). n.row) (node_is x h) ∙ sym (ListN.get_or_map (λ (n : Node). n.row) (link_nodes S) x no_node);
+          col = λ x h. ap (λ (n : Node). n.col) (node_is x h) ∙ sym (ListN.get_or-map (λ (n : Node). n.col) (link_nodes S) x no_node);
+          lo = λ x h. ap (λ (n : Node). n.lo) (node_is x h) ∙ sym (ListN.get_or-map (λ (n : Node). n.lo) (link_nodes S) x no_node);
+          hi = λ x h. ap (λ (n : Node). n.hi) (node_is x h) ∙ sym (ListN.get_or-map (λ (n : Node). n.hi) (link_nodes S) x no_node);
+          row = λ x h. ap (λ (n : Node). n.row) (node_is x h) ∙ sym (ListN.get_or-map (λ (n : Node). n.row) (link_nodes S) x no_node);
         }
 
     copy_cell : (j : ℕ) → j < d.size → copies_of m3 j ≡ 0

@@ -185,19 +185,19 @@ module _ (s : System) where
 
   col_is : (x : ℕ) → (matrix_of s).col x ≡ (node_at x).col
   unfolding matrix_of
-  col_is x = ListN.get_or_map (λ (n : Node). n.col) (link_nodes s) x no_node
+  col_is x = ListN.get_or-map (λ (n : Node). n.col) (link_nodes s) x no_node
 
   lo_is : (x : ℕ) → (matrix_of s).lo x ≡ (node_at x).lo
   unfolding matrix_of
-  lo_is x = ListN.get_or_map (λ (n : Node). n.lo) (link_nodes s) x no_node
+  lo_is x = ListN.get_or-map (λ (n : Node). n.lo) (link_nodes s) x no_node
 
   hi_is : (x : ℕ) → (matrix_of s).hi x ≡ (node_at x).hi
   unfolding matrix_of
-  hi_is x = ListN.get_or_map (λ (n : Node). n.hi) (link_nodes s) x no_node
+  hi_is x = ListN.get_or-map (λ (n : Node). n.hi) (link_nodes s) x no_node
 
   row_is : (x : ℕ) → (matrix_of s).row x ≡ (node_at x).row
   unfolding matrix_of
-  row_is x = ListN.get_or_map (λ (n : Node). n.row) (link_nodes s) x no_node
+  row_is x = ListN.get_or-map (λ (n : Node). n.row) (link_nodes s) x no_node
 
   heads_length : length (head_nodes (columns s)) ≡ columns s
   unfolding head_nodes
