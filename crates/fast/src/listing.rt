@@ -31,8 +31,7 @@ fn cells_of_all(chart: &[u16], n: usize) -> usize
 // Whether kind 0 is placed first: turned packings are identified, it has one copy, and all copies together have as many cells as the board.
 fn is_kind_0_first(d: Dims, chart: &[u16], turned: bool) -> bool
     requires { (d.kinds ≤ 16) × Charted chart.now }
-    ensures {
-        let copies = map (λ k. get_or (kinds_part chart.now) (3 * k) 0) (below d.kinds) in
+    ensures { let copies = map (λ k. get_or (kinds_part chart.now) (3 * k) 0) (below d.kinds) in
         result ≡ turned && (eqb (get_or copies 0 0) 1 && eqb (cells_in chart.now d.kinds) d.size) }
 {
     if !turned {
@@ -50,8 +49,7 @@ fn is_kind_0_first(d: Dims, chart: &[u16], turned: bool) -> bool
 // All copies of each kind are left; the path, and what lies behind the kinds, stay.
 fn all_left(chart: &[u16], n: usize, state: &mut [u16])
     requires { (n ≤ 16) × Charted chart.now × (length state.old ≡ state_length) }
-    ensures {
-        let copies = map (λ k. get_or (kinds_part chart.now) (3 * k) 0) (below n) in
+    ensures { let copies = map (λ k. get_or (kinds_part chart.now) (3 * k) 0) (below n) in
         state.new ≡ path_part state.old ++ (copies ++ drop n (left_part state.old)) }
 {
     let mut k = 0;
@@ -72,8 +70,7 @@ pub fn list(
     e: Emission,
 ) -> Emission
     requires { Ready d work.now chart.now × (wanted.capacity * (2 * d.places) ≤ length answers.old) }
-    ensures {
-        let S = system_in d work.now chart.now in
+    ensures { let S = system_in d work.now chart.now in
         let old = emitted_of e last.now answers.old in
         emitted_of result last.now answers.new ≡ emits wanted.capacity (fast_answers S (identified wanted)) old }
 {

@@ -21,8 +21,7 @@ use rows::{Dims, chart, images, row, shown};
 // Whether one of the maps numbered from `start` to below `end` takes row r onto a row before it.
 fn moves_before(d: Dims, work: &[u64], chart: &[u16], start: usize, end: usize, r: usize) -> bool
     requires { Ready d work.now chart.now × (start ≤ end) × (end ≤ d.turns + d.mirrorings) × (r < d.rows) }
-    ensures {
-        let S = system_in d work.now chart.now in
+    ensures { let S = system_in d work.now chart.now in
         result ≡ any (λ m. ltb (image_of S (leb d.turns m) (images_of chart.now d.size m) r) r) (from start (end - start)) }
 {
     let mut m = start;
@@ -89,8 +88,7 @@ fn is_first(
     r: usize,
 ) -> bool
     requires { Ready d work.now chart.now × (r < d.rows) × (length shown.now ≡ 256) }
-    ensures {
-        let S = system_in d work.now chart.now in
+    ensures { let S = system_in d work.now chart.now in
         let shows = shows_row (owned_in (pieces_part chart.now) d.pieces) shown.now (row_at work.now r) in
         result ≡ not (pruned_by S (identified wanted) r) && (not waiting || shows) }
 {
@@ -116,8 +114,7 @@ pub fn search_first(
         × Shown d.size (take d.places (scans_part chart.now)) last.now shown.now × (wanted.capacity * (2 * d.places) ≤ length answers.old)
         × (0 < get_or (left_part state.old) 0 0) }
     requires searching { Searching (system_in d work.now chart.now) (left_part state.old) (record { low = 0; high = 0 }) [] }
-    ensures page {
-        let S = system_in d work.now chart.now in
+    ensures page { let S = system_in d work.now chart.now in
         let t = state_by S (left_part state.old) (record { low = 0; high = 0 }) [] in
         let old = emitted_of e last.now answers.old in
         emitted_of result last.now answers.new ≡ emits wanted.capacity (fast_first S (identified wanted) t) old }

@@ -46,8 +46,7 @@ fn any_clear(work: &[u64], start: usize, end: usize, covered: Mask) -> bool
 // How many copies of kind k are left when one of a kind is placed.
 fn left_after(state: &[u16], kind: usize, k: usize) -> u16
     requires { (k < 16) × (length state.now ≡ state_length) × (0 < get_or (left_part state.now) kind 0) }
-    ensures {
-        let left = left_part state.now in
+    ensures { let left = left_part state.now in
         result ≡ get_or (set left kind (get_or left kind 0 - 1)) k 0 }
 {
     let copies = state::left_of(state, k);
@@ -57,8 +56,7 @@ fn left_after(state: &[u16], kind: usize, k: usize) -> u16
 // Whether a search goes on when a row of a kind is placed and these cells are covered: none is uncovered, or a row can be placed at the first that is.
 fn goes_on(d: Dims, work: &[u64], chart: &[u16], state: &[u16], kind: usize, covered: Mask) -> bool
     requires { Ready d work.now chart.now × (length state.now ≡ state_length) × (0 < get_or (left_part state.now) kind 0) }
-    ensures {
-        let S = system_in d work.now chart.now in
+    ensures { let S = system_in d work.now chart.now in
         let left = left_part state.now in
         result ≡ goes_on S (state_by S (set left kind (get_or left kind 0 - 1)) covered []) }
 {
@@ -96,8 +94,7 @@ fn is_tried(
 ) -> bool
     requires ready { Ready d work.now chart.now × (r < d.rows) × (kind ≡ (row_at work.now r).kind) × ((row_at work.now r).p < 128) }
     requires shown_len { (length shown.now ≡ 256) × (length state.now ≡ state_length) × (0 < get_or (left_part state.now) kind 0) }
-    ensures {
-        let S = system_in d work.now chart.now in
+    ensures { let S = system_in d work.now chart.now in
         let row = row_at work.now r in
         let shows = shows_row (owned_in (pieces_part chart.now) d.pieces) shown.now row in
         let below = choose (state_by S (left_part state.now) covered []) row in
@@ -136,8 +133,7 @@ pub fn search(
     requires ready { Ready d work.now chart.now × OfRows d state.old n × (length state.old ≡ state_length) × (length shown.now ≡ 256)
         × Shown d.size (take d.places (scans_part chart.now)) last.now shown.now × (wanted.capacity * (2 * d.places) ≤ length answers.old) }
     requires searching { Searching (system_in d work.now chart.now) (left_part state.old) covered (take n state.old) }
-    ensures page {
-        let S = system_in d work.now chart.now in
+    ensures page { let S = system_in d work.now chart.now in
         let t = state_by S (left_part state.old) covered (take n state.old) in
         let old = emitted_of e last.now answers.old in
         emitted_of result last.now answers.new ≡ emits wanted.capacity (fast_below S (identified wanted) t) old }

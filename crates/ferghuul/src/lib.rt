@@ -97,12 +97,10 @@ pub extern "C" fn ferghuul_page(
     work: &mut [u64],
     links: &mut [u16],
 ) -> Answer
-    ensures outcome {
-        let config = config_of engine turned mirrored in
+    ensures outcome { let config = config_of engine turned mirrored in
         let call = call_with pieces.now board bytes.now config answers.old work.old links.old in
         outcome_by result answers.new work.new links.new ≡ outcome_from (start_of behind skip) last.now call }
-    ensures meets {
-        let config = config_of engine turned mirrored in
+    ensures meets { let config = config_of engine turned mirrored in
         let call = call_with pieces.now board bytes.now config answers.old work.old links.old in
         Meets (start_of behind skip) last.now call (outcome_by result answers.new work.new links.new) }
 {

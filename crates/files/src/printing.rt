@@ -22,8 +22,7 @@ fn put_cell(out: &mut [u8], at: usize, piece: u8, copy: u8) -> usize
 // The cells of the answer of n cells that begins at a place of a slice, parted by spaces.
 fn put_cells(out: &mut [u8], at: usize, answers: &[u8], start: usize, n: usize) -> usize
     requires { (at + 8 * n + 41 ≤ length out.old) × (start + 2 * n ≤ length answers.now) }
-    ensures {
-        let answer = take (2 * n) (drop start answers.now) in
+    ensures { let answer = take (2 * n) (drop start answers.now) in
         Put out.old at (cells_shown answer) out.new result × (result ≤ at + 8 * n) }
 {
     let mut end = at;
@@ -50,8 +49,7 @@ pub fn put_entry(
     n: usize,
 ) -> usize
     requires { (at + 8 * n + 64 ≤ length out.old) × (start + 2 * n ≤ length answers.now) }
-    ensures {
-        let answer = take (2 * n) (drop start answers.now) in
+    ensures { let answer = take (2 * n) (drop start answers.now) in
         Put out.old at (entry_line number answer) out.new result × (result ≤ at + 8 * n + 64) }
 {
     let tab = texts::put_decimal(out, at, number);

@@ -61,8 +61,7 @@ fn config_in(text: &[u8], line: Span) -> Config
 
 // The record of the grid from field n on, whose cells are lent from a place on.
 fn record_in(text: &[u8], line: Span, n: usize, count: u32, wood: u8, start: usize) -> Record
-    requires {
-        let s = stretch line text.now in
+    requires { let s = stretch line text.now in
         Within line text.now × (n + 4 ≤ length (fields_of s)) × T (is_grid_in n s) }
     ensures { result ≡ record_at start (grid_in count wood n (stretch line text.now)) }
 {
@@ -91,8 +90,7 @@ fn wood_in(text: &[u8], line: Span) -> u8
 fn put_cells(text: &[u8], s: Span, cells: &mut [u8], at: usize) -> usize
     requires { Within s text.now × T (all (λ x. eqb x 48 || eqb x 49) (stretch s text.now))
         × (at + (s.to - s.from) ≤ length cells.old) }
-    ensures {
-        let n = s.to - s.from in
+    ensures { let n = s.to - s.from in
         let bits = map (λ x. x - 48) (stretch s text.now) in
         (result ≡ at + n) × (cells.new ≡ paste cells.old at bits n) }
 {

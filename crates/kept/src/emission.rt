@@ -40,8 +40,7 @@ fn emit_answer(
     e: Emission,
 ) -> Emission
     requires { Held d work.now chart.now rows.now n × (d.places ≤ 512) × (capacity * (2 * d.places) ≤ length answers.old) }
-    ensures {
-        let taken = taken_by (owned_in (pieces_part chart.now) d.pieces) d.kinds (path_in work.now rows.now n) in
+    ensures { let taken = taken_by (owned_in (pieces_part chart.now) d.pieces) d.kinds (path_in work.now rows.now n) in
         let answer = answers_over taken (take d.places (scans_part chart.now)) in
         let old = emitted_of e last.now answers.old in
         emitted_of result last.now answers.new ≡ emit capacity (record { answer = answer }) old }
@@ -97,11 +96,9 @@ pub fn emit_kept(
     answers: &mut [u8],
     e: Emission,
 ) -> Emission
-    requires {
-        let S = system_in d work.now chart.now in
+    requires { let S = system_in d work.now chart.now in
         Ready d work.now chart.now × OfRows d path.now n × Fillable S (take n path.now) × (wanted.capacity * (2 * d.places) ≤ length answers.old) }
-    ensures {
-        let S = system_in d work.now chart.now in
+    ensures { let S = system_in d work.now chart.now in
         let old = emitted_of e last.now answers.old in
         emitted_of result last.now answers.new ≡ emit_kept S (identified wanted) wanted.capacity (take n path.now) old }
 {

@@ -82,11 +82,10 @@ fn put_cells(
 fn put_row(d: Dims, work: &[u64], links: &mut [u16], x: usize, r: usize) -> usize
     requires { (32768 ≤ length links.old) × (8 * r + 8 ≤ length work.now) × (r < 4096) × (d.size ≤ 128)
         × (d.size + (row_at work.now r).kind < 4096) × (x + suc (how_many (has (mask_at work.now r)) (below d.size)) ≤ 4096) }
-    ensures {
-        let inside = has (mask_at work.now r) in
+    ensures { let inside = has (mask_at work.now r) in
         let kind = (row_at work.now r).kind in
         (result ≡ x + suc (how_many inside (below d.size)))
-          × Laid links.old x links.new (row_nodes d.size x r kind (keep inside (below d.size))) }
+        × Laid links.old x links.new (row_nodes d.size x r kind (keep inside (below d.size))) }
 {
     let mask = row::mask_at(work, r);
     let end = x + 1 + count_cells(mask, d.size);
@@ -114,11 +113,9 @@ fn put_copies(d: Dims, chart: &[u16], links: &mut [u16])
 
 // The nodes of all rows of kinds that have copies, behind the heads; and how many nodes there are.
 fn put_rows(d: Dims, work: &[u64], chart: &[u16], links: &mut [u16]) -> usize
-    requires {
-        let S = system_in d work.now chart.now in
+    requires { let S = system_in d work.now chart.now in
         Ready d work.now chart.now × (32768 ≤ length links.old) × (length (link_nodes S) ≤ 4096) }
-    ensures {
-        let S = system_in d work.now chart.now in
+    ensures { let S = system_in d work.now chart.now in
         (result ≡ length (link_nodes S)) × Laid links.old (columns S) links.new (nodes_from S (columns S) (stocked_rows S)) }
 {
     let mut x = d.size + d.kinds;
@@ -136,8 +133,7 @@ fn put_rows(d: Dims, work: &[u64], chart: &[u16], links: &mut [u16]) -> usize
 
 // The links of a row system, every row possible.
 pub fn build_links(d: Dims, work: &[u64], chart: &[u16], links: &mut [u16])
-    requires {
-        let S = system_in d work.now chart.now in
+    requires { let S = system_in d work.now chart.now in
         Ready d work.now chart.now × (32768 ≤ length links.old) × (length (link_nodes S) ≤ 4096) }
     ensures begun { Begun (system_in d work.now chart.now) links.new }
     ensures behind { (i : ℕ) → 32768 ≤ i → get_or links.new i 0 ≡ get_or links.old i 0 }

@@ -23,12 +23,10 @@ pub fn list(
     answers: &mut [u8],
     e: Emission,
 ) -> Emission
-    requires {
-        let S = system_in d work.now chart.now in
+    requires { let S = system_in d work.now chart.now in
         Ready d work.now chart.now × (32768 ≤ length links.old) × (length (link_nodes S) ≤ 4096)
-          × (wanted.capacity * (2 * d.places) ≤ length answers.old) }
-    ensures page {
-        let S = system_in d work.now chart.now in
+        × (wanted.capacity * (2 * d.places) ≤ length answers.old) }
+    ensures page { let S = system_in d work.now chart.now in
         let old = emitted_of e last.now answers.old in
         emitted_of result last.now answers.new ≡ emits wanted.capacity (knuth_answers S (identified wanted)) old }
     ensures behind { drop 32768 links.new ≡ drop 32768 links.old }

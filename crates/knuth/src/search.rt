@@ -42,12 +42,11 @@ pub fn choose(
         × Shown d.size (take d.places (scans_part chart.now)) last.now shown.now × (wanted.capacity * (2 * d.places) ≤ length answers.old) }
     requires choosable { Choosable (system_in d work.now chart.now) links.old left (take n path.old) }
     ensures same { (links.new ≡ links.old) × Restored n path.old path.new }
-    ensures found {
-        let S = system_in d work.now chart.now in
+    ensures found { let S = system_in d work.now chart.now in
         let old = emitted_of e last.now answers.old in
         let new = emitted_of result last.now answers.new in
         ((w : Reduced) (uncovered : ℕ → Bool) (copies : ℕ → ℕ) (g : ℕ) → Seek w uncovered copies d.size left links.old
-          → w.t ≡ matrix_of S → left < g → new ≡ emit_all S (identified wanted) wanted.capacity (knuth_below S (take n path.old) g w copies left) old) }
+        → w.t ≡ matrix_of S → left < g → new ≡ emit_all S (identified wanted) wanted.capacity (knuth_below S (take n path.old) g w copies left) old) }
 {
     if left == 0 {
         return emission::emit_kept(d, work, chart, wanted, path, n, last, answers, e);
@@ -86,14 +85,13 @@ fn try_rows(
         × Shown d.size (take d.places (scans_part chart.now)) last.now shown.now × (wanted.capacity * (2 * d.places) ≤ length answers.old) }
     requires tryable { Tryable (system_in d work.now chart.now) links.old at.left at.cell k (take at.n path.old) }
     ensures same { (links.new ≡ links.old) × Restored at.n path.old path.new }
-    ensures found {
-        let S = system_in d work.now chart.now in
+    ensures found { let S = system_in d work.now chart.now in
         let old = emitted_of e last.now answers.old in
         let new = emitted_of result last.now answers.new in
         let rs = take at.n path.old in
         ((w : Reduced) (uncovered : ℕ → Bool) (copies : ℕ → ℕ) (g : ℕ) → Seek w uncovered copies d.size at.left links.old
-          → At w d.size at.cell k → w.t ≡ matrix_of S → at.left ≤ g
-          → new ≡ emit_all S (identified wanted) wanted.capacity (knuth_rows S rs g w copies at.left at.cell k) old) }
+        → At w d.size at.cell k → w.t ≡ matrix_of S → at.left ≤ g
+        → new ≡ emit_all S (identified wanted) wanted.capacity (knuth_rows S rs g w copies at.left at.cell k) old) }
 {
     if k == at.cell {
         return e;

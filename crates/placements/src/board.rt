@@ -38,8 +38,7 @@ pub fn number_places(places: &[u16], n: usize, scans: &mut [u8])
 pub fn put_back(places: &mut [u16], n: usize, s: Coord, at: Coord, lent: Coord)
     requires { (n ≤ length places.old) × T (all (λ i. ltb i (volume (as_sides s))) (take n places.old))
         × Fit (as_sides lent) × FitsIn (record { lent = as_sides lent; at = as_cell at }) (as_sides s) }
-    ensures {
-        let f = lent_place (as_sides s) (record { lent = as_sides lent; at = as_cell at }) in
+    ensures { let f = lent_place (as_sides s) (record { lent = as_sides lent; at = as_cell at }) in
         places.new ≡ map f (take n places.old) ++ drop n places.old }
 {
     let mut i = 0;

@@ -37,8 +37,7 @@ fn count_cells(
 ) -> usize
     requires { Whole b board.now × Whole s cells.now × OnBoard (as_order order) (as_grid b board.now) places.now n
         × (k ≤ length turnings.now) × (k ≤ 24) }
-    ensures {
-        let grids = turned_by (as_grid s cells.now) (take k turnings.now) in
+    ensures { let grids = turned_by (as_grid s cells.now) (take k turnings.now) in
         (result ≡ fits_in (as_order order) (as_grid b board.now) grids) × (result ≤ k * n) }
 {
     let mut poses = [0u16; poses::LENGTH];
@@ -68,10 +67,9 @@ fn count_piece(
 ) -> usize
     requires { Whole b board.now × Whole s cells.now × OnBoard (as_order order) (as_grid b board.now) places.now n
         × (at + 25 ≤ length turnings.old) }
-    ensures {
-        let g = as_grid s cells.now in
+    ensures { let g = as_grid s cells.now in
         (result ≡ placements_in (as_order order) (as_grid b board.now) g) × (result ≤ 24 * n)
-          × PutVariants g at turnings.old turnings.new }
+        × PutVariants g at turnings.old turnings.new }
 {
     let start = at + 1;
     let end = at + 25;

@@ -75,8 +75,7 @@ pub(crate) fn count_at(
     at: Coord,
 ) -> usize
     requires { Whole b board.now × InBox (as_sides b) (as_cell at) × Poses (axes (as_sides b)) poses.now size n }
-    ensures {
-        let g = as_grid b board.now in
+    ensures { let g = as_grid b board.now in
         let vs = variants_in (axes (as_sides b)) poses.now size n in
         (result ≡ how_many (fits (scan (axes (as_sides b)) g) (as_cell at)) vs) × (result ≤ n) }
 {

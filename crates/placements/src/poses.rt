@@ -56,8 +56,7 @@ pub fn origin_at(poses: &[u16], i: usize) -> Coord
 // The codes of a grid's filled cells, x slowest, z fastest, into a slice from a place on; and how many they are.
 fn list_filled(cells: &[u8], s: Coord, codes: &mut [u16], at: usize) -> usize
     requires { Fit (as_sides s) × (volume (as_sides s) ≤ length cells.now) × (at + volume (as_sides s) ≤ length codes.old) }
-    ensures {
-        let us = filled_cells (as_grid s cells.now) in
+    ensures { let us = filled_cells (as_grid s cells.now) in
         (result ≡ length us) × (codes.new ≡ paste codes.old at (map code_of us) result) }
 {
     let v = cells::volume_of(s);
@@ -79,8 +78,7 @@ fn list_filled(cells: &[u8], s: Coord, codes: &mut [u16], at: usize) -> usize
 // The code of the first in scan order of n cells whose codes stand from a place on; 0 where there are none.
 fn first_of(codes: &[u16], at: usize, n: usize, order: AxisOrder) -> u16
     requires { at + n ≤ length codes.now }
-    ensures {
-        let us = map cell_of (take n (drop at codes.now)) in
+    ensures { let us = map cell_of (take n (drop at codes.now)) in
         cell_of result ≡ origin (sort (cell_ahead (as_order order)) us) }
 {
     if n == 0 {
@@ -123,11 +121,10 @@ pub fn pose_all(
     poses: &mut [u16],
 ) -> usize
     requires { Whole s cells.now × (n ≤ length turnings.now) × (n ≤ 24) × (length poses.old ≡ poses_length) }
-    ensures {
-        let g = as_grid s cells.now in
+    ensures { let g = as_grid s cells.now in
         let ks = turnings.now in
         Posed (as_order order) (turned_by g (take n ks)) poses.new result
-          × (poses.new ≡ with_poses (as_order order) (λ i. filled_cells (map_grid (map_of (get_or ks i 0)) g)) n poses.old) }
+        × (poses.new ≡ with_poses (as_order order) (λ i. filled_cells (map_grid (map_of (get_or ks i 0)) g)) n poses.old) }
 {
     let mut turned = [0u8; 512];
     let mut i = 0;

@@ -72,8 +72,7 @@ fn strip_pieces(t: Pieces, bytes: &[u8], out: &mut [u8]) -> Pieces
 // The records of a tray that rows 2 to 9 let pass, stripped; their grids into out, and around them it stays as it is.
 pub fn strip_tray(t: Pieces, board: Record, bytes: &[u8], out: &mut [u8]) -> StrippedRecords
     requires { Accepted9 t board bytes.now × (8704 ≤ length out.old) }
-    ensures {
-        let lent = map (piece_of bytes.now) (board ∷ records_of t) in
+    ensures { let lent = map (piece_of bytes.now) (board ∷ records_of t) in
         StripsTray t board bytes.now result out.new × (out.new ≡ with_grids out.old 0 lent) }
 {
     let b = strip_record(bytes, board, out, 0);

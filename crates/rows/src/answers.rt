@@ -77,8 +77,7 @@ fn lay_copy(mask: Mask, c: Copied, told: &mut [u8])
 // copies of a kind counted down.
 fn tell_cells(d: Dims, work: &[u64], chart: &[u16], path: &[u16], n: usize, told: &mut [u8])
     requires { Held d work.now chart.now path.now n × (told.old ≡ replicate 256 255) }
-    ensures {
-        let taken = taken_in d work.now chart.now path.now n in
+    ensures { let taken = taken_in d work.now chart.now path.now n in
         told.new ≡ answers_over taken (below 128) }
 {
     let mut i = n;
@@ -133,8 +132,7 @@ pub fn reconstruct_answer(
     at: usize,
 )
     requires { Held d work.now chart.now path.now n × (d.places ≤ 512) × (at + 2 * d.places ≤ length answers.old) }
-    ensures {
-        let taken = taken_in d work.now chart.now path.now n in
+    ensures { let taken = taken_in d work.now chart.now path.now n in
         let told = answers_over taken (take d.places (scans_part chart.now)) in
         answers.new ≡ paste answers.old at told (2 * d.places) }
 {
@@ -153,8 +151,7 @@ pub fn reconstruct_answer(
 // Whether a slice is the answer of a packing whose rows are the first n of an ascending path.
 pub fn is_answer(d: Dims, work: &[u64], chart: &[u16], path: &[u16], n: usize, last: &[u8]) -> bool
     requires { Held d work.now chart.now path.now n × (d.places ≤ 512) }
-    ensures {
-        let taken = taken_in d work.now chart.now path.now n in
+    ensures { let taken = taken_in d work.now chart.now path.now n in
         let told = answers_over taken (take d.places (scans_part chart.now)) in
         result ≡ same told last.now }
 {

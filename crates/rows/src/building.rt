@@ -43,8 +43,7 @@ fn mask_of(b: Coord, scans: &[u8], poses: &[u16], i: usize, size: usize, at: Coo
     requires fit { Fit (as_sides b) × (volume (as_sides b) ≤ length scans.now) × InBox (as_sides b) (as_cell at) × (length poses.now ≡ poses_length)
         × (i < 24) × (size ≤ 512) × T (reaches (as_cell at) (origin_in poses.now i)) }
     requires t { T (all (lands (as_sides b) scans.now (as_cell at) (origin_in poses.now i)) (cells_in poses.now size i)) }
-    ensures {
-        let us = cells_in poses.now size i in
+    ensures { let us = cells_in poses.now size i in
         let o = origin_in poses.now i in
         has result ≡ (λ n. member n (map (λ u. get_or scans.now (place_of (as_sides b) (lies (as_cell at) o u)) 0) us)) }
 {
@@ -77,12 +76,10 @@ fn rows_at(
 ) -> usize
     requires whole { Whole b board.now × InBox (as_sides b) (as_cell at) × Numbered (axes (as_sides b)) (as_grid b board.now) scans.now
         × Poses (axes (as_sides b)) poses.now size n }
-    requires at_in_bounds {
-        let cs = scan (axes (as_sides b)) (as_grid b board.now) in
+    requires at_in_bounds { let cs = scan (axes (as_sides b)) (as_grid b board.now) in
         let vs = variants_in (axes (as_sides b)) poses.now size n in
         8 * (r + length (placements_at cs kind vs p (as_cell at))) ≤ length work.old }
-    ensures {
-        let cs = scan (axes (as_sides b)) (as_grid b board.now) in
+    ensures { let cs = scan (axes (as_sides b)) (as_grid b board.now) in
         let vs = variants_in (axes (as_sides b)) poses.now size n in
         Appended work.old r work.new result (map spread (placements_at cs kind vs p (as_cell at))) }
 {
@@ -117,12 +114,10 @@ fn rows_by(
 ) -> usize
     requires whole { Whole b board.now × Whole s cells.now × Numbered (as_order order) (as_grid b board.now) scans.now
         × OnBoard (as_order order) (as_grid b board.now) places.now size × (length turnings.now ≤ 24) }
-    requires vs_in_bounds {
-        let cs = scan (as_order order) (as_grid b board.now) in
+    requires vs_in_bounds { let cs = scan (as_order order) (as_grid b board.now) in
         let vs = map (scan (as_order order)) (turned_by (as_grid s cells.now) turnings.now) in
         8 * (r + length (joined (numbered cs (placements_at cs kind vs)))) ≤ length work.old }
-    ensures {
-        let cs = scan (as_order order) (as_grid b board.now) in
+    ensures { let cs = scan (as_order order) (as_grid b board.now) in
         let vs = map (scan (as_order order)) (turned_by (as_grid s cells.now) turnings.now) in
         Appended work.old r work.new result (map spread (joined (numbered cs (placements_at cs kind vs)))) }
 {
@@ -156,8 +151,7 @@ pub(crate) fn build_rows(
     requires accepted9 { Accepted9 t board bytes.now × Counted t board bytes.now places.now first.now turnings.now counts
         × (length first.now ≡ 16) × (length turnings.now ≡ 400) × Numbered (as_order order) (grid_of bytes.now board) scans.now }
     requires placements_in_bounds { 8 * counts.placements ≤ length work.old }
-    ensures {
-        let c = compile (lent_in (records_of t) board bytes.now) in
+    ensures { let c = compile (lent_in (records_of t) board bytes.now) in
         Appended work.old 0 work.new result (map spread c.placements) }
 {
     let b = records::sides_of(board);

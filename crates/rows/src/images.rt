@@ -34,8 +34,7 @@ fn cell_images(
     start: usize,
 )
     requires { CanMove (as_sides b) places.now scans.now size × (start + size ≤ length images.old) }
-    ensures {
-        let to = place_images (as_sides b) (map_of m.0) places.now scans.now size in
+    ensures { let to = place_images (as_sides b) (map_of m.0) places.now scans.now size in
         images.new ≡ paste images.old start to size }
 {
     let mut i = 0;
@@ -63,8 +62,7 @@ pub(crate) fn board_images(
     requires whole { Whole b board.now × Numbered (as_order order) (as_grid b board.now) scans.now
         × OnBoard (as_order order) (as_grid b board.now) places.now size }
     requires start_le_end { (start ≤ end) × (end ≤ 48) × (128 * (n + (end - start)) ≤ length images.old) }
-    ensures {
-        let g = as_grid b board.now in
+    ensures { let g = as_grid b board.now in
         let maps = symmetries g (map map_of (from start (end - start))) in
         Pictured images.old n images.new result size (map (board_images (as_order order) g) maps) }
 {
@@ -159,8 +157,7 @@ pub fn image_row(d: Dims, work: &[u64], chart: &[u16], m: usize, odd: bool, r: u
     requires r_lt_rows { (r < d.rows) × (d.kinds ≤ 16) × ((row_at work.now r).kind < d.kinds)
         × T (all (λ n. ltb n d.size) (row_at work.now r).cells) }
     requires size_bound { (d.size ≤ 128) × (m < 48) × Permutes d.size (images_of chart.now d.size m) }
-    ensures {
-        let partners = map (λ k. get_or (kinds_part chart.now) (3 * k + 1) 0) (below d.kinds) in
+    ensures { let partners = map (λ k. get_or (kinds_part chart.now) (3 * k + 1) 0) (below d.kinds) in
         let moved = moved_by partners odd (images_of chart.now d.size m) (row_at work.now r) in
         result ≡ row_with (rows_in work.now d.rows) moved }
 {

@@ -147,8 +147,7 @@ fn build_lent(
         × (counts.placements ≤ 1024) × RowsFit (compile (lent_in (records_of t) board bytes.now)) }
     requires first_len { (length first.now ≡ 16) × (length turnings.now ≡ 400) × (8192 ≤ length work.old) × (length starts.old ≡ 2049)
         × (length images.old ≡ 6144) }
-    ensures {
-        let c = compile (lent_in (records_of t) board bytes.now) in
+    ensures { let c = compile (lent_in (records_of t) board bytes.now) in
         BuiltLent c counts.size result work.old work.new starts.new images.new }
 {
     let b = records::sides_of(board);
@@ -190,12 +189,11 @@ pub fn build_system(
         × (counts.placements ≤ 1024) × RowsFit (compile (lent_in (records_of t) board bytes.now)) }
     requires fit { Fit (as_sides lent) × FitsIn (frame_at lent at) (sides_of board) × Smallest t bytes.now small.now }
     requires first_len { (length first.now ≡ 16) × (length turnings.now ≡ 400) × (8192 ≤ length work.old) × (length chart.old ≡ chart_length) }
-    ensures {
-        let tray = framed_in (records_of t) board bytes.now (frame_at lent at) in
+    ensures { let tray = framed_in (records_of t) board bytes.now (frame_at lent at) in
         let put = lent_place (sides_of board) (frame_at lent at) in
         let n = counts.size in
         BuiltSystem tray result work.old work.new chart.new
-          × (places.new ≡ map put (take n places.old) ++ drop n places.old) }
+        × (places.new ≡ map put (take n places.old) ++ drop n places.old) }
 {
     let mut starts = [0u16; 2049];
     let mut images = [0u8; 6144];

@@ -47,8 +47,7 @@ fn moved_byte(cells: &[u8], s: Coord, m: Map, j: usize) -> u8
 
 // The same for any grid and place: 0 where the grid is not whole, or has no such place.
 pub fn turned_byte(cells: &[u8], s: Coord, m: Map, j: usize) -> u8
-    ensures {
-        let g = as_grid s cells.now in
+    ensures { let g = as_grid s cells.now in
         result ≡ cond (is_whole g) (get_or (map_grid (map_of m.0) g).cells j 0) 0 }
 {
     if !is_whole(cells, s) {
@@ -62,8 +61,7 @@ pub fn turned_byte(cells: &[u8], s: Coord, m: Map, j: usize) -> u8
 
 // The byte of a cell of the turned (or mirrored) grid; 0 where the grid is not whole, or the cell lies outside the turned box.
 pub fn turned_get(cells: &[u8], s: Coord, m: Map, u: Coord) -> u8
-    ensures {
-        let g = as_grid s cells.now in
+    ensures { let g = as_grid s cells.now in
         result ≡ cond (is_whole g && lies_in (map_sides (map_of m.0) (as_sides s)) (as_cell u)) (byte_at (map_grid (map_of m.0) g) (as_cell u)) 0 }
 {
     if !is_whole(cells, s) {
@@ -80,8 +78,7 @@ pub fn turned_get(cells: &[u8], s: Coord, m: Map, u: Coord) -> u8
 // The turned (or mirrored) grid, cell by cell, into a slice from a place on.
 pub fn turn_into(cells: &[u8], s: Coord, m: Map, out: &mut [u8], at: usize)
     requires { Whole s cells.now × (at + volume (as_sides s) ≤ length out.old) }
-    ensures {
-        let g = map_grid (map_of m.0) (as_grid s cells.now) in
+    ensures { let g = map_grid (map_of m.0) (as_grid s cells.now) in
         out.new ≡ paste out.old at g.cells (volume (as_sides s)) }
 {
     let e = m.axes_of();
@@ -172,8 +169,7 @@ fn compare_bytes(cells: &[u8], s: Coord, m: Map, others: &[u8], t: Coord, n: Map
 
 // Whether a map brings a grid onto itself (`compute_symmetry`); not where the grid is not whole.
 pub fn keeps(cells: &[u8], s: Coord, m: Map) -> bool
-    ensures {
-        let g = as_grid s cells.now in
+    ensures { let g = as_grid s cells.now in
         result ≡ is_whole g && same_grid (map_grid (map_of m.0) g) g }
 {
     if !is_whole(cells, s) {

@@ -62,8 +62,7 @@ fn list(
     e: Emission,
 ) -> Emission
     requires { Ready d work.now chart.now × (0 < d.places) × LongLinks config.solver links.old × FewLinks config.solver (system_in d work.now chart.now) }
-    ensures page {
-        let S = system_in d work.now chart.now in
+    ensures page { let S = system_in d work.now chart.now in
         let room = length answers.old / (2 * d.places) in
         let old = emitted_of e last.now answers.old in
         emitted_of result last.now answers.new ≡ emits room (answers_by S (identify_of config) config.solver) old }
@@ -98,11 +97,9 @@ pub fn page(
     work: &mut [u64],
     links: &mut [u16],
 ) -> Listing
-    ensures outcome {
-        let call = call_with (records_of t) board bytes.now config answers.old work.old links.old in
+    ensures outcome { let call = call_with (records_of t) board bytes.now config answers.old work.old links.old in
         outcome_of result answers.new work.new links.new ≡ outcome_from start last.now call }
-    ensures meets {
-        let call = call_with (records_of t) board bytes.now config answers.old work.old links.old in
+    ensures meets { let call = call_with (records_of t) board bytes.now config answers.old work.old links.old in
         Meets start last.now call (outcome_of result answers.new work.new links.new) }
 {
     let mut chart = [0u16; chart::LENGTH];

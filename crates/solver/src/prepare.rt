@@ -50,8 +50,7 @@ pub fn prepare(
     chart: &mut [u16],
 ) -> Prepared
     requires { length chart.old ≡ chart_length }
-    ensures {
-        let old = chart.old in
+    ensures { let old = chart.old in
         Prepares result (records_of t) board bytes.now config links work.old old work.new chart.new }
 {
     let before = refusal_before_counting(t, board, bytes, config, work.len(), links);

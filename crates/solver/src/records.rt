@@ -60,11 +60,9 @@ pub fn page(
     work: &mut [u64],
     links: &mut [u16],
 ) -> Listing
-    ensures outcome {
-        let call = call_with pieces.now board bytes.now config answers.old work.old links.old in
+    ensures outcome { let call = call_with pieces.now board bytes.now config answers.old work.old links.old in
         outcome_of result answers.new work.new links.new ≡ outcome_from start last.now call }
-    ensures meets {
-        let call = call_with pieces.now board bytes.now config answers.old work.old links.old in
+    ensures meets { let call = call_with pieces.now board bytes.now config answers.old work.old links.old in
         Meets start last.now call (outcome_of result answers.new work.new links.new) }
 {
     pages::page(

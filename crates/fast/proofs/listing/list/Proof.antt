@@ -24,17 +24,17 @@ use Rattle.fast.proofs.listing.list.Statement.{statement}
 use Rattle.fast.proofs.listing.list.Tie as tie
 
 -- ---- from a place of the code back to an earlier one
-abbrev to_start : tie.After-all-left → tie.Start
+abbrev to_start : tie.After-all_left → tie.Start
 to_start a = let at-state = a.before in at-state.before.before.before.before.before
 
-abbrev to_shown : tie.After-is-kind-0-first → tie.After-show-cells
+abbrev to_shown : tie.After-is_kind_0_first → tie.After-show_cells
 to_shown c = c.before.before
 
-abbrev to-left : tie.After-show-cells → tie.After-all-left
+abbrev to-left : tie.After-show_cells → tie.After-all_left
 to-left c = c.before.before.before
 
 -- ---- the copies left
-module _ (a : tie.After-all-left) where
+module _ (a : tie.After-all_left) where
   abbrev z : tie.Start
   z = to_start a
 
@@ -65,80 +65,77 @@ module _ (a : tie.After-all-left) where
   start-searching covered e = searching z.args.d z.args.work.now z.args.chart.now left _ full covered e
 
 -- ---- whether kind 0 is placed first
-module _ (c : tie.After-is-kind-0-first) where
-  abbrev at : tie.After-all-left
+module _ (c : tie.After-is_kind_0_first) where
+  abbrev at : tie.After-all_left
   at = to-left (to_shown c)
 
-  told : first_by (S at) (i at) ≡ c.is-kind-0-first.result
+  told : first_by (S at) (i at) ≡ c.is_kind_0_first.result
   told =
       let g = (z at).args in
-      first_told g.d g.work.now g.chart.now g.wanted.turned g.wanted.mirrored c.is-kind-0-first.result c.is-kind-0-first.ensures
+      first_told g.d g.work.now g.chart.now g.wanted.turned g.wanted.mirrored c.is_kind_0_first.result c.is_kind_0_first.ensures
 
-  some_left : c.is-kind-0-first.result ≡ true → 0 < get_or (left at) 0 0
+  some_left : c.is_kind_0_first.result ≡ true → 0 < get_or (left at) 0 0
   some_left e =
       let g = (z at).args in
       let copies = copies_in g.chart.now g.d.kinds in
       left_some g.d g.work.now g.chart.now (left at) _ (full at)
-      (first_one g.wanted.turned copies (cells_in g.chart.now g.d.kinds) g.d.size (sym c.is-kind-0-first.ensures ∙ e))
+      (first_one g.wanted.turned copies (cells_in g.chart.now g.d.kinds) g.d.size (sym c.is_kind_0_first.ensures ∙ e))
 
-slice-aggregate-all-left : tie.Need-slice-aggregate-all-left
+slice-aggregate-all-left : tie.Need-slice_bounds-all_left-end
 slice-aggregate-all-left c = search rules
 
-all-left-requires : tie.Need-all-left-requires
+all-left-requires : tie.Need-all_left-requires
 all-left-requires c κs =
     let z = c.before.before.before.before.before in
     let g = z.args in
     let few = few-kinds g.d g.work.now g.chart.now z.requires.0.lawful in
     (few, z.requires.0.charted, refl)
 
-slice-aggregate-show-cells : tie.Need-slice-aggregate-show-cells
+slice-aggregate-show-cells : tie.Need-slice_bounds-show_cells-end
 slice-aggregate-show-cells c = search rules
 
-show-cells-requires : tie.Need-show-cells-requires
+show-cells-requires : tie.Need-show_cells-requires
 show-cells-requires c κs =
     let z = to_start c.before.before in
     let g = z.args in
     let r = z.pre.0 in
     (few-cells g.d g.work.now g.chart.now r.lawful, refl, r.charted.long, r.few_places)
 
-is-kind-0-first-requires : tie.Need-is-kind-0-first-requires
+is-kind-0-first-requires : tie.Need-is_kind_0_first-requires
 is-kind-0-first-requires c κs =
     let z = to_start (to-left c.before) in
     let g = z.args in
     (few-kinds g.d g.work.now g.chart.now z.pre.0.lawful, z.pre.0.charted)
 
-slice-aggregate-search-first : tie.Need-slice-aggregate-search-first
+slice-aggregate-search-first : tie.Need-slice_bounds-search_first-end
 slice-aggregate-search-first c = search rules
 
-slice-aggregate-search-first-2 : tie.Need-slice-aggregate-search-first-2
+slice-aggregate-search-first-2 : tie.Need-slice_bounds-search_first-end-then-is_kind_0_first
 slice-aggregate-search-first-2 c = search rules
 
-search-first-requires : tie.Need-search-first-requires
+search-first-requires : tie.Need-search_first-requires
 search-first-requires c κs =
     let first = c.before.before.before in
     let s = to_shown first.before in
-    let a = to-left s in (
-      ((z a).pre.0, long a, s.show-cells.kept.1.1.1.0, s.show-cells.ensures, (z a).pre.1, some_left first.before first.if1.true),
-      start-searching a (record { low = 0; high = 0 }) hit2_zero,
-    )
+    let a = to-left s in record { ready = ((z a).pre.0, long a, s.show_cells.kept.1.1.1.0, s.show_cells.ensures, (z a).pre.1, some_left first.before first.if-is_kind_0_first.true); searching = start-searching a (record { low = 0; high = 0 }) hit2_zero }
 
-same_length : tie.Need-same-length
+same_length : tie.Need-shape_of-answers-then-is_kind_0_first
 same_length c = search rules
 
-returns : tie.Need-returns
+returns : tie.Need-returns-then-is_kind_0_first
 returns c =
     let q = c.before.before.before in
     let first = q.before.before.before.before in
     let a = at first.before in
     let g = (z a).args in
-    q.search-first.ensures.0
+    q.search_first.ensures.page
     ∙ ap (λ (l : List Listed). emits g.wanted.capacity l (old a))
-    (lists_first g.d g.work.now g.chart.now (left a) _ (full a) (record { low = 0; high = 0 }) hit2_zero (i a) (told first.before ∙ first.if1.true))
+    (lists_first g.d g.work.now g.chart.now (left a) _ (full a) (record { low = 0; high = 0 }) hit2_zero (i a) (told first.before ∙ first.if-is_kind_0_first.true))
 
-slice-aggregate-search : tie.Need-slice-aggregate-search
+slice-aggregate-search : tie.Need-slice_bounds-search-end
 slice-aggregate-search c = search rules
 
-slice-aggregate-search-2 : tie.Need-slice-aggregate-search-2
+slice-aggregate-search-2 : tie.Need-slice_bounds-search-end-2
 slice-aggregate-search-2 c = search rules
 
 empty-requires : tie.Need-empty-requires
@@ -146,45 +143,24 @@ empty-requires c κs = search rules
 
 search-requires : tie.Need-search-requires
 search-requires c κs =
-    let empty = c.before.before.empty in
+    let empty = c.empty in
     let plain = c.before.before.before.before in
     let s = to_shown plain.before in
-    let a = to-left s in (
-      ((z a).pre.0, record { within = omega arith; few = omega arith; are_rows = tt }, long a, s.show-cells.kept.1.1.1.0, s.show-cells.ensures, (z a).pre.1),
-      start-searching a empty.result empty.ensures,
-    )
+    let a = to-left s in record { ready = ((z a).pre.0, record { within = omega arith; few = omega arith; are_rows = tt }, long a, s.show_cells.kept.1.1.1.0, s.show_cells.ensures, (z a).pre.1); searching = start-searching a empty.result empty.ensures }
 
-same-length-2 : tie.Need-same-length-2
+same-length-2 : tie.Need-shape_of-answers
 same-length-2 c = search rules
 
-returns-2 : tie.Need-returns-2
+returns-2 : tie.Need-returns
 returns-2 c =
     let q = c.before.before.before in
-    let empty = q.before.before.before.empty in
+    let empty = q.empty in
     let plain = q.before.before.before.before.before in
     let a = at plain.before in
     let g = (z a).args in
-    q.search.ensures.0
+    q.search.ensures.page
     ∙ ap (λ (l : List Listed). emits g.wanted.capacity l (old a))
-    (lists_below g.d g.work.now g.chart.now (left a) _ (full a) empty.result empty.ensures (i a) (told plain.before ∙ plain.if1.false))
+    (lists_below g.d g.work.now g.chart.now (left a) _ (full a) empty.result empty.ensures (i a) (told plain.before ∙ plain.if-is_kind_0_first.false))
 
-pub list-spec : {M : Type 1} → statement M
-list-spec =
-    tie.close
-    (tie.spec
-    slice-aggregate-all-left
-    all-left-requires
-    slice-aggregate-show-cells
-    show-cells-requires
-    is-kind-0-first-requires
-    slice-aggregate-search-first
-    slice-aggregate-search-first-2
-    search-first-requires
-    same_length
-    returns
-    slice-aggregate-search
-    empty-requires
-    slice-aggregate-search-2
-    search-requires
-    same-length-2
-    returns-2)
+pub list_spec : {M : Type 1} → statement M
+list_spec = tie.close (tie.spec slice-aggregate-all-left all-left-requires slice-aggregate-show-cells show-cells-requires is-kind-0-first-requires slice-aggregate-search-first slice-aggregate-search-first-2 search-first-requires same_length returns slice-aggregate-search empty-requires slice-aggregate-search-2 search-requires same-length-2 returns-2)

@@ -12,74 +12,62 @@ use Rattle.fast.proofs.PrunedLaws.{moves, moves_told}
 use Rattle.fast.proofs.pruning.moves_before.Statement.{statement}
 use Rattle.fast.proofs.pruning.moves_before.Tie as tie
 
-abbrev invariant-loop : tie.invariant-loop
+abbrev invariant-loop : tie.invariant-loop-m
 invariant-loop d work chart start end r m₀ m =
     (start ≤ m) × (m ≤ end) × (any (moves d work chart r) (from m (end - m)) ≡ any (moves d work chart r) (from start (end - start)))
 
-abbrev decreases-loop : tie.decreases-loop
+abbrev decreases-loop : tie.decreases-loop-m
 decreases-loop d work chart start end r m₀ m = end - m
 
 -- from the loop's test back to the function's entry
-abbrev entry : tie.At-loop invariant-loop decreases-loop → tie.Start invariant-loop decreases-loop
+abbrev entry : tie.At-loop-m invariant-loop decreases-loop → tie.Start invariant-loop decreases-loop
 entry l = l.before.before.before
 
 -- what the loop's test says of map m
-told : (c : tie.After-image-row invariant-loop decreases-loop) → let l = c.before.before.before in
+told : (c : tie.After-image_row invariant-loop decreases-loop) → let l = c.before.before.before in
     let a = (entry l).args in
-    (b : Bool) → ltb c.image-row.result a.r ≡ b → moves a.d a.work.now a.chart.now a.r l.loop.m ≡ b
+    (b : Bool) → ltb c.image_row.result a.r ≡ b → moves a.d a.work.now a.chart.now a.r l.loop-m.m ≡ b
 told c =
     let l = c.before.before.before in
     let a = (entry l).args in
-    moves_told a.d a.work.now a.chart.now a.r (entry l).requires.3 l.loop.m c.image-row.result c.image-row.ensures
+    moves_told a.d a.work.now a.chart.now a.r (entry l).requires.3 l.loop-m.m c.image_row.result c.image_row.ensures
 
-loop-holds : tie.Need-loop-init invariant-loop decreases-loop
+loop-holds : tie.Need-loop-m-init invariant-loop decreases-loop
 loop-holds c = (omega arith, omega arith, refl)
 
-image-row-requires : tie.Need-image-row-requires invariant-loop decreases-loop
+image-row-requires : tie.Need-image_row-requires invariant-loop decreases-loop
 image-row-requires c κs =
     let l = c.before.before in
     let z = entry l in
-    let a = z.args in
-    image_asked a.d a.work.now a.chart.now z.pre.0 l.loop.m a.r (omega arith) z.pre.3
+    let a = z.args in let h = image_asked a.d a.work.now a.chart.now z.pre.0 l.loop-m.m a.r (omega arith) z.pre.3 in record { rows_in_bounds = h.0; r_lt_rows = h.1.0; size_bound = h.1.1 }
 
-returns : tie.Need-returns invariant-loop decreases-loop
+returns : tie.Need-returns-then-image_row-r invariant-loop decreases-loop
 returns c =
     let l = c.before.before.before.before in
     let a = (entry l).args in
-    let h : l.loop.m < a.end = omega arith in
-    let found = any_found (moves a.d a.work.now a.chart.now a.r) l.loop.m a.end h (told c.before true (lt-ltb _ a.r c.if1.true)) in
-    sym found ∙ l.loop.invariant.2
+    let h : l.loop-m.m < a.end = omega arith in
+    let found = any_found (moves a.d a.work.now a.chart.now a.r) l.loop-m.m a.end h (told c.before true (lt-ltb _ a.r c.if-image_row-r.true)) in
+    sym found ∙ l.loop-m.invariant.2
 
-add-m : tie.Need-overflow-add-m invariant-loop decreases-loop
+add-m : tie.Need-overflow_add-m invariant-loop decreases-loop
 add-m c = omega arith
 
-loop-less : tie.Need-loop-smaller invariant-loop decreases-loop
+loop-less : tie.Need-loop-m-smaller invariant-loop decreases-loop
 loop-less c = omega arith
 
-loop-again : tie.Need-loop-preserved invariant-loop decreases-loop
+loop-again : tie.Need-loop-m-preserved invariant-loop decreases-loop
 loop-again c =
     let l = c.before.before.before.before in
     let a = (entry l).args in
-    let h : l.loop.m < a.end = omega arith in
-    let rest = any_next (moves a.d a.work.now a.chart.now a.r) l.loop.m a.end h (told c.before false (le-ltb _ a.r c.if1.false)) in
-    (omega arith, omega arith, sym rest ∙ l.loop.invariant.2)
+    let h : l.loop-m.m < a.end = omega arith in
+    let rest = any_next (moves a.d a.work.now a.chart.now a.r) l.loop-m.m a.end h (told c.before false (le-ltb _ a.r c.if-image_row-r.false)) in
+    (omega arith, omega arith, sym rest ∙ l.loop-m.invariant.2)
 
-returns-2 : tie.Need-returns-2 invariant-loop decreases-loop
+returns-2 : tie.Need-returns invariant-loop decreases-loop
 returns-2 c =
     let l = c.before in
     let a = (entry l).args in
-    sym (any_none (moves a.d a.work.now a.chart.now a.r) l.loop.m a.end c.loop-test.false) ∙ l.loop.invariant.2
+    sym (any_none (moves a.d a.work.now a.chart.now a.r) l.loop-m.m a.end c.loop-m-test.false) ∙ l.loop-m.invariant.2
 
-pub moves-before-spec : {M : Type 1} → statement M
-moves-before-spec =
-    tie.close
-    (tie.spec
-    invariant-loop
-    decreases-loop
-    loop-holds
-    image-row-requires
-    returns
-    add-m
-    loop-less
-    loop-again
-    returns-2)
+pub moves_before_spec : {M : Type 1} → statement M
+moves_before_spec = tie.close (tie.spec invariant-loop decreases-loop loop-holds image-row-requires returns add-m loop-less loop-again returns-2)

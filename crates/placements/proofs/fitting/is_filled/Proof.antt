@@ -11,27 +11,27 @@ use Rattle.placements.proofs.FittingLaws.{filled_in, filled_out}
 use Rattle.placements.proofs.fitting.is_filled.Statement.{statement}
 use Rattle.placements.proofs.fitting.is_filled.Tie as tie
 
-in-box-requires : tie.Need-in-box-requires
+in-box-requires : tie.Need-in_box-requires
 in-box-requires c κs = search rules
 
-inside : (c : tie.Then1) → InBox (as_sides c.before.before.before.args.s) (as_cell c.before.before.before.args.u)
+inside : (c : tie.Then-in_box) → InBox (as_sides c.args.s) (as_cell c.args.u)
 inside c =
     let k = c.before.before.before in
-    subst (λ (b : Bool). Decided b (InBox (as_sides k.args.s) (as_cell k.args.u))) c.if1.true c.before.in-box.ensures
+    subst (λ (b : Bool). Decided b (InBox (as_sides k.args.s) (as_cell k.args.u))) c.if-in_box.true c.in_box.ensures
 
 get-requires : tie.Need-get-requires
-get-requires c κs = (c.before.before.before.requires, inside c)
+get-requires c κs = (c.requires, inside c)
 
-returns : tie.Need-returns
+returns : tie.Need-returns-then-in_box
 returns c =
     let k = c.before.before.before.before in
     ap (λ (n : ℕ). eqb n 1) c.get.ensures ∙ filled_in (as_grid k.args.s k.args.cells.now) (as_cell k.args.u) (inside c.before)
 
-returns-2 : tie.Need-returns-2
+returns-2 : tie.Need-returns-else-in_box
 returns-2 c =
     let k = c.before.before.before in
     filled_out (as_grid k.args.s k.args.cells.now) (as_cell k.args.u)
-    (subst (λ (b : Bool). Decided b (InBox (as_sides k.args.s) (as_cell k.args.u))) c.if1.false c.before.in-box.ensures)
+    (subst (λ (b : Bool). Decided b (InBox (as_sides k.args.s) (as_cell k.args.u))) c.if-in_box.false c.in_box.ensures)
 
-pub is-filled-spec : {M : Type 1} → statement M
-is-filled-spec = tie.close (tie.spec in-box-requires get-requires returns returns-2)
+pub is_filled_spec : {M : Type 1} → statement M
+is_filled_spec = tie.close (tie.spec in-box-requires get-requires returns returns-2)

@@ -16,31 +16,31 @@ use Rattle.placements.proofs.refusals.refusal_of_lent.Statement.{statement}
 use Rattle.placements.proofs.refusals.refusal_of_lent.Tie as tie
 
 -- ---- the stops: where a test has passed, and from there back to the one before it
-abbrev few : tie.Else2 → tie.Else1
+abbrev few : tie.Else-not-sides_fit → tie.Else-t-gt16
 few c = c.before.before
 
-abbrev board-fitting : tie.Else3 → tie.Else2
+abbrev board-fitting : tie.Else-not-all_sides_fit → tie.Else-not-sides_fit
 board-fitting c = c.before.before
 
-abbrev all-fitting : tie.Else4 → tie.Else3
+abbrev all-fitting : tie.Else-not-cells_lie → tie.Else-not-all_sides_fit
 all-fitting c = c.before.before
 
-abbrev board-lying : tie.Else5 → tie.Else4
+abbrev board-lying : tie.Else-not-all_cells_lie → tie.Else-not-cells_lie
 board-lying c = c.before.before
 
-abbrev start : tie.Else1 → tie.Start
+abbrev start : tie.Else-t-gt16 → tie.Start
 start c = c.before.before.before
 
-abbrev start-2 : tie.Else2 → tie.Start
+abbrev start-2 : tie.Else-not-sides_fit → tie.Start
 start-2 c = start (few c)
 
-abbrev start-3 : tie.Else3 → tie.Start
+abbrev start-3 : tie.Else-not-all_sides_fit → tie.Start
 start-3 c = start-2 (board-fitting c)
 
-abbrev start-4 : tie.Else4 → tie.Start
+abbrev start-4 : tie.Else-not-cells_lie → tie.Start
 start-4 c = start-3 (all-fitting c)
 
-abbrev start-5 : tie.Else5 → tie.Start
+abbrev start-5 : tie.Else-not-all_cells_lie → tie.Start
 start-5 c = start-4 (board-lying c)
 
 -- the first of the rows that applies, the first n left out
@@ -48,95 +48,82 @@ abbrev rest : tie.Start → ℕ → ℕ
 rest k n = first_that_applies (drop n (lent_rows (records_of k.args.t) k.args.board k.args.bytes.now))
 
 -- ---- 2
-returns : tie.Need-returns
+returns : tie.Need-returns-then-t-gt16
 unfolding lent_rows
 returns c =
     let k = c.before.before.before in
-    sym (rw (records_count k.args.t (records_long k.args.t k.well-formed.0), lt-ltb _ _ c.if1.true))
+    sym (rw (records_count k.args.t (records_long k.args.t k.well-formed.0), lt-ltb _ _ c.if-t-gt16.true))
 
-past-2 : (c : tie.Else1) → rest (start c) 0 ≡ rest (start c) 1
+past-2 : (c : tie.Else-t-gt16) → rest (start c) 0 ≡ rest (start c) 1
 unfolding lent_rows
 past-2 c =
     let k = start c in
-    rw (records_count k.args.t (records_long k.args.t k.good.0), le-ltb _ _ c.if1.false)
+    rw (records_count k.args.t (records_long k.args.t k.good.0), le-ltb _ _ c.if-t-gt16.false)
 
 -- ---- 3: of the board, then of the pieces
-sides-fit-requires : tie.Need-sides-fit-requires
+sides-fit-requires : tie.Need-sides_fit-requires
 sides-fit-requires c κs = search rules
 
-returns-2 : tie.Need-returns-2
+returns-2 : tie.Need-returns-then-not-sides_fit
 unfolding lent_rows
-returns-2 c = sym (past-2 c.before.before ∙ rw (sym c.before.sides-fit.ensures ∙ not-true _ c.if2.true))
+returns-2 c = sym (past-2 c.before.before ∙ rw (sym c.sides_fit.ensures ∙ c.if-not-sides_fit.true))
 
-board_fits : (c : tie.Else2) → sides_fit (start-2 c).args.board ≡ true
-board_fits c = sym c.before.sides-fit.ensures ∙ not-false _ c.if2.false
+board_fits : (c : tie.Else-not-sides_fit) → sides_fit (start-2 c).args.board ≡ true
+board_fits c = sym c.sides_fit.ensures ∙ c.if-not-sides_fit.false
 
-all-sides-fit-requires : tie.Need-all-sides-fit-requires
+all-sides-fit-requires : tie.Need-all_sides_fit-requires
 all-sides-fit-requires c κs = search rules
 
-returns-3 : tie.Need-returns-3
+returns-3 : tie.Need-returns-then-not-all_sides_fit
 unfolding lent_rows
 returns-3 c =
     let e = c.before.before in
-    sym (past-2 (few e) ∙ rw (board_fits e, sym c.before.all-sides-fit.ensures ∙ not-true _ c.if3.true))
+    sym (past-2 (few e) ∙ rw (board_fits e, sym c.all_sides_fit.ensures ∙ c.if-not-all_sides_fit.true))
 
-pieces-fit : (c : tie.Else3) → all sides_fit (records_of (start-3 c).args.t) ≡ true
-pieces-fit c = sym c.before.all-sides-fit.ensures ∙ not-false _ c.if3.false
+pieces-fit : (c : tie.Else-not-all_sides_fit) → all sides_fit (records_of (start-3 c).args.t) ≡ true
+pieces-fit c = sym c.all_sides_fit.ensures ∙ c.if-not-all_sides_fit.false
 
-past-3 : (c : tie.Else3) → rest (start-3 c) 0 ≡ rest (start-3 c) 2
+past-3 : (c : tie.Else-not-all_sides_fit) → rest (start-3 c) 0 ≡ rest (start-3 c) 2
 unfolding lent_rows
 past-3 c = let e = board-fitting c in past-2 (few e) ∙ rw (board_fits e, pieces-fit c)
 
 -- ---- 4: of the board, then of the pieces
-cells-lie-requires : tie.Need-cells-lie-requires
+cells-lie-requires : tie.Need-cells_lie-requires
 cells-lie-requires c κs = holds _ (board_fits (board-fitting c))
 
-returns-4 : tie.Need-returns-4
+returns-4 : tie.Need-returns-then-not-cells_lie
 unfolding lent_rows
-returns-4 c = sym (past-3 c.before.before ∙ rw (sym c.before.cells-lie.ensures ∙ not-true _ c.if4.true))
+returns-4 c = sym (past-3 c.before.before ∙ rw (sym c.cells_lie.ensures ∙ c.if-not-cells_lie.true))
 
-board-lies : (c : tie.Else4) → cells_lie (start-4 c).args.bytes.now (start-4 c).args.board ≡ true
-board-lies c = sym c.before.cells-lie.ensures ∙ not-false _ c.if4.false
+board-lies : (c : tie.Else-not-cells_lie) → cells_lie (start-4 c).args.bytes.now (start-4 c).args.board ≡ true
+board-lies c = sym c.cells_lie.ensures ∙ c.if-not-cells_lie.false
 
-all-cells-lie-requires : tie.Need-all-cells-lie-requires
-all-cells-lie-requires c κs = let e = all-fitting c in ((few (board-fitting e)).if1.false, holds _ (pieces-fit e))
+all-cells-lie-requires : tie.Need-all_cells_lie-requires
+all-cells-lie-requires c κs = let e = all-fitting c in ((few (board-fitting e)).if-t-gt16.false, holds _ (pieces-fit e))
 
-returns-5 : tie.Need-returns-5
+returns-5 : tie.Need-returns-then-not-all_cells_lie
 unfolding lent_rows
 returns-5 c =
     let e = c.before.before in
-    sym (past-3 (all-fitting e) ∙ rw (board-lies e, sym c.before.all-cells-lie.ensures ∙ not-true _ c.if5.true))
+    sym (past-3 (all-fitting e) ∙ rw (board-lies e, sym c.all_cells_lie.ensures ∙ c.if-not-all_cells_lie.true))
 
-pieces-lie : (c : tie.Else5) → all (cells_lie (start-5 c).args.bytes.now) (records_of (start-5 c).args.t) ≡ true
-pieces-lie c = sym c.before.all-cells-lie.ensures ∙ not-false _ c.if5.false
+pieces-lie : (c : tie.Else-not-all_cells_lie) → all (cells_lie (start-5 c).args.bytes.now) (records_of (start-5 c).args.t) ≡ true
+pieces-lie c = sym c.all_cells_lie.ensures ∙ c.if-not-all_cells_lie.false
 
-past-4 : (c : tie.Else5) → rest (start-5 c) 0 ≡ rest (start-5 c) 3
+past-4 : (c : tie.Else-not-all_cells_lie) → rest (start-5 c) 0 ≡ rest (start-5 c) 3
 unfolding lent_rows
 past-4 c = let e = board-lying c in past-3 (all-fitting e) ∙ rw (board-lies e, pieces-lie c)
 
 -- ---- 5 to 9
-refusal-of-grids-requires : tie.Need-refusal-of-grids-requires
+refusal-of-grids-requires : tie.Need-refusal_of_grids-requires
 refusal-of-grids-requires c κs =
     let e = board-lying c in
     let f = all-fitting e in
     (omega arith, rw (board_fits (board-fitting f), pieces-fit f) tt, rw (board-lies e, pieces-lie c) tt)
 
-returns-6 : tie.Need-returns-6
+returns-6 : tie.Need-returns
 unfolding lent_rows
-returns-6 c = c.refusal-of-grids.ensures ∙ sym (past-4 c.before)
+returns-6 c = c.refusal_of_grids.ensures ∙ sym (past-4 c.before)
 
-pub refusal-of-lent-spec : {M : Type 1} → statement M
-refusal-of-lent-spec =
-    tie.close
-    (tie.spec
-    returns
-    sides-fit-requires
-    returns-2
-    all-sides-fit-requires
-    returns-3
-    cells-lie-requires
-    returns-4
-    all-cells-lie-requires
-    returns-5
-    refusal-of-grids-requires
-    returns-6)
+pub refusal_of_lent_spec : {M : Type 1} → statement M
+refusal_of_lent_spec = tie.close (tie.spec returns sides-fit-requires returns-2 all-sides-fit-requires returns-3 cells-lie-requires returns-4 all-cells-lie-requires returns-5 refusal-of-grids-requires returns-6)

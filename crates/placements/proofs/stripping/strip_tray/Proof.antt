@@ -10,19 +10,19 @@ use Rattle.placements.proofs.stripping.strip_tray.Tie as tie
 lent : (z : tie.Start) → Lent z.args.t z.args.board z.args.bytes.now
 lent z = lent_passes z.args.t z.args.board z.args.bytes.now z.requires.0
 
-strip-record-requires : tie.Need-strip-record-requires
+strip-record-requires : tie.Need-strip_record-b-requires
 strip-record-requires c κs =
     let start = c.before.before.before in
     let fits = board_fits _ _ _ (lent start) in
     (fits.0, fits.1, omega (arith, start.requires.1))
 
-strip-pieces-requires : tie.Need-strip-pieces-requires
+strip-pieces-requires : tie.Need-strip_pieces-pieces-requires
 strip-pieces-requires c κs =
     let stripped = c.before.before.before in
     let start = stripped.before.before.before.before in
-    (sound _ _ _ (lent start), omega (arith, start.requires.1, stripped.strip-record.ensures.before.long))
+    (sound _ _ _ (lent start), omega (arith, start.requires.1, stripped.strip_record-b.ensures.long))
 
-same_length : tie.Need-same-length
+same_length : tie.Need-shape_of-out
 same_length c = search rules
 
 returns : tie.Need-returns
@@ -32,12 +32,12 @@ returns c =
     let start = at-board.before.before.before.before in
     let t = start.args.t in
     let bytes = start.args.bytes.now in
-    let board = at-board.strip-record in
-    let pieces = at-pieces.strip-pieces in (
+    let board = at-board.strip_record-b in
+    let pieces = at-pieces.strip_pieces-pieces in (
       strips_tray t start.args.board bytes (lent start) (records_long t start.well-formed.0) board.result pieces.result start.args.out.now _ _
           board.ensures pieces.ensures start.requires.1,
       grids_written t start.args.board bytes board.result pieces.result start.args.out.now _ _ board.ensures pieces.ensures,
     )
 
-pub strip-tray-spec : {M : Type 1} → statement M
-strip-tray-spec = tie.close (tie.spec strip-record-requires strip-pieces-requires same_length returns)
+pub strip_tray_spec : {M : Type 1} → statement M
+strip_tray_spec = tie.close (tie.spec strip-record-requires strip-pieces-requires same_length returns)

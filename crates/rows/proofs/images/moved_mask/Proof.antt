@@ -26,70 +26,57 @@ small start i h = let a = start.args in let p = start.requires in image_small a.
 behind : (start : tie.Start) (i : ℕ) → get_or (images_part start.args.chart.now) (128 * start.args.m + 64 + i) 0 ≡ get_or (images_part start.args.chart.now) (128 * start.args.m + (64 + i)) 0
 behind start i = let z : 128 * start.args.m + 64 + i ≡ 128 * start.args.m + (64 + i) = omega arith in ap (λ (j : ℕ). get_or (images_part start.args.chart.now) j 0) z
 
-mul-moved-word : tie.Need-overflow-mul-moved-word
+mul-moved-word : tie.Need-overflow_mul-m
 mul-moved-word c = search rules
 
-moved-word-requires : tie.Need-moved-word-requires
-moved-word-requires c κs = let start = c.before.before in let p = start.requires.1 in (c.if1.true, let l = c.if1.true in omega arith, start.requires.2, small start)
+moved-word-requires : tie.Need-moved_word-requires
+moved-word-requires c κs = let start = c.before.before in let p = start.requires.1 in (c.if-size-le64.true, let l = c.if-size-le64.true in omega arith, start.requires.2, small start)
 
-returns : tie.Need-returns
+returns : tie.Need-returns-then-size-le64
 returns c =
     let start = c.before.before.before in
     let a = start.args in
     c.moved_word.ensures
-    ∙ word_images a.mask.low a.mask.high a.size (λ i. get_or (images_part a.chart.now) (128 * a.m + i) 0) (to start) c.before.if1.true (place start)
+    ∙ word_images a.mask.low a.mask.high a.size (λ i. get_or (images_part a.chart.now) (128 * a.m + i) 0) (to start) c.if-size-le64.true (place start)
 
-mul-moved-word-2 : tie.Need-overflow-mul-moved-word-2
+mul-moved-word-2 : tie.Need-overflow_mul-m-2
 mul-moved-word-2 c = search rules
 
-moved-word-requires-2 : tie.Need-moved-word-requires-2
+moved-word-requires-2 : tie.Need-moved_word-low-requires
 moved-word-requires-2 c κs =
     let start = c.before.before in
     let p = start.requires.1 in
-    let l = c.if1.false in
+    let l = c.if-size-le64.false in
     (omega arith, omega arith, start.requires.2, λ i h. small start i (omega arith))
 
-mul-moved-word-3 : tie.Need-overflow-mul-moved-word-3
+mul-moved-word-3 : tie.Need-overflow_mul-m-3
 mul-moved-word-3 c = search rules
 
-add-moved-word : tie.Need-overflow-add-moved-word
+add-moved-word : tie.Need-overflow_add-m
 add-moved-word c = search rules
 
-sub-moved-word : tie.Need-overflow-sub-moved-word
+sub-moved-word : tie.Need-overflow_sub-size
 sub-moved-word c = search rules
 
-moved-word-requires-3 : tie.Need-moved-word-requires-3
+moved-word-requires-3 : tie.Need-moved_word-high-requires
 moved-word-requires-3 c κs =
     let start = c.before.before.before in
     let p = start.requires.1 in
     let q = start.requires.0 in
-    let l = c.before.if1.false in
+    let l = c.if-size-le64.false in
     (omega arith, omega arith, start.requires.2, λ i h. subst (λ (n : ℕ). n < 128) (sym (behind start i)) (small start (64 + i) (omega arith)))
 
 union-requires : tie.Need-union-requires
 union-requires c κs = search rules
 
-returns-2 : tie.Need-returns-2
+returns-2 : tie.Need-returns
 returns-2 c =
     let start = c.before.before.before.before.before in
     let a = start.args in
-    let l = c.before.before.before.if1.false in
-    c.union.ensures ∙ ap₂ (λ (x y : ℕ → Bool). either x y) c.before.before.moved-word2.ensures c.before.moved-word3.ensures
+    let l = c.if-size-le64.false in
+    c.union.ensures ∙ ap₂ (λ (x y : ℕ → Bool). either x y) c.moved_word-low.ensures c.moved_word-high.ensures
     ∙ words_images a.mask.low a.mask.high a.size (λ i. get_or (images_part a.chart.now) (128 * a.m + i) 0) (to start) (λ i. get_or (images_part a.chart.now) (128 * a.m + 64 + i) 0) (omega arith)
     (λ i h. place start i (omega arith)) (λ i h. behind start i ∙ place start (64 + i) (omega arith))
 
-pub moved-mask-spec : {M : Type 1} → statement M
-moved-mask-spec =
-    tie.close
-    (tie.spec
-    mul-moved-word
-    moved-word-requires
-    returns
-    mul-moved-word-2
-    moved-word-requires-2
-    mul-moved-word-3
-    add-moved-word
-    sub-moved-word
-    moved-word-requires-3
-    union-requires
-    returns-2)
+pub moved_mask_spec : {M : Type 1} → statement M
+moved_mask_spec = tie.close (tie.spec mul-moved-word moved-word-requires returns mul-moved-word-2 moved-word-requires-2 mul-moved-word-3 add-moved-word sub-moved-word moved-word-requires-3 union-requires returns-2)

@@ -12,22 +12,22 @@ use Rattle.solver.proofs.pages.list.Statement.{statement}
 use Rattle.solver.proofs.pages.list.Tie as tie
 
 -- from the choice of the engine back to the function's entry
-abbrev entry : tie.After-struct-known → tie.Start
+abbrev entry : tie.After-struct_known-1 → tie.Start
 entry c = c.before.before.before.before.before.before
 
-mul-t12 : tie.Need-overflow-mul-t12
+mul-t12 : tie.Need-overflow_mul-wanted
 mul-t12 c = search rules
 
-div-t13 : tie.Need-nonzero-div-t13
+div-t13 : tie.Need-nonzero_div-wanted
 div-t13 c = search rules
 
-enum_told : tie.Need-enum-told
+enum_told : tie.Need-enum_told-1
 enum_told c = search rules
 
-enum-told-2 : tie.Need-enum-told-2
+enum-told-2 : tie.Need-enum_told-in-Naive
 enum-told-2 c = search rules
 
-enum-told-3 : tie.Need-enum-told-3
+enum-told-3 : tie.Need-enum_told-in-Fast
 enum-told-3 c = search rules
 
 list-requires : tie.Need-list-requires
@@ -35,63 +35,43 @@ list-requires c κs =
     let z = entry c.before.before.before in
     (z.pre.0, div-mul-le_self (length z.args.answers.now) (2 * z.args.d.places))
 
-enum-told-4 : tie.Need-enum-told-4
+enum-told-4 : tie.Need-enum_told-in-KnuthAlgorithm
 enum-told-4 c = search rules
 
-list-requires-2 : tie.Need-list-requires-2
+list-requires-2 : tie.Need-list-requires-in-KnuthAlgorithm
 unfolding is_knuth
 list-requires-2 c κs =
     let told = c.before.before in
     let z = entry told.before.before in
-    let is = ap is_knuth told.enum-told4.given.1 in
+    let is = ap is_knuth told.in-KnuthAlgorithm.is in
     (z.pre.0, z.pre.2 is, z.pre.3 is, div-mul-le_self (length z.args.answers.now) (2 * z.args.d.places))
 
-returns : tie.Need-returns
+returns : tie.Need-returns-in-Auto
 unfolding answers_by LinksAfter
-returns c =
-    by_engine c.enum_told.given.1 _ _ _ _ _ _ _ (sym (emits_none _ _)) refl
+returns c = let h = by_engine c.in-Auto.is _ _ _ _ _ _ _ (sym (emits_none _ _)) refl in record { page = h.0; behind = h.1 }
 
-returns-2 : tie.Need-returns-2
+returns-2 : tie.Need-returns-in-Naive
 unfolding answers_by LinksAfter
-returns-2 c = by_engine c.enum-told2.given.1 _ _ _ _ _ _ _ (sym (emits_none _ _)) refl
+returns-2 c = let h = by_engine c.in-Naive.is _ _ _ _ _ _ _ (sym (emits_none _ _)) refl in record { page = h.0; behind = h.1 }
 
-same_length : tie.Need-same-length
+same_length : tie.Need-shape_of-answers-in-Fast
 same_length c = search rules
 
-returns-3 : tie.Need-returns-3
+returns-3 : tie.Need-returns-in-Fast
 unfolding answers_by LinksAfter identify_of
 returns-3 c =
-    let called = c.before.before in
-    by_engine called.before.before.enum-told3.given.1 _ _ _ _ _ _ _ called.list.ensures refl
+    let called = c.before.before in let h = by_engine called.in-Fast.is _ _ _ _ _ _ _ called.list.ensures refl in record { page = h.0; behind = h.1 }
 
-same-length-2 : tie.Need-same-length-2
+same-length-2 : tie.Need-shape_of-links
 same-length-2 c = search rules
 
-same-length-3 : tie.Need-same-length-3
+same-length-3 : tie.Need-shape_of-answers-in-KnuthAlgorithm
 same-length-3 c = search rules
 
-returns-4 : tie.Need-returns-4
+returns-4 : tie.Need-returns-in-KnuthAlgorithm
 unfolding answers_by LinksAfter identify_of
 returns-4 c =
-    let called = c.before.before.before.before in
-    by_engine called.before.before.before.enum-told4.given.1 _ _ _ _ _ _ _ called.list2.ensures.0 called.list2.ensures.1
+    let called = c.before.before.before.before in let h = by_engine called.in-KnuthAlgorithm.is _ _ _ _ _ _ _ called.list-in-KnuthAlgorithm.ensures.page called.list-in-KnuthAlgorithm.ensures.behind in record { page = h.0; behind = h.1 }
 
-pub list-spec : {M : Type 1} → statement M
-list-spec =
-    tie.close
-    (tie.spec
-    mul-t12
-    div-t13
-    enum_told
-    enum-told-2
-    enum-told-3
-    list-requires
-    enum-told-4
-    list-requires-2
-    returns
-    returns-2
-    same_length
-    returns-3
-    same-length-2
-    same-length-3
-    returns-4)
+pub list_spec : {M : Type 1} → statement M
+list_spec = tie.close (tie.spec mul-t12 div-t13 enum_told enum-told-2 enum-told-3 list-requires enum-told-4 list-requires-2 returns returns-2 same_length returns-3 same-length-2 same-length-3 returns-4)

@@ -1,0 +1,14 @@
+use Prim.Native.Nat.{ℕ, ◌-◌, ◌≤◌}
+use mathlib.Core.Path.{◌≡◌, refl, subst}
+use native.Mathlib.Omega.{arith}
+use borrow.Author.Rules.{rules}
+use lib.ListN.{length}
+use Rattle.knuth.specs.Matrix.{Laid, head_nodes}
+use Rattle.knuth.proofs.LaidLaws.{heads_none, heads_more}
+use Rattle.knuth.proofs.building.put_heads.Given as goal
+
+abbrev pub invariant-loop-j : goal.invariant-loop-j
+invariant-loop-j l = (length l.links ≡ length l.initial.links) × (l.j ≤ l.n) × Laid l.initial.links 0 l.links (head_nodes l.j)
+
+abbrev pub decreases-loop-j : goal.decreases-loop-j
+decreases-loop-j l = l.n - l.j

@@ -1,0 +1,14 @@
+use Prim.Native.Nat.{◌-◌}
+use native.Mathlib.Omega.{arith}
+use mathlib.Core.Path.{◌≡◌}
+use mathlib.Core.Bool.{true}
+use borrow.Author.Rules.{rules}
+use Rattle.links.specs.Cover.{Reduced, Holds}
+use Rattle.links.proofs.Rows.{Rowed, hidable_small, hiding_start, hiding_one, hiding_next, hiding_end, rowed_length, row_end}
+use Rattle.links.proofs.hide_row.Given as goal
+
+abbrev pub invariant-loop-y : goal.invariant-loop-y
+invariant-loop-y l = (w : Reduced) → Holds w l.initial.links → w.alive l.x ≡ true → Rowed w l.initial.links l.x l.links l.y × (l.end ≡ w.t.hi l.x)
+
+abbrev pub decreases-loop-y : goal.decreases-loop-y
+decreases-loop-y l = l.end - l.y

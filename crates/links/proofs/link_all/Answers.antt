@@ -1,0 +1,18 @@
+-- `links::link_all` meets its contract: the heads are linked, then the nodes, and nothing behind the counts changes. Assumes nothing.
+use mathlib.Core.Path.{◌∙◌}
+use borrow.Author.Rules.{rules}
+use Rattle.links.proofs.Whole.{whole_linkable, whole_seek}
+use Rattle.links.proofs.link_all.Goals as goal
+
+pub link_nodes-requires : goal.link_nodes-requires
+link_nodes-requires c =
+    let q = c.requires in
+    let p = q.stored in
+    whole_linkable p.t p.law p.fields q.shape q.stocked p.c_is p.n_is _ c.link_heads.ensures.linked c.link_heads.ensures.behind
+
+pub returns : goal.returns
+returns c = record {
+  linked = λ t law f s k e g. whole_seek t law f s k e g _ c.link_heads.ensures.linked c.link_heads.ensures.behind _
+      c.link_nodes.ensures.linked c.link_nodes.ensures.behind;
+  behind = λ i h. c.link_nodes.ensures.behind i h ∙ c.link_heads.ensures.behind i h;
+}

@@ -1,0 +1,16 @@
+use Prim.Native.Nat.{ℕ}
+use native.Mathlib.Omega.{arith}
+use mathlib.Core.Path.{◌≡◌, sym, ap, ◌∙◌}
+use mathlib.Core.List.{List}
+use mathlib.Core.Bool.{true}
+use borrow.Author.Rules.{rules}
+use Rattle.links.specs.Cover.{Reduced, Holds, hide}
+use Rattle.links.proofs.Rows.{Rowed, hidden_small, rowed_length, row_first, showing_start, showing_one, showing_next, showing_end, hide_length}
+use lib.ListN.{length}
+use Rattle.links.proofs.show_row.Given as goal
+
+abbrev pub invariant-loop-y : goal.invariant-loop-y
+invariant-loop-y l = (w : Reduced) (m : List ℕ) → Holds w m → w.alive l.x ≡ true → l.initial.links ≡ hide w.t l.x m → Rowed w m l.x l.links l.y × (l.first ≡ w.t.lo l.x)
+
+abbrev pub decreases-loop-y : goal.decreases-loop-y
+decreases-loop-y l = l.y

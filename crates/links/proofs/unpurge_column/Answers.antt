@@ -1,0 +1,66 @@
+-- `links::unpurge_column` meets its contract: after each turn the column's live rows up to k are still hidden, and no others. Assumes nothing.
+use Prim.Native.Nat.{ℕ, ◌<◌}
+use native.Mathlib.Omega.{arith}
+use mathlib.Core.Path.{◌≡◌, sym, ◌∙◌}
+use mathlib.Core.List.{List}
+use borrow.Author.Rules.{rules}
+use Rattle.links.specs.Cover.{Reduced, Holds, Open, cover}
+use Rattle.links.proofs.Cover.{Unwalk, unwalk_start, unwalk_hidden, unwalk_small, unwalk_less, unwalk_next, unwalk_length, unwalk_end, covered_length}
+use Rattle.links.proofs.unpurge_column.Goals as goal
+
+pub offset_bounds-links-c : goal.offset_bounds-links-c
+offset_bounds-links-c c = let p = c.requires in omega (arith, p.holds.fields.long, covered_length p, p.column, p.w.law.some, p.w.law.small)
+
+pub overflow_mul-c : goal.overflow_mul-c
+overflow_mul-c c = omega (arith, offset_bounds-links-c c)
+
+pub overflow_add-c : goal.overflow_add-c
+overflow_add-c c = omega (arith, offset_bounds-links-c c)
+
+pub bounds-links-c : goal.bounds-links-c
+bounds-links-c c = let p = c.requires in omega (arith, p.holds.fields.long, covered_length p, p.column, p.w.law.some, p.w.law.small)
+
+pub loop-k-init : goal.loop-k-init
+loop-k-init c = λ w m s l o q. unwalk_start w s l o _ q _ c.wide-k.ensures
+
+pub show_row-requires : goal.show_row-requires
+show_row-requires c =
+    let p = c.requires in
+    let v = c.loop-k.invariant p.w p.old p.holds p.column p.is_open p.so in
+    unwalk_hidden p.w p.holds p.column p.is_open v c.loop-k-test.true
+
+pub offset_bounds-links-k : goal.offset_bounds-links-k
+offset_bounds-links-k c =
+    let p = c.requires in
+    let v = c.loop-k.invariant p.w p.old p.holds p.column p.is_open p.so in
+    omega (arith, unwalk_small p.w p.holds p.column p.is_open v c.loop-k-test.true _ c.show_row.ensures)
+
+pub overflow_mul-k : goal.overflow_mul-k
+overflow_mul-k c = omega (arith, offset_bounds-links-k c)
+
+pub overflow_add-k : goal.overflow_add-k
+overflow_add-k c = omega (arith, offset_bounds-links-k c)
+
+pub bounds-links-k : goal.bounds-links-k
+bounds-links-k c =
+    let p = c.requires in
+    let v = c.loop-k.invariant p.w p.old p.holds p.column p.is_open p.so in
+    omega (arith, unwalk_small p.w p.holds p.column p.is_open v c.loop-k-test.true _ c.show_row.ensures)
+
+pub loop-k-smaller : goal.loop-k-smaller
+loop-k-smaller c =
+    let p = c.requires in
+    let v = c.loop-k.invariant p.w p.old p.holds p.column p.is_open p.so in
+    unwalk_less p.w p.holds p.column p.is_open v c.loop-k-test.true _ c.show_row.ensures _ c.wide-k-in-loop-k.ensures
+
+pub loop-k-preserved : goal.loop-k-preserved
+loop-k-preserved c =
+    λ w m s l o q. unwalk_next w s l o (c.loop-k.invariant w m s l o q) c.loop-k-test.true _ c.show_row.ensures _ c.wide-k-in-loop-k.ensures
+
+pub shape_of-links : goal.shape_of-links
+shape_of-links c = let p = c.requires in
+    let v = c.loop-k.invariant p.w p.old p.holds p.column p.is_open p.so in
+    unwalk_length p.w p.holds p.column p.is_open v ∙ sym (covered_length p)
+
+pub returns : goal.returns
+returns c = λ w m s l o q. unwalk_end w s l o (c.loop-k.invariant w m s l o q) c.loop-k-test.false

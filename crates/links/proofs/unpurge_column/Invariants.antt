@@ -1,0 +1,14 @@
+use Prim.Native.Nat.{ℕ, ◌<◌}
+use native.Mathlib.Omega.{arith}
+use mathlib.Core.Path.{◌≡◌, sym, ◌∙◌}
+use mathlib.Core.List.{List}
+use borrow.Author.Rules.{rules}
+use Rattle.links.specs.Cover.{Reduced, Holds, Open, cover}
+use Rattle.links.proofs.Cover.{Unwalk, unwalk_start, unwalk_hidden, unwalk_small, unwalk_less, unwalk_next, unwalk_length, unwalk_end, covered_length}
+use Rattle.links.proofs.unpurge_column.Given as goal
+
+abbrev pub invariant-loop-k : goal.invariant-loop-k
+invariant-loop-k l = (w : Reduced) (m : List ℕ) → Holds w m → l.c < w.t.cols → Open w l.c → l.initial.links ≡ cover w l.c m → Unwalk w l.c m l.links l.k
+
+abbrev pub decreases-loop-k : goal.decreases-loop-k
+decreases-loop-k l = l.k

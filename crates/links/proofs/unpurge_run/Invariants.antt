@@ -1,0 +1,14 @@
+use Prim.Native.Nat.{ℕ, ◌-◌}
+use native.Mathlib.Omega.{arith}
+use mathlib.Core.Path.{◌≡◌, sym, ◌∙◌}
+use mathlib.Core.List.{List}
+use borrow.Author.Rules.{rules}
+use Rattle.links.specs.Cover.{Reduced, Holds, Run, run_to}
+use Rattle.links.proofs.Select.{Running, ran_start, ran_small, ran_covered, ran_next, ran_end, ran_length, running_length}
+use Rattle.links.proofs.unpurge_run.Given as goal
+
+abbrev pub invariant-loop-y : goal.invariant-loop-y
+invariant-loop-y l = (w : Reduced) (m : List ℕ) → Holds w m → Run w l.a l.b → l.initial.links ≡ run_to w l.a m (l.b - l.a) → Running w l.a l.b m l.links l.y
+
+abbrev pub decreases-loop-y : goal.decreases-loop-y
+decreases-loop-y l = l.y

@@ -1,0 +1,46 @@
+-- `output::pages::page_after` meets its contract: the answer copied is the one in its place, and the page is that of `solver::pages::page`. Assumes nothing.
+use Prim.Native.Nat.{ℕ, ◌*◌}
+use mathlib.Core.List.{List}
+use mathlib.Core.Path.{refl, sym, ap, ◌∙◌}
+use lib.ListN.{take}
+use lib.Seq.{length-take-le}
+use Rattle.placements.specs.Pieces.{records_of}
+use Rattle.solver.specs.Lent.{call_with}
+use Rattle.definitions.specs.Starts.{outcome_from}
+use Rattle.definitions.specs.declared.Start.TheVariants.{Behind}
+use Rattle.output.proofs.RestLaws.{copied}
+use borrow.Author.Rules.{rules}
+use Rattle.output.proofs.pages.page_after.Reads as reads
+use Rattle.output.proofs.pages.page_after.Lts as lts
+use Rattle.output.proofs.lines.copy.Reads as copy-reads
+use Rattle.solver.proofs.pages.page.Reads as page-reads
+use Rattle.output.proofs.pages.page_after.Goals as goal
+
+-- src/pages.rt:63:9
+pub slice_bounds-last-end : goal.slice_bounds-last-end
+slice_bounds-last-end c = search rules
+
+-- src/pages.rt:63:9
+pub slice_bounds-page-end : goal.slice_bounds-page-end
+slice_bounds-page-end c = sym (length-take-le _ _ (slice_bounds-last-end c.before))
+
+-- src/pages.rt:64:9
+pub slice_bounds-page-end-2 : goal.slice_bounds-page-end-2
+slice_bounds-page-end-2 c = search rules
+
+-- src/pages.rt:64:9
+pub slice_bounds-page-end-3 : goal.slice_bounds-page-end-3
+slice_bounds-page-end-3 c = sym (length-take-le _ _ (slice_bounds-page-end-2 c.before))
+
+-- src/pages.rt:40:1
+pub returns : goal.returns
+returns c =
+    let a = c.args in
+    record {
+      page = c.page.new.answers;
+      outcome_is =
+          c.page.ensures.outcome
+          ∙ ap (λ (x : List ℕ). outcome_from Behind x (call_with (records_of a.t) a.board a.bytes.now a.config (take (a.room * a.size) a.answers.now) a.work.now a.links.now))
+          (copied _ a.answers.now c.copy.new.dst (a.place * a.size) a.size c.copy.ensures c.requires.1);
+      answers_are = refl;
+    }

@@ -1,0 +1,11 @@
+-- `replay::skip` meets its contract. The loop's invariant: `j` is at least `i`. The measure is what is left of the text. Assumes nothing.
+use Prim.Native.Nat.{◌≤◌, ◌-◌}
+use borrow.Author.Rules.{rules}
+use lib.ListN.{length}
+use Rattle.replay.proofs.skip.Given as goal
+
+abbrev pub invariant-loop-j : goal.invariant-loop-j
+invariant-loop-j l = l.i ≤ l.j
+
+abbrev pub decreases-loop-j : goal.decreases-loop-j
+decreases-loop-j l = length l.text - l.j
