@@ -6,11 +6,15 @@ ghost use Rattle.std.specs.Prelude.{◌≡◌, ◌+◌, ◌*◌, ◌<◌, ◌≤
 ghost use Rattle.rows.specs.Charts.{chart_length};
 
 use definitions::{Config, Listing, Record, SolverKind, Start};
-use libc::{STDIN_FILENO, STDOUT_FILENO};
 use placements::Pieces;
 use rows::{Dims, chart, row};
 use solver::prepare::Prepared;
 use solver::{pages, prepare};
+
+// The file descriptors of standard input and output.
+const STDIN_FILENO: i32 = 0;
+
+const STDOUT_FILENO: i32 = 1;
 
 // A number that was read, and where the next begins.
 #[derive(Clone, Copy)]

@@ -6,10 +6,12 @@ ghost use Rattle.std.specs.Prelude.{◌≤◌, length};
 ghost use Rattle.shape.specs.Grids.{Whole};
 ghost use Rattle.shape.specs.Scans.{IsOrder, as_order};
 
-use libc::STDOUT_FILENO;
 use shape::maps::Map;
 use shape::scan::AxisOrder;
 use shape::{Coord, Ordering, cells, grids, scan, variants};
+
+// The file descriptor of standard output.
+const STDOUT_FILENO: i32 = 1;
 
 fn number(n: usize) {
     io::write_all(STDOUT_FILENO, b" ");

@@ -1,4 +1,4 @@
-// A text read from one file descriptor, and what `pack` prints for it written to another.
+// A text read from a reader, and what `pack` prints for it written to a file descriptor.
 //
 // Every function here is proved. No contract can say which bytes are read or written: that `read_text` puts the input's bytes one after the other into its slice, and
 // that `print` has each stretch written that a step makes, is for the eye, and for the stored runs of the programs above.
@@ -8,6 +8,8 @@ ghost use Rattle.std.specs.Prelude.{◌≤◌, ◌<◌, ◌≡◌, true, length,
 ghost use Rattle.definitions.specs.Files.{packed};
 ghost use Rattle.streams.specs.Printing.{Ends, Lent};
 ghost use Rattle.streams.specs.Reading.{read_after};
+
+use std::io::Read;
 
 // How many bytes of a text are read once a read behind the first n of them has answered `got`. A read that fails is not the input's end: it counts as a full slice.
 fn after_read(got: isize, n: usize, text: &[u8]) -> usize
@@ -20,25 +22,33 @@ fn after_read(got: isize, n: usize, text: &[u8]) -> usize
     n + io::count(got, &text[n..])
 }
 
+// What a read answers as a number: how many bytes it put at the start of a slice, or a negative number where it failed.
+fn read_once<R: Read>(input: &mut R, text: &mut [u8]) -> isize {
+    match input.read(text) {
+        Ok(got) => got as isize,
+        Err(_) => -1,
+    }
+}
+
 // One read behind the first n bytes of a text, which stay as they are; and how many bytes of the text are read then.
-fn read_more(fd: i32, text: &mut [u8], n: usize) -> usize
+fn read_more<R: Read>(input: &mut R, text: &mut [u8], n: usize) -> usize
     requires { n ≤ length text.old }
     ensures { (n ≤ result) × (result ≤ length text.new) × (take n text.new ≡ take n text.old) }
 {
-    let got = libc::read(fd, &mut text[n..]);
+    let got = read_once(input, &mut text[n..]);
     after_read(got, n, text)
 }
 
 // Reads until the input ends, a read fails or the slice is full, and answers how many bytes of the text are read. The slice is longer than any file: so a text that is cut
 // short, and one that could not be read to its end, is none.
-pub fn read_text(fd: i32, text: &mut [u8]) -> usize
+pub fn read_text<R: Read>(input: &mut R, text: &mut [u8]) -> usize
     requires { 16384 < length text.old }
     ensures { result ≤ length text.new }
 {
     let mut n = 0;
     // the first n bytes are the input's
     while n < text.len() {
-        let next = read_more(fd, text, n);
+        let next = read_more(input, text, n);
         if next == n {
             return n;
         }
