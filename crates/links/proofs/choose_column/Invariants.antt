@@ -1,9 +1,5 @@
-use Rattle.links.proofs.Pivot.{pivot_start, pivot_taken, pivot_left}
 use Prim.Native.Nat.{◌-◌, ◌≤◌}
-use native.Mathlib.Omega.{arith}
-use mathlib.Core.Path.{◌≡◌, ap, ◌∙◌}
-use mathlib.Core.Logic.{⊎_elim}
-use borrow.Author.Rules.{rules}
+use mathlib.Core.Path.{◌≡◌}
 use Rattle.links.specs.Links.{size_of}
 use Rattle.links.specs.Search.{least, pivot}
 use Rattle.links.proofs.choose_column.Given as goal

@@ -1,7 +1,6 @@
 -- `links::give_copy` meets its contract: it stores one more where the kind's copies stand. Assumes nothing.
 use native.Mathlib.Omega.{arith}
 use Rattle.links.proofs.Copies.{gives_few, gives_regained}
-use borrow.Author.Rules.{rules}
 use Rattle.links.proofs.give_copy.Goals as goal
 
 pub overflow_add-links : goal.overflow_add-links

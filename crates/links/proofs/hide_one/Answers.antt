@@ -1,5 +1,4 @@
 -- `links::hide_one` meets its contract: both arms are the two cases of `hide_one`. Assumes nothing.
-use borrow.Author.Rules.{rules}
 use Rattle.links.proofs.Steps.{down_asked, down_asked_2, hide_same, hide_other}
 use Rattle.links.proofs.hide_one.Goals as goal
 

@@ -1,11 +1,6 @@
 -- `links::hide_row` meets its contract: after each turn the row's nodes below y are hidden. Assumes nothing.
-use Prim.Native.Nat.{◌-◌}
 use native.Mathlib.Omega.{arith}
-use mathlib.Core.Path.{◌≡◌}
-use mathlib.Core.Bool.{true}
-use borrow.Author.Rules.{rules}
-use Rattle.links.specs.Cover.{Reduced, Holds}
-use Rattle.links.proofs.Rows.{Rowed, hidable_small, hiding_start, hiding_one, hiding_next, hiding_end, rowed_length, row_end}
+use Rattle.links.proofs.Rows.{hidable_small, hiding_start, hiding_one, hiding_next, hiding_end, rowed_length, row_end}
 use Rattle.links.proofs.hide_row.Goals as goal
 
 pub offset_bounds-links-x : goal.offset_bounds-links-x

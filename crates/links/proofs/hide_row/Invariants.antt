@@ -1,10 +1,8 @@
 use Prim.Native.Nat.{◌-◌}
-use native.Mathlib.Omega.{arith}
 use mathlib.Core.Path.{◌≡◌}
 use mathlib.Core.Bool.{true}
-use borrow.Author.Rules.{rules}
 use Rattle.links.specs.Cover.{Reduced, Holds}
-use Rattle.links.proofs.Rows.{Rowed, hidable_small, hiding_start, hiding_one, hiding_next, hiding_end, rowed_length, row_end}
+use Rattle.links.proofs.Rows.{Rowed}
 use Rattle.links.proofs.hide_row.Given as goal
 
 abbrev pub invariant-loop-y : goal.invariant-loop-y

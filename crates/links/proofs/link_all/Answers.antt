@@ -1,6 +1,5 @@
 -- `links::link_all` meets its contract: the heads are linked, then the nodes, and nothing behind the counts changes. Assumes nothing.
 use mathlib.Core.Path.{◌∙◌}
-use borrow.Author.Rules.{rules}
 use Rattle.links.proofs.Whole.{whole_linkable, whole_seek}
 use Rattle.links.proofs.link_all.Goals as goal
 

@@ -1,11 +1,9 @@
 -- `links::link_heads` meets its contract: after each turn the heads below i are linked. Assumes nothing.
-use Prim.Native.Nat.{ℕ, ◌-◌, ◌≤◌}
+use Prim.Native.Nat.{ℕ}
 use native.Mathlib.Omega.{arith}
 use native.Mathlib.Numerals.{add-one}
-use mathlib.Core.Path.{◌≡◌, refl, ap, ◌∙◌, subst}
-use lib.ListN.{length, get_or}
-use borrow.Author.Rules.{rules}
-use Rattle.links.specs.Links.{Still, Matrix, LawfulMatrix, Fields}
+use mathlib.Core.Path.{refl, ap, ◌∙◌, subst}
+use lib.ListN.{length}
 use Rattle.links.specs.Build.{Headed}
 use Rattle.links.proofs.Build.{headed_none, headed_next, headed_len, headed_still}
 use Rattle.links.proofs.link_heads.Goals as goal
@@ -18,9 +16,9 @@ loop-i-preserved c = (
   omega arith,
   ap length c.link_head.ensures ∙ headed_len _ _ ∙ c.loop-i.invariant.1,
   λ t law f e. rw (c.link_head.ensures, add-one) (headed_next law (c.loop-i.invariant.2 t law f e)
-      (omega (arith, c.loop-i-test.true))),
+      (omega arith)),
   λ k h. rw c.link_head.ensures (headed_still _ _
-      (omega (arith, c.loop-i-test.true, (c.requires.in_bounds, c.requires.cols_bound))) k h
+      (omega arith) k h
       ∙ c.loop-i.invariant.3 k h),
 )
 

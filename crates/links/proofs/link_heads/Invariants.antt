@@ -1,12 +1,8 @@
 use Prim.Native.Nat.{ℕ, ◌-◌, ◌≤◌}
-use native.Mathlib.Omega.{arith}
-use native.Mathlib.Numerals.{add-one}
-use mathlib.Core.Path.{◌≡◌, refl, ap, ◌∙◌, subst}
+use mathlib.Core.Path.{◌≡◌}
 use lib.ListN.{length, get_or}
-use borrow.Author.Rules.{rules}
 use Rattle.links.specs.Links.{Still, Matrix, LawfulMatrix, Fields}
 use Rattle.links.specs.Build.{Headed}
-use Rattle.links.proofs.Build.{headed_none, headed_next, headed_len, headed_still}
 use Rattle.links.proofs.link_heads.Given as goal
 
 abbrev pub invariant-loop-i : goal.invariant-loop-i

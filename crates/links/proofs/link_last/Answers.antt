@@ -1,6 +1,5 @@
 -- `links::link_last` meets its contract: it joins the node behind the last of its column and counts it. Assumes nothing.
 use Rattle.links.proofs.Build.{last_join, last_count, last_is}
-use borrow.Author.Rules.{rules}
 use Rattle.links.proofs.link_last.Goals as goal
 
 pub insert-requires : goal.insert-requires

@@ -1,11 +1,9 @@
 -- `links::link_nodes` meets its contract: after each turn the nodes below x are linked. Assumes nothing.
-use Prim.Native.Nat.{ℕ, ◌-◌, ◌≤◌}
+use Prim.Native.Nat.{ℕ}
 use native.Mathlib.Omega.{arith}
 use native.Mathlib.Numerals.{add-one}
-use mathlib.Core.Path.{◌≡◌, refl, ap, ◌∙◌, subst}
-use lib.ListN.{length, get_or}
-use borrow.Author.Rules.{rules}
-use Rattle.links.specs.Links.{Still, Matrix, LawfulMatrix}
+use mathlib.Core.Path.{refl, ap, ◌∙◌, subst}
+use lib.ListN.{length}
 use Rattle.links.specs.Build.{Partial}
 use Rattle.links.proofs.Build.{partial_joinable, partial_next, link_last_length, link_last_still}
 use Rattle.links.proofs.link_nodes.Goals as goal

@@ -1,12 +1,8 @@
 use Prim.Native.Nat.{ℕ, ◌-◌, ◌≤◌}
-use native.Mathlib.Omega.{arith}
-use native.Mathlib.Numerals.{add-one}
-use mathlib.Core.Path.{◌≡◌, refl, ap, ◌∙◌, subst}
+use mathlib.Core.Path.{◌≡◌}
 use lib.ListN.{length, get_or}
-use borrow.Author.Rules.{rules}
 use Rattle.links.specs.Links.{Still, Matrix, LawfulMatrix}
 use Rattle.links.specs.Build.{Partial}
-use Rattle.links.proofs.Build.{partial_joinable, partial_next, link_last_length, link_last_still}
 use Rattle.links.proofs.link_nodes.Given as goal
 
 abbrev pub invariant-loop-x : goal.invariant-loop-x

@@ -1,11 +1,6 @@
 -- `links::purge_column` meets its contract: after each turn the column's live rows before k are hidden. Assumes nothing.
-use mathlib.Core.Bool.{cond}
-use Prim.Native.Nat.{◌-◌, ◌<◌}
 use native.Mathlib.Omega.{arith}
-use lib.Dec.{eqb}
-use borrow.Author.Rules.{rules}
-use Rattle.links.specs.Cover.{Reduced, Holds, Open}
-use Rattle.links.proofs.Cover.{Walk, walk_start, walk_hidable, walk_small, walk_less, walk_next, walk_length, walk_end}
+use Rattle.links.proofs.Cover.{walk_start, walk_hidable, walk_small, walk_less, walk_next, walk_length, walk_end}
 use Rattle.links.proofs.purge_column.Goals as goal
 
 pub offset_bounds-links-c : goal.offset_bounds-links-c

@@ -1,10 +1,8 @@
 use mathlib.Core.Bool.{cond}
 use Prim.Native.Nat.{◌-◌, ◌<◌}
-use native.Mathlib.Omega.{arith}
 use lib.Dec.{eqb}
-use borrow.Author.Rules.{rules}
 use Rattle.links.specs.Cover.{Reduced, Holds, Open}
-use Rattle.links.proofs.Cover.{Walk, walk_start, walk_hidable, walk_small, walk_less, walk_next, walk_length, walk_end}
+use Rattle.links.proofs.Cover.{Walk}
 use Rattle.links.proofs.purge_column.Given as goal
 
 abbrev pub invariant-loop-k : goal.invariant-loop-k

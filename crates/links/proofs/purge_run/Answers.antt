@@ -1,9 +1,6 @@
 -- `links::purge_run` meets its contract: after each turn the columns of the nodes before y are covered. Assumes nothing.
-use Prim.Native.Nat.{◌-◌}
 use native.Mathlib.Omega.{arith}
-use borrow.Author.Rules.{rules}
-use Rattle.links.specs.Cover.{Reduced, Holds, Run}
-use Rattle.links.proofs.Select.{Running, running_start, running_length, running_small, running_coverable, running_next, running_end}
+use Rattle.links.proofs.Select.{running_start, running_length, running_small, running_coverable, running_next, running_end}
 use Rattle.links.proofs.purge_run.Goals as goal
 
 pub loop-y-init : goal.loop-y-init

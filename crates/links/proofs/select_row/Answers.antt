@@ -1,7 +1,6 @@
 -- `links::select_row` meets its contract: it takes a copy of the row's kind and covers the columns that are used up. Assumes nothing.
 use native.Mathlib.Omega.{arith}
 use Rattle.links.proofs.Search.{sel_small, sel_takes, sel_runnable, sel_done, sel_first}
-use borrow.Author.Rules.{rules}
 use Rattle.links.proofs.select_row.Goals as goal
 
 pub offset_bounds-links-k : goal.offset_bounds-links-k

@@ -1,5 +1,4 @@
 -- `links::show_one` meets its contract: both arms are the two cases of `show_one`. Assumes nothing.
-use borrow.Author.Rules.{rules}
 use Rattle.links.proofs.Steps.{up_asked, relink_asked, show_same, show_other}
 use Rattle.links.proofs.show_one.Goals as goal
 

@@ -1,12 +1,7 @@
 -- `links::show_row` meets its contract: after each turn the row's nodes below y are still hidden, and no others. Assumes nothing.
-use Prim.Native.Nat.{ℕ}
 use native.Mathlib.Omega.{arith}
-use mathlib.Core.Path.{◌≡◌, sym, ap, ◌∙◌}
-use mathlib.Core.List.{List}
-use mathlib.Core.Bool.{true}
-use borrow.Author.Rules.{rules}
-use Rattle.links.specs.Cover.{Reduced, Holds, hide}
-use Rattle.links.proofs.Rows.{Rowed, hidden_small, rowed_length, row_first, showing_start, showing_one, showing_next, showing_end, hide_length}
+use mathlib.Core.Path.{sym, ap, ◌∙◌}
+use Rattle.links.proofs.Rows.{hidden_small, rowed_length, row_first, showing_start, showing_one, showing_next, showing_end, hide_length}
 use lib.ListN.{length}
 use Rattle.links.proofs.show_row.Goals as goal
 

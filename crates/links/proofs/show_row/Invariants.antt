@@ -1,12 +1,9 @@
 use Prim.Native.Nat.{ℕ}
-use native.Mathlib.Omega.{arith}
-use mathlib.Core.Path.{◌≡◌, sym, ap, ◌∙◌}
+use mathlib.Core.Path.{◌≡◌}
 use mathlib.Core.List.{List}
 use mathlib.Core.Bool.{true}
-use borrow.Author.Rules.{rules}
 use Rattle.links.specs.Cover.{Reduced, Holds, hide}
-use Rattle.links.proofs.Rows.{Rowed, hidden_small, rowed_length, row_first, showing_start, showing_one, showing_next, showing_end, hide_length}
-use lib.ListN.{length}
+use Rattle.links.proofs.Rows.{Rowed}
 use Rattle.links.proofs.show_row.Given as goal
 
 abbrev pub invariant-loop-y : goal.invariant-loop-y

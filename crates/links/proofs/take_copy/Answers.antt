@@ -1,6 +1,5 @@
 -- `links::take_copy` meets its contract: it stores one less where the kind's copies stand, and tests for the last copy as `cond` does. Assumes nothing.
 use Rattle.links.proofs.Copies.{takes_some, takes_spent, takes_last, takes_more}
-use borrow.Author.Rules.{rules}
 use Rattle.links.proofs.take_copy.Goals as goal
 
 pub overflow_sub-links : goal.overflow_sub-links

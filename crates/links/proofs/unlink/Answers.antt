@@ -1,5 +1,4 @@
 -- `links::unlink` meets its contract: its two stores are those of the definition. Assumes nothing.
-use borrow.Author.Rules.{rules}
 use native.Mathlib.Omega.{arith}
 use lib.ListN.{length-set}
 use Rattle.links.specs.Links.{unlink}

@@ -1,11 +1,7 @@
 -- `links::unpurge_column` meets its contract: after each turn the column's live rows up to k are still hidden, and no others. Assumes nothing.
-use Prim.Native.Nat.{ℕ, ◌<◌}
 use native.Mathlib.Omega.{arith}
-use mathlib.Core.Path.{◌≡◌, sym, ◌∙◌}
-use mathlib.Core.List.{List}
-use borrow.Author.Rules.{rules}
-use Rattle.links.specs.Cover.{Reduced, Holds, Open, cover}
-use Rattle.links.proofs.Cover.{Unwalk, unwalk_start, unwalk_hidden, unwalk_small, unwalk_less, unwalk_next, unwalk_length, unwalk_end, covered_length}
+use mathlib.Core.Path.{sym, ◌∙◌}
+use Rattle.links.proofs.Cover.{unwalk_start, unwalk_hidden, unwalk_small, unwalk_less, unwalk_next, unwalk_length, unwalk_end, covered_length}
 use Rattle.links.proofs.unpurge_column.Goals as goal
 
 pub offset_bounds-links-c : goal.offset_bounds-links-c

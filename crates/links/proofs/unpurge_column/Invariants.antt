@@ -1,10 +1,8 @@
 use Prim.Native.Nat.{ℕ, ◌<◌}
-use native.Mathlib.Omega.{arith}
-use mathlib.Core.Path.{◌≡◌, sym, ◌∙◌}
+use mathlib.Core.Path.{◌≡◌}
 use mathlib.Core.List.{List}
-use borrow.Author.Rules.{rules}
 use Rattle.links.specs.Cover.{Reduced, Holds, Open, cover}
-use Rattle.links.proofs.Cover.{Unwalk, unwalk_start, unwalk_hidden, unwalk_small, unwalk_less, unwalk_next, unwalk_length, unwalk_end, covered_length}
+use Rattle.links.proofs.Cover.{Unwalk}
 use Rattle.links.proofs.unpurge_column.Given as goal
 
 abbrev pub invariant-loop-k : goal.invariant-loop-k

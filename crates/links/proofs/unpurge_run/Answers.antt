@@ -1,11 +1,7 @@
 -- `links::unpurge_run` meets its contract: after each turn the columns of the nodes before y are still covered, and no others. Assumes nothing.
-use Prim.Native.Nat.{ℕ, ◌-◌}
 use native.Mathlib.Omega.{arith}
-use mathlib.Core.Path.{◌≡◌, sym, ◌∙◌}
-use mathlib.Core.List.{List}
-use borrow.Author.Rules.{rules}
-use Rattle.links.specs.Cover.{Reduced, Holds, Run, run_to}
-use Rattle.links.proofs.Select.{Running, ran_start, ran_small, ran_covered, ran_next, ran_end, ran_length, running_length}
+use mathlib.Core.Path.{sym, ◌∙◌}
+use Rattle.links.proofs.Select.{ran_start, ran_small, ran_covered, ran_next, ran_end, ran_length, running_length}
 use Rattle.links.proofs.unpurge_run.Goals as goal
 
 pub loop-y-init : goal.loop-y-init

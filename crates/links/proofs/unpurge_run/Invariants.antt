@@ -1,10 +1,8 @@
 use Prim.Native.Nat.{ℕ, ◌-◌}
-use native.Mathlib.Omega.{arith}
-use mathlib.Core.Path.{◌≡◌, sym, ◌∙◌}
+use mathlib.Core.Path.{◌≡◌}
 use mathlib.Core.List.{List}
-use borrow.Author.Rules.{rules}
 use Rattle.links.specs.Cover.{Reduced, Holds, Run, run_to}
-use Rattle.links.proofs.Select.{Running, ran_start, ran_small, ran_covered, ran_next, ran_end, ran_length, running_length}
+use Rattle.links.proofs.Select.{Running}
 use Rattle.links.proofs.unpurge_run.Given as goal
 
 abbrev pub invariant-loop-y : goal.invariant-loop-y

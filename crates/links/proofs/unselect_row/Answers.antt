@@ -1,7 +1,6 @@
 -- `links::unselect_row` meets its contract: it uncovers the columns and gives the copy back, in the reverse order of `select_row`. Assumes nothing.
 use native.Mathlib.Omega.{arith}
 use Rattle.links.proofs.Search.{unsel_small, unsel_ran, unsel_gives, unsel_back}
-use borrow.Author.Rules.{rules}
 use Rattle.links.proofs.unselect_row.Goals as goal
 
 pub offset_bounds-links-k : goal.offset_bounds-links-k

@@ -1,15 +1,8 @@
 -- `texts::put_word` meets its contract. The loop's invariant: the word's first i bytes stand from `at` on, and the rest is as it was. Assumes nothing.
-use Prim.Native.Nat.{◌-◌, ◌≤◌}
-use mathlib.Core.Path.{◌≡◌}
 use native.Mathlib.Omega.{arith}
 use borrow.Author.Rules.{rules}
-use lib.ListN.{length}
-use lib.Seq.{paste, paste-zero}
 use Rattle.texts.proofs.PutLaws.{paste_next, put_all}
 use Rattle.texts.proofs.put_word.Goals as goal
-
-pub loop-i-init : goal.loop-i-init
-loop-i-init c = let a = c.args in (search rules, omega arith, paste-zero a.out.now a.at a.word.now)
 
 pub loop-i-preserved : goal.loop-i-preserved
 loop-i-preserved c =

@@ -37,12 +37,12 @@ loop-i-preserved c =
     let pre = c.requires in
     let h = c.loop-i-test.true in
     elim c.if-cells-i-eq1.branch [
-      | then-cells-i-eq1 w ↦ let u = w.1 in
-          let low = w.2.ensures in
-          let high = w.6.ensures in
-          all_more inv h w.if-cells-i-eq1.true pre.fit pre.size (as_cell u.result) u.ensures.0 (ap as_cell w.7 ∙ cell_path low.0 low.1 low.2)
-          (ap as_cell w.8 ∙ cell_path high.0 high.1 high.2)
-      | else-cells-i-eq1 w ↦ rw (w.1, w.2) (all_same inv h w.if-cells-i-eq1.false)
+      | then-cells-i-eq1 w ↦ let u = w.cell_at-u in
+          let low = w.lower-low.ensures in
+          let high = w.higher-high.ensures in
+          all_more inv h w.if-cells-i-eq1.true pre.fit pre.size (as_cell u.result) u.ensures.0 (ap as_cell w.low-is ∙ cell_path low.0 low.1 low.2)
+          (ap as_cell w.high-is ∙ cell_path high.0 high.1 high.2)
+      | else-cells-i-eq1 w ↦ rw (w.low-is, w.high-is) (all_same inv h w.if-cells-i-eq1.false)
     ]
 
 pub returns-then-high-eq0 : goal.returns-then-high-eq0
