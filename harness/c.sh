@@ -1,8 +1,8 @@
 #!/bin/sh
-# The header as C99 and as C++17, without a warning; then Soma from C (soma.c), linked with the static library (`rt staticlib ferghuul` at the
+# The header as C99 and as C++17, without a warning; then Soma from C (soma.c), linked with the static library (`rt lib` in crates/ferghuul at the
 # root). `c.sh compile` stops before the library. Status 1 on a difference.
 cd "$(dirname "$0")" || exit 1
-library=../target/staticlib/libferghuul.a
+library=../crates/ferghuul/out/libferghuul.a
 folder=$(mktemp -d) || exit 1
 trap 'rm -r "$folder"' EXIT
 ${CC:-cc} -std=c99 -Wall -Wextra -pedantic -Werror -I../include -O2 -c soma.c -o "$folder/soma.o" || exit 1

@@ -1,9 +1,9 @@
 #!/bin/sh
 # Holds record and answer in C to their layout: compiles layout.c, whose assertions stand for sizes and offsets with a wood and before
-# it, with `missing` and before it, links it with the static library (`rt staticlib ferghuul` at the root), runs it and compares what it
+# it, with `missing` and before it, links it with the static library (`rt lib` in crates/ferghuul), runs it and compares what it
 # lists with the model (oracle/model.py). `layout.sh compile` stops before the library. Status 1 on a difference.
 cd "$(dirname "$0")" || exit 1
-library=../target/staticlib/libferghuul.a
+library=../crates/ferghuul/out/libferghuul.a
 folder=$(mktemp -d) || exit 1
 trap 'rm -r "$folder"' EXIT
 ${CC:-cc} -std=c11 -Wall -Wextra -pedantic -Werror -I../include -O2 -c layout.c -o "$folder/layout.o" || exit 1

@@ -3,11 +3,11 @@
 # ratio as a last column. Nothing is built here: it says what is missing.
 set -eu
 cd "$(dirname "$0")/.."
-harness=harness/target/release oracle=oracle/target/release pack=target/bin/pack trays=harness/trays
-for file in $harness/race $harness/stream $harness/programs $harness/stack $oracle/oracle $oracle/trays $pack target/staticlib/libferghuul.a; do
-    [ -e $file ] || { echo "$file is missing: rt check pack, rt staticlib ferghuul, then cargo in oracle/ and harness/ (README.md)" >&2; exit 1; }
+harness=harness/target/release oracle=oracle/target/release pack=crates/pack/out/pack trays=harness/trays
+for file in $harness/race $harness/stream $harness/programs $harness/stack $oracle/oracle $oracle/trays $pack crates/ferghuul/out/libferghuul.a; do
+    [ -e $file ] || { echo "$file is missing: (cd crates/pack && rt run), (cd crates/ferghuul && rt lib), then cargo in oracle/ and harness/ (README.md)" >&2; exit 1; }
 done
-[ $harness/race -nt target/staticlib/libferghuul.a ] || { echo "the library is newer than the harness" >&2; exit 1; }
+[ $harness/race -nt crates/ferghuul/out/libferghuul.a ] || { echo "the library is newer than the harness" >&2; exit 1; }
 kept=$(mktemp -d)
 trap 'rm -rf "$kept"' EXIT
 

@@ -1,5 +1,5 @@
 /* Every packing of a tray, page by page. What the call answers is proved for every input; docs/INTERFACE.md says it in full.
-   C99 and C++17, x86-64. Link target/staticlib/libferghuul.a, which `rt staticlib ferghuul` writes. */
+   C99 and C++17, x86-64. Link crates/ferghuul/out/libferghuul.a, which `rt lib` in crates/ferghuul writes. */
 #ifndef FERGHUUL_H
 #define FERGHUUL_H
 

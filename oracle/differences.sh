@@ -1,12 +1,12 @@
 #!/bin/sh
 # Runs every input of docs/DIFFERENCES.md and compares what comes out with what
 # the page says: the original, called without refusals, and this project's
-# definition, by the model and by the built pack (../target/bin/pack), where
+# definition, by the model and by the built pack (../crates/pack/out/pack), where
 # there is one. Exit status 1 if anything differs.
 cd "$(dirname "$0")" || exit 1
 cargo build --release --offline --quiet || exit 1
 raw=target/release/raw
-pack=../target/bin/pack
+pack=../crates/pack/out/pack
 [ -x $pack ] || pack=
 parts=$(mktemp -d) || exit 1
 trap 'rm -r "$parts"' EXIT

@@ -1,8 +1,8 @@
 #!/bin/sh
 # Runs every example of docs/TRAYS.md and compares what comes out with what the page says: by the model, and by the built pack
-# (../target/bin/pack), where there is one. Exit status 1 if anything differs.
+# (../crates/pack/out/pack), where there is one. Exit status 1 if anything differs.
 cd "$(dirname "$0")" || exit 1
-pack=../target/bin/pack
+pack=../crates/pack/out/pack
 [ -x $pack ] || pack=
 parts=$(mktemp -d) || exit 1
 trap 'rm -r "$parts"' EXIT

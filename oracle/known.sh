@@ -3,11 +3,11 @@
 # trays, with the original and with the model. Exit status 1 on any difference.
 #   known.sh        about a minute
 #   known.sh long   also Conway's 5 by 5 by 5, about a minute more
-# The built pack (../target/bin/pack), where there is one, is held to the same.
+# The built pack (../crates/pack/out/pack), where there is one, is held to the same.
 cd "$(dirname "$0")" || exit 1
 cargo build --release --offline --quiet || exit 1
 oracle=target/release/oracle
-pack=../target/bin/pack
+pack=../crates/pack/out/pack
 [ -x $pack ] || pack=
 failed=0
 got=$(mktemp) || exit 1

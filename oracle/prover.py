@@ -703,17 +703,13 @@ IDENTIFIED_TERMS = {
 }
 
 SPEC = """\
-use Prim.Native.Nat.{ℕ, zero, suc, _/_, _%_}
-use mathlib.Core.Bool.{Bool, true, false, not, cond, _&&_}
-use mathlib.Core.List.{List, [], _∷_, _++_, map}
-use lib.Dec.{eqb}
-use lib.ListN.{length, drop, replicate}
-use Rattle·lists.specs.Lists.{same, joined, each}
-use Rattle·definitions.specs.Refusals.{Call, refusal}
-use Rattle·definitions.specs.Outcomes.{Outcome, outcome}
-use Rattle·definitions.specs.declared.Record.{Record}
-use Rattle·definitions.specs.declared.SolverKind.{SolverKind}
-use Rattle·definitions.specs.declared.SolverKind.the-variants.{Auto, Naive, Fast, KnuthAlgorithm}
+use Rattle.std.specs.Prelude.{ℕ, zero, suc, ◌/◌, ◌%◌, Bool, true, false, not, cond, ◌&&◌, List, [], ◌∷◌, ◌++◌, map, eqb, length, drop, replicate}
+use Rattle.lists.specs.Lists.{same, joined, each}
+use Rattle.definitions.specs.Refusals.{Call, refusal}
+use Rattle.definitions.specs.Outcomes.{Outcome, outcome}
+use Rattle.definitions.specs.declared.Record.{Record}
+use Rattle.definitions.specs.declared.SolverKind.{SolverKind}
+use Rattle.definitions.specs.declared.SolverKind.TheVariants.{Auto, Naive, Fast, KnuthAlgorithm}
 
 abbrev pub digits : ℕ → ℕ → List ℕ → List ℕ
 digits zero k rest = rest
@@ -738,9 +734,9 @@ call engine turned mirrored b ps bytes skip room work links =
 abbrev pub pairs : List ℕ → List ℕ
 pairs ns = each ns (λ n. n / 1000 ∷ n % 1000 ∷ [])
 
-abbrev pub sameTest : Bool → Bool → Bool
-sameTest true b = b
-sameTest false b = not b
+abbrev pub same_test : Bool → Bool → Bool
+same_test true b = b
+same_test false b = not b
 
 pub record Line : Type 0 where
   pub asked : Call
@@ -750,11 +746,11 @@ pub record Line : Type 0 where
 abbrev pub page : Call → Bool → List (List ℕ) → Line
 page l further answers = record { asked = l; further = further; answers = answers }
 
-unfoldable pub isPage : Line → Bool
-isPage x =
-    let o = outcome (x .asked) in
-    let bytes = joined (map pairs (x .answers)) in
-    eqb (o .number) 0 && (eqb (o .written) (length (x .answers)) && (sameTest (o .further) (x .further) && same (o .answers) (bytes ++ drop (length bytes) (x .asked .answers))))
+unfoldable pub is_page : Line → Bool
+is_page x =
+    let o = outcome x.asked in
+    let bytes = joined (map pairs x.answers) in
+    eqb o.number 0 && (eqb o.written (length x.answers) && (same_test o.further x.further && same o.answers (bytes ++ drop (length bytes) x.asked.answers)))
 
 pub record Given : Type 0 where
   pub lent : Call
@@ -763,8 +759,8 @@ pub record Given : Type 0 where
 abbrev pub gives : Call → ℕ → Given
 gives l n = record { lent = l; number = n }
 
-unfoldable pub isGiven : Given → Bool
-isGiven x = eqb (refusal (x .lent)) (x .number)
+unfoldable pub is_given : Given → Bool
+is_given x = eqb (refusal x.lent) x.number
 
 abbrev pub bit : ℕ → ℕ → Bool
 bit n power = eqb (n / power % 2) 1
@@ -773,11 +769,11 @@ abbrev pub told : Bool → ℕ
 told true = 1
 told false = 0
 
-abbrev pub placeIn : List (List ℕ) → List ℕ → ℕ
-placeIn [] e = 0
-placeIn (c ∷ cs) e = let n = placeIn cs e in cond (same c e) 0 (suc n)
+abbrev pub place_in : List (List ℕ) → List ℕ → ℕ
+place_in [] e = 0
+place_in (c ∷ cs) e = let n = place_in cs e in cond (same c e) 0 (suc n)
 """
-NAMES_OF_LINES = {"pages": ("page", "isPage", "Line"), "refusals": ("gives", "isGiven", "Given")}
+NAMES_OF_LINES = {"pages": ("page", "is_page", "Line"), "refusals": ("gives", "is_given", "Given")}
 
 
 def record(sides, count, wood, start):
@@ -800,7 +796,7 @@ def computed_names(specs):
         with open(os.path.join(specs, module + ".antt"), encoding="utf-8") as file:
             text = file.read()
         names[module] = re.findall(r"^unfoldable pub (\S+) :", text, re.M)
-        used = re.findall(r"^use Rattle·definitions·specs\.specs\.(\w+)\.\{", text, re.M)
+        used = re.findall(r"^use Rattle\.definitions\.specs\.(\w+)\.\{", text, re.M)
         ahead += [name for name in dict.fromkeys(used) if name not in ahead]
     every = [name for own in names.values() for name in own]
     assert len(every) == len(set(every)), "two definitions share a name"
@@ -845,21 +841,17 @@ class Prover:
             spec.append("unfoldable pub %s : List %s\n%s =\n%s    []\n" % (name, type_, name, rows))
         own = " ".join(name for name, _, _ in tables)
         laws = [
-            "use Prim.Native.Nat.{ℕ}\n",
-            "use mathlib.Core.Bool.{Bool, true, false}\n",
-            "use mathlib.Core.List.{List, [], _∷_}\n",
-            "use lib.Dec.{T, eqb}\n",
-            "use lib.ListN.{getD, take, drop}\n",
-            "use Rattle·lists.specs.Lists.{all}\n",
-            "use Rattle·definitions.specs.declared.SolverKind.the-variants."
+            "use Rattle.std.proofs.Common.{ℕ, Bool, true, false, List, [], ◌∷◌, T, eqb, get_or, take, drop}\n",
+            "use Rattle.lists.specs.Lists.{all}\n",
+            "use Rattle.definitions.specs.declared.SolverKind.TheVariants."
             "{Auto, Naive, Fast, KnuthAlgorithm}\n",
         ]
         laws += [
-            "use Rattle·definitions.specs.%s.{%s}\n" % (module, ", ".join(names))
+            "use Rattle.definitions.specs.%s.{%s}\n" % (module, ", ".join(names))
             for module, names in self.names.items()
         ]
-        laws.append("use Rattle·sample·specs.specs.Sample.{%s}\n" % ", ".join(
-            "digits at call isPage isGiven bit told placeIn".split() + own.split()
+        laws.append("use Rattle.sample.specs.Sample.{%s}\n" % ", ".join(
+            "digits at call is_page is_given bit told place_in".split() + own.split()
         ))
         unfolded = " ".join(name for names in self.names.values() for name in names)
         for name, proposition, beside in theorems:
@@ -922,22 +914,22 @@ class Prover:
             return "refusal %d" % self.read([("refusal (%s)" % line.call, (1, 2, 4, 8))])[0]
         outcome = "(outcome (%s))" % line.call
         number, written, further = self.read([
-            (outcome + " .number", (1, 2, 4, 8)),
-            (outcome + " .written", (1, 2, 4, 8, 16)),
-            ("told (%s .further)" % outcome, (1,)),
+            (outcome + ".number", (1, 2, 4, 8)),
+            (outcome + ".written", (1, 2, 4, 8, 16)),
+            ("told %s.further" % outcome, (1,)),
         ])
         if number:
             return "refusal %d" % number
         # Which of the tray's packings an entry is; if none, its bytes.
         known = listed("(" + listed(map(str, answer)) + ")" for answer in line.packings)
-        entry = "take %d (drop %%d (%s .answers))" % (line.size, outcome)
+        entry = "take %d (drop %%d %s.answers)" % (line.size, outcome)
         places = self.read([
-            ("placeIn (%s) (%s)" % (known, entry % (line.size * at)), (1, 2, 4, 8))
+            ("place_in (%s) (%s)" % (known, entry % (line.size * at)), (1, 2, 4, 8))
             for at in range(written)
         ])
         answers = [
             line.packings[place] if place < len(line.packings) else self.read([
-                ("getD (%s) %d 0" % (entry % (line.size * at), byte), (1, 2, 4, 8, 128))
+                ("get_or (%s) %d 0" % (entry % (line.size * at), byte), (1, 2, 4, 8, 128))
                 for byte in range(line.size)
             ])
             for at, place in enumerate(places)

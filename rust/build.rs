@@ -1,7 +1,7 @@
-//! Links target/staticlib/libferghuul.a, which `rt staticlib ferghuul` writes.
+//! Links crates/ferghuul/out/libferghuul.a, which `rt lib` in crates/ferghuul writes.
 
 fn main() {
-    let folder = concat!(env!("CARGO_MANIFEST_DIR"), "/../target/staticlib");
+    let folder = concat!(env!("CARGO_MANIFEST_DIR"), "/../crates/ferghuul/out");
     println!("cargo:rustc-link-search=native={folder}");
     println!("cargo:rustc-link-lib=static=ferghuul");
     println!("cargo:rerun-if-changed={folder}/libferghuul.a");
