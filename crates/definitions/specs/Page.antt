@@ -1,5 +1,5 @@
 -- Document 01, "Page".
-use Rattle.std.specs.Prelude.{ℕ, ◌+◌, ◌-◌, Bool, List, ltb, length, take, drop}
+use Rattle.std.specs.Prelude.{ℕ, ◌+◌, Bool, List, ltb, length, take, drop}
 
 -- "The page holds list entries from skip on, as many as fit whole. The result is how many were written, the smaller of the capacity and the entries from
 -- skip on (0 past the end), and whether a further entry follows: exactly when skip + written, as whole numbers, is below the list's length."

@@ -1,6 +1,6 @@
 -- Where a search may leave a branch early. Nothing here is of document 01: these are the engines' lists with such branches left out, and the claim that
 -- what is listed stays as it is. Proved in PruningLaws (theorems).
-use Rattle.std.specs.Prelude.{Bool, true, false, cond, not, ◌&&◌, ◌||◌, List, [], ◌∷◌, map, ◌≡◌, ltb, eqb, length, get_or}
+use Rattle.std.specs.Prelude.{Bool, true, false, cond, not, ◌&&◌, ◌||◌, List, [], ◌∷◌, ◌≡◌, ltb, eqb, length, get_or}
 use Rattle.lists.specs.Lists.{all, any, keep, each, member}
 use Rattle.definitions.specs.Maps.{Map, turns, mirrorings, map_cell}
 use Rattle.definitions.specs.Placements.{Placement, Compiled, compile}

@@ -1,7 +1,6 @@
 -- `masks::Mask::has_cell` meets its contract: it reads the bit that `has` speaks of, of the same word; no number from 128 on is in a set. Assumes nothing.
 use mathlib.Core.Path.{sym}
 use native.Mathlib.Omega.{arith}
-use borrow.Author.Rules.{rules}
 use Rattle.masks.specs.Masks.{hit}
 use Rattle.masks.proofs.MaskLaws.{hit2_low, hit2_high, beyond}
 use Rattle.masks.proofs.Mask.has_cell.Goals as goal

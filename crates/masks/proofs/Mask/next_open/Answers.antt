@@ -2,7 +2,6 @@
 use Prim.Native.Nat.{◌-◌, ◌/◌, ◌^◌}
 use native.Mathlib.Omega.{arith}
 use lib.Count.{trailing_le}
-use borrow.Author.Rules.{rules}
 use Rattle.masks.proofs.Trailing.{open_low, open_across, open_high, open_none}
 use Rattle.masks.proofs.Mask.next_open.Goals as goal
 

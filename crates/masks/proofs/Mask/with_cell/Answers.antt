@@ -1,7 +1,6 @@
 -- `masks::Mask::with_cell` meets its contract: `1 << k` has the bit k alone, in the word that has the number; what is no cell changes nothing. Assumes nothing.
 use mathlib.Core.Path.{sym, ◌∙◌}
 use native.Mathlib.Omega.{arith}
-use borrow.Author.Rules.{rules}
 use Rattle.masks.proofs.MaskLaws.{cell_low, cell_high, cell_taken, cell_left}
 use Rattle.masks.proofs.Mask.with_cell.Goals as goal
 
