@@ -6,7 +6,9 @@ pub count_down-requires : goal.count_down-requires
 count_down-requires c = let h = down_asked c.requires _ c.wide-j.ensures in record { in_bounds = h.0; j_bound = h.1.0; bound = h.1.1 }
 
 pub count_down-requires-else-y-x : goal.count_down-requires-else-y-x
-count_down-requires-else-y-x c = let h = down_asked_2 c.requires _ c.wide-j.ensures _ c.unlink.ensures in record { in_bounds = h.0; j_bound = h.1.0; bound = h.1.1 }
+count_down-requires-else-y-x c =
+    let h = down_asked_2 c.requires _ c.wide-j.ensures _ c.unlink.ensures in
+    record { in_bounds = h.0; j_bound = h.1.0; bound = h.1.1 }
 
 pub returns-then-y-x : goal.returns-then-y-x
 returns-then-y-x c =

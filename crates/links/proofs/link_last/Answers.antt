@@ -6,7 +6,9 @@ pub insert-requires : goal.insert-requires
 insert-requires c = let h = last_join c.requires _ _ c.wide-c.ensures c.wide-u.ensures in record { in_bounds = h.0; x_bound = h.1 }
 
 pub count_up-requires : goal.count_up-requires
-count_up-requires c = let h = last_count c.requires _ _ c.wide-c.ensures c.wide-u.ensures _ c.insert.ensures in record { in_bounds = h.0; j_bound = h.1.0; j_bound_2 = h.1.1 }
+count_up-requires c =
+    let h = last_count c.requires _ _ c.wide-c.ensures c.wide-u.ensures _ c.insert.ensures in
+    record { in_bounds = h.0; j_bound = h.1.0; j_bound_2 = h.1.1 }
 
 pub returns : goal.returns
 returns c =

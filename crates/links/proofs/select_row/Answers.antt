@@ -39,5 +39,6 @@ pub returns : goal.returns
 returns c = record {
   done = λ w uncovered copies primary left s l. sel_done s l _ _ c.wide-first.ensures c.wide-end.ensures _ _ c.take_copy-a.ensures.less
       c.take_copy-a.ensures.first _ c.purge_run.ensures;
-  first = λ w uncovered copies primary left s l. sel_first s l _ _ c.wide-first.ensures c.wide-end.ensures _ _ c.take_copy-a.ensures.less c.take_copy-a.ensures.first;
+  first = λ w uncovered copies primary left s l. sel_first s l _ _ c.wide-first.ensures c.wide-end.ensures _ _
+      c.take_copy-a.ensures.less c.take_copy-a.ensures.first;
 }

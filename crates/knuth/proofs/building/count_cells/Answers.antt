@@ -1,9 +1,7 @@
 -- `knuth::building::count_cells` meets its contract. The loop's invariant: so many of the cells below c are in the mask. Assumes nothing.
-use Prim.Native.Nat.{ℕ, ◌+◌, ◌-◌, ◌≤◌}
+use Prim.Native.Nat.{ℕ, ◌+◌}
 use mathlib.Core.Path.{◌≡◌, sym, ap, ◌∙◌}
-use mathlib.Core.Logic.{⊎_elim}
 use native.Mathlib.Omega.{arith}
-use borrow.Author.Rules.{rules}
 use Rattle.lists.specs.Lists.{below, how_many}
 use Rattle.masks.specs.Masks.{has}
 use Rattle.knuth.proofs.LaidLaws.{count_hit, count_miss}
@@ -16,9 +14,9 @@ loop-c-preserved c =
     let i = c.loop-c.c in
     let n = c.loop-c.invariant.2 in
     elim c.if-has_cell.branch [
-      | then-has_cell w ↦ let e : c.if-has_cell.count ≡ c.loop-c.count + 1 = w.1 in
+      | then-has_cell w ↦ let e : c.if-has_cell.count ≡ c.loop-c.count + 1 = w.count-is in
           (omega arith, omega arith, omega (arith, count_hit (has a.mask) i (sym c.has_cell.ensures ∙ w.if-has_cell.true)))
-      | else-has_cell w ↦ let e : c.if-has_cell.count ≡ c.loop-c.count = w.1 in
+      | else-has_cell w ↦ let e : c.if-has_cell.count ≡ c.loop-c.count = w.count-is in
           (omega arith, omega arith, omega (arith, count_miss (has a.mask) i (sym c.has_cell.ensures ∙ w.if-has_cell.false)))
     ]
 

@@ -1,11 +1,7 @@
-use Prim.Native.Nat.{ℕ, ◌+◌, ◌-◌, ◌≤◌}
-use mathlib.Core.Path.{◌≡◌, sym, ap, ◌∙◌}
-use mathlib.Core.Logic.{⊎_elim}
-use native.Mathlib.Omega.{arith}
-use borrow.Author.Rules.{rules}
+use Prim.Native.Nat.{◌-◌, ◌≤◌}
+use mathlib.Core.Path.{◌≡◌}
 use Rattle.lists.specs.Lists.{below, how_many}
 use Rattle.masks.specs.Masks.{has}
-use Rattle.knuth.proofs.LaidLaws.{count_hit, count_miss}
 use Rattle.knuth.proofs.building.count_cells.Given as goal
 
 abbrev pub invariant-loop-c : goal.invariant-loop-c

@@ -1,9 +1,8 @@
 -- `knuth::building::put_heads` meets its contract. The loop's invariant: the heads below j are laid. Assumes nothing.
-use Prim.Native.Nat.{ℕ, ◌-◌, ◌≤◌}
+use Prim.Native.Nat.{ℕ}
 use mathlib.Core.Path.{◌≡◌, refl, subst}
 use native.Mathlib.Omega.{arith}
 use borrow.Author.Rules.{rules}
-use lib.ListN.{length}
 use Rattle.knuth.specs.Matrix.{Laid, head_nodes}
 use Rattle.knuth.proofs.LaidLaws.{heads_none, heads_more}
 use Rattle.knuth.proofs.building.put_heads.Goals as goal
@@ -13,9 +12,8 @@ loop-j-init c = (search rules, omega arith, heads_none _ 0 refl)
 
 pub loop-j-preserved : goal.loop-j-preserved
 loop-j-preserved c =
-    let a = c.args in
     let f = c.put_node in
-    (search rules, omega arith, heads_more a.links.now c.loop-j.links f.new.0 c.loop-j.j c.loop-j.invariant.2 f.ensures)
+    (search rules, omega arith, heads_more c.args.links.now c.loop-j.links f.new.links c.loop-j.j c.loop-j.invariant.2 f.ensures)
 
 pub returns : goal.returns
 returns c =

@@ -1,10 +1,7 @@
-use Prim.Native.Nat.{ℕ, ◌-◌, ◌≤◌}
-use mathlib.Core.Path.{◌≡◌, refl, subst}
-use native.Mathlib.Omega.{arith}
-use borrow.Author.Rules.{rules}
+use Prim.Native.Nat.{◌-◌, ◌≤◌}
+use mathlib.Core.Path.{◌≡◌}
 use lib.ListN.{length}
 use Rattle.knuth.specs.Matrix.{Laid, head_nodes}
-use Rattle.knuth.proofs.LaidLaws.{heads_none, heads_more}
 use Rattle.knuth.proofs.building.put_heads.Given as goal
 
 abbrev pub invariant-loop-j : goal.invariant-loop-j

@@ -2,7 +2,6 @@
 use native.Mathlib.Omega.{arith}
 use lib.ListN.{length-set}
 use Rattle.knuth.proofs.LaidLaws.{laid_one}
-use borrow.Author.Rules.{rules}
 use Rattle.knuth.proofs.building.put_node.Goals as goal
 
 pub bounds-links-x-2 : goal.bounds-links-x-2
