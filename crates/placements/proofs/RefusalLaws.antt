@@ -11,7 +11,7 @@ use borrow.Author.Tests.{leb-true, leb-false, le-leb, lt-leb}
 use denote.Laws.{Is}
 use denote.Struct.Laws as LL
 use lib.Dec.{T, ltb, leb, eqb, leb→le}
-use lib.ListN.{length, get_or, take, drop, length-drop, length-map, length-replicate, drop_of_length-le}
+use lib.ListN.{length, get_or, take, drop, length-drop, length-replicate, drop_of_length-le}
 use lib.Seq.{length-take-le, drop-cons, get_or-take}
 use Rattle.lists.specs.Lists.{all, any, how_many, sum}
 use Rattle.lists.proofs.TestLaws.{and_left, and_right, is_true, is_false, holds}
@@ -130,7 +130,7 @@ module _ (bytes : List ℕ) (r : Record) (cells : List ℕ) (e : cells ≡ (grid
 
 -- ---- the records of pieces by their places. What owning the struct tells: its records are 16.
 pub records_long : (t : Pieces) → Is B.the_row t (LL.vals B.the_type B'.the_laws t) → length t.records ≡ 16
-records_long t g = sym (length-map t.records _) ∙ (LL.owed B.the_type B'.the_laws t _ g).0.1.0.1
+records_long t g = (LL.owed B.the_type B'.the_laws t _ g).0.1.0.1
 
 pub records_few : (t : Pieces) → t.count ≤ 16 → records_of t ≡ take t.count t.records
 unfolding records_of

@@ -287,7 +287,7 @@ sides_stay g r q e f h =
 -- the sides of the records, from what they stand for
 piece_sides : (bytes new : List ℕ) (q r : Record) → piece_of new q ≡ strip_piece (piece_of bytes r) → sides_of q ≡ (strip (grid_of bytes r)).sides
 unfolding grid_of
-piece_sides bytes new q r e = ap (λ (p : Piece). p.grid.sides) e
+piece_sides bytes _ q r e = ap (λ (p : Piece). p.grid.sides) e
 
 fit_all : (bytes new : List ℕ) (qs rs : List Record) → map (piece_of new) qs ≡ map strip_piece (map (piece_of bytes) rs) → T (all sides_fit rs) → T (all sides_fit qs)
 fit_all bytes new [] rs e h = tt

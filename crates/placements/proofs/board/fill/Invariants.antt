@@ -1,11 +1,8 @@
-use Prim.Native.Nat.{ℕ, ◌≤◌, ◌<◌, ◌-◌}
-use mathlib.Core.List.{List, ◌++◌, append-nil}
-use mathlib.Core.Path.{◌≡◌, ap, ◌∙◌}
-use native.Mathlib.Omega.{arith}
-use borrow.Author.Fill.{fill_none, fill_more}
-use borrow.Author.Rules.{rules}
-use lib.ListN.{length, drop, set, replicate}
-use lib.Seq.{drop-length}
+-- `fill` meets its contract: the first i numbers are n, and what lies behind them is as it was. Assumes nothing.
+use Prim.Native.Nat.{◌≤◌, ◌-◌}
+use mathlib.Core.List.{◌++◌}
+use mathlib.Core.Path.{◌≡◌}
+use lib.ListN.{length, drop, replicate}
 use Rattle.placements.proofs.board.fill.Given as goal
 
 abbrev pub invariant-loop-i : goal.invariant-loop-i

@@ -1,9 +1,7 @@
-use Prim.Native.Nat.{◌≤◌, ◌-◌}
-use mathlib.Core.Path.{◌≡◌, ◌∙◌}
-use native.Mathlib.Omega.{arith}
-use borrow.Author.Rules.{rules}
+use Prim.Native.Nat.{◌≤◌}
+use mathlib.Core.Path.{◌≡◌}
 use lib.ListN.{length, take}
-use Rattle.placements.proofs.FittingLaws.{NumberedFrom, place_in, number_start, number_next, number_end}
+use Rattle.placements.proofs.FittingLaws.{NumberedFrom}
 use Rattle.placements.proofs.board.number_places.Given as goal
 
 abbrev pub invariant-loop-k : goal.invariant-loop-k

@@ -1,5 +1,4 @@
 -- `placements::counting::refusal_of_counts` meets its contract: the tests are the rows 14 and 15, in their order. Assumes nothing.
-use borrow.Author.Rules.{rules}
 use borrow.Author.Tests.{lt-ltb, le-ltb}
 use Rattle.definitions.specs.Refusals.{is_knuth}
 use Rattle.placements.specs.Stages.{count_rows_by}

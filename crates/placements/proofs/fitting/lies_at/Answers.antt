@@ -1,6 +1,5 @@
 -- `lies_at` meets its contract: the origin reaches no further than the cell, so no difference wraps. Assumes nothing.
 use mathlib.Core.Path.{refl}
-use borrow.Author.Rules.{rules}
 use Rattle.definitions.specs.Placements.{lies}
 use Rattle.shape.specs.Coords.{as_cell}
 use Rattle.placements.proofs.FittingLaws.{reach_parts}

@@ -1,5 +1,4 @@
 -- `cells_lie` meets its contract: the cells end in the bytes if they begin there and what is left is long enough. Assumes nothing.
-use borrow.Author.Rules.{rules}
 use Rattle.placements.proofs.RefusalLaws.{lie_not, lie_left}
 use Rattle.placements.proofs.records.cells_lie.Goals as goal
 

@@ -1,6 +1,5 @@
 -- `cells_of` meets its contract: the part of the bytes that begins at the start and has the grid's volume is its cells. Assumes nothing.
 use native.Mathlib.Omega.{arith}
-use borrow.Author.Rules.{rules}
 use Rattle.placements.proofs.RefusalLaws.{cells_end, cells_part}
 use Rattle.placements.proofs.records.cells_of.Goals as goal
 

@@ -1,7 +1,5 @@
 -- `sides_fit` meets its contract: the tests are those of the definition, in its order. Assumes nothing.
 use mathlib.Core.Path.{sym, ◌∙◌}
-use borrow.Author.Rules.{rules}
-use borrow.Author.Tests.{not-true, not-false}
 use Rattle.definitions.specs.Refusals.{sides_fit}
 use Rattle.placements.proofs.records.sides_fit.Goals as goal
 

@@ -1,10 +1,6 @@
 use Prim.Native.Nat.{◌-◌}
-use mathlib.Core.Path.{refl, sym, ◌∙◌}
-use native.Mathlib.Omega.{arith}
-use borrow.Author.Rules.{rules}
-use borrow.Author.Tests.{not-true, not-false}
 use Rattle.definitions.specs.Refusals.{sides_fit}
-use Rattle.placements.proofs.RefusalLaws.{Left, left_fails, left_passes, left_ends, records_long}
+use Rattle.placements.proofs.RefusalLaws.{Left}
 use Rattle.placements.proofs.refusals.all_sides_fit.Given as goal
 
 abbrev pub invariant-loop-i : goal.invariant-loop-i

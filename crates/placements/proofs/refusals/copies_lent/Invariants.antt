@@ -1,7 +1,6 @@
 use Prim.Native.Nat.{◌+◌, ◌-◌, ◌*◌, ◌≤◌}
 use mathlib.Core.Path.{◌≡◌}
-use native.Mathlib.Omega.{arith}
-use Rattle.placements.proofs.RefusalLaws.{copies_from, copies_next, copies_end, records_long}
+use Rattle.placements.proofs.RefusalLaws.{copies_from}
 use Rattle.placements.proofs.refusals.copies_lent.Given as goal
 
 abbrev pub invariant-loop-i : goal.invariant-loop-i

@@ -1,5 +1,4 @@
 -- `refusal_of_slices` meets its contract: the tests are the rows 12 and 13, in their order. Assumes nothing.
-use borrow.Author.Rules.{rules}
 use borrow.Author.Tests.{lt-ltb, le-ltb}
 use Rattle.definitions.specs.Refusals.{is_knuth}
 use Rattle.placements.specs.Stages.{slice_rows}

@@ -1,9 +1,5 @@
 use Prim.Native.Nat.{◌-◌}
-use mathlib.Core.Path.{refl}
-use native.Mathlib.Omega.{arith}
-use Rattle.placements.proofs.RefusalLaws.{records_long}
-use Rattle.placements.proofs.MergingLaws.{record_fits}
-use Rattle.placements.proofs.StrippingLaws.{StrippedTo, stripped_none, stripped_next, stripped_all}
+use Rattle.placements.proofs.StrippingLaws.{StrippedTo}
 use Rattle.placements.proofs.stripping.strip_pieces.Given as goal
 
 abbrev pub invariant-loop-i : goal.invariant-loop-i

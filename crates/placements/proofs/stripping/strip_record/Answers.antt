@@ -1,7 +1,6 @@
 -- `strip_record` meets its contract: the record of the window that `strip_grid` answers stands for the stripped grid. Assumes nothing.
 use mathlib.Core.Path.{sym, ap, ◌∙◌}
 use native.Mathlib.Omega.{arith}
-use borrow.Author.Rules.{rules}
 use Rattle.definitions.specs.Grid.{volume}
 use Rattle.theorems.proofs.RefusalLaws.{fit-volume}
 use Rattle.placements.proofs.RefusalLaws.{grid_is, grid_whole}
@@ -23,4 +22,5 @@ returns c =
     let cells = c.cells_of-cells in
     let bytes = a.bytes.now in
     let is = grid_is bytes a.r s.result cells.result.now s.ensures cells.ensures.0 in
-    strips_record bytes a.r _ is (cells.ensures.1 ∙ ap volume (sym s.ensures)) c.requires.0 c.strip_grid-w.result a.out.now _ a.start c.strip_grid-w.ensures c.requires.2
+    strips_record bytes a.r _ is (cells.ensures.1 ∙ ap volume (sym s.ensures)) c.requires.0 c.strip_grid-w.result a.out.now _
+    a.start c.strip_grid-w.ensures c.requires.2
