@@ -1,7 +1,6 @@
 -- `turned_at` meets its contract: `turned_get` has the same for slice and sides. Assumes nothing.
 use mathlib.Core.Bool.{cond, ◌&&◌}
 use mathlib.Core.Path.{sym, ap, ◌∙◌}
-use borrow.Author.Rules.{rules}
 use Rattle.definitions.specs.Grid.{Sides, byte_at}
 use Rattle.definitions.specs.Maps.{map_of, map_grid}
 use Rattle.theorems.proofs.MapLaws.{mapped_sides}

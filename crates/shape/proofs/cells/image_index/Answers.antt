@@ -6,7 +6,6 @@ use Rattle.definitions.specs.Maps.{map_of, map_cell}
 use Rattle.shape.specs.Coords.{as_sides, as_cell, Fit}
 use Rattle.shape.specs.Places.{image_place}
 use Rattle.shape.proofs.PlaceLaws.{mapped_fit, image_in_box, image_lt}
-use borrow.Author.Rules.{rules}
 use Rattle.shape.proofs.cells.image_index.Goals as goal
 
 pub place-requires : goal.place-requires

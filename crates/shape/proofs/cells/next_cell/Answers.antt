@@ -1,6 +1,5 @@
 -- `next_cell` meets its contract: the first of z, y and x that can grow does, and those behind it start again. Assumes nothing.
 use native.Mathlib.Omega.{arith}
-use borrow.Author.Rules.{rules}
 use Rattle.shape.specs.Coords.{as_sides, as_cell}
 use Rattle.shape.proofs.PlaceLaws.{next_z, next_y, next_x}
 use Rattle.shape.proofs.cells.next_cell.Goals as goal

@@ -6,7 +6,6 @@ use Rattle.definitions.specs.Maps.{Map, map_of}
 use Rattle.shape.specs.Coords.{as_sides, Fit}
 use Rattle.shape.specs.Places.{image_place, source_place}
 use Rattle.shape.proofs.PlaceLaws.{mapped_fit, map_volume}
-use borrow.Author.Rules.{rules}
 use Rattle.shape.proofs.cells.source_index.Goals as goal
 
 pub image_index-requires : goal.image_index-requires

@@ -1,11 +1,11 @@
 -- `are_bits` meets its contract: all the cells pass exactly if all that are left do. Assumes nothing.
-use Prim.Native.Nat.{◌+◌, ◌-◌, ◌≤◌}
+use Prim.Native.Nat.{◌+◌}
 use mathlib.Core.Bool.{Bool, ◌&&◌}
-use mathlib.Core.Path.{◌≡◌, refl, sym, ap, ◌∙◌}
+use mathlib.Core.Path.{refl, sym, ap, ◌∙◌}
 use borrow.Author.Rules.{rules}
 use borrow.Author.Tests.{le-leb, lt-leb}
 use lib.Dec.{leb}
-use lib.ListN.{length, get_or, drop}
+use lib.ListN.{get_or, drop}
 use Rattle.lists.specs.Lists.{all}
 use Rattle.shape.proofs.GridLaws.{all_from, all_end}
 use Rattle.shape.proofs.grids.are_bits.Goals as goal

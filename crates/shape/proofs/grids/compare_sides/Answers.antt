@@ -1,6 +1,5 @@
 -- `compare_sides` meets its contract: the first sides that differ decide. Assumes nothing.
 use mathlib.Core.Path.{sym, ap, ap₂, ◌∙◌}
-use borrow.Author.Rules.{rules}
 use Rattle.shape.specs.Coords.{as_sides}
 use Rattle.shape.specs.Grids.{number_order}
 use Rattle.shape.specs.declared.Ordering.{Ordering}

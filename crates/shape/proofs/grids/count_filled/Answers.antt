@@ -1,13 +1,9 @@
 -- `count_filled` meets its contract: the count so far and what is left of the cells make the whole count. Assumes nothing.
-use Prim.Native.Nat.{◌+◌, ◌-◌, ◌≤◌}
-use mathlib.Core.Logic.{⊎_elim}
-use mathlib.Core.Path.{◌≡◌, sym}
+use mathlib.Core.Path.{sym}
 use native.Mathlib.Omega.{arith}
-use borrow.Author.Rules.{rules}
 use borrow.Author.Tests.{eq-eqb, ne_eqb}
 use lib.Dec.{eqb}
-use lib.ListN.{length, get_or, drop}
-use Rattle.lists.specs.Lists.{how_many}
+use lib.ListN.{get_or}
 use Rattle.lists.proofs.CountLaws.{count_hit, count_miss, count_end}
 use Rattle.shape.proofs.grids.count_filled.Goals as goal
 use Rattle.shape.proofs.grids.count_filled.Goals.{else-cells-i-eq1, then-cells-i-eq1}

@@ -1,13 +1,8 @@
 use Prim.Native.Nat.{◌+◌, ◌-◌, ◌≤◌}
-use mathlib.Core.Logic.{⊎_elim}
-use mathlib.Core.Path.{◌≡◌, sym}
-use native.Mathlib.Omega.{arith}
-use borrow.Author.Rules.{rules}
-use borrow.Author.Tests.{eq-eqb, ne_eqb}
+use mathlib.Core.Path.{◌≡◌}
 use lib.Dec.{eqb}
-use lib.ListN.{length, get_or, drop}
+use lib.ListN.{length, drop}
 use Rattle.lists.specs.Lists.{how_many}
-use Rattle.lists.proofs.CountLaws.{count_hit, count_miss, count_end}
 use Rattle.shape.proofs.grids.count_filled.Given as goal
 
 abbrev pub invariant-loop-i : goal.invariant-loop-i

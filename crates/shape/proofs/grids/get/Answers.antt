@@ -1,7 +1,6 @@
 -- `get` meets its contract: it reads at the cell's place. Assumes nothing.
 use Prim.Native.Nat.{ℕ}
 use mathlib.Core.Path.{ap}
-use borrow.Author.Rules.{rules}
 use lib.ListN.{get_or}
 use Rattle.definitions.specs.Grid.{byte_at}
 use Rattle.shape.proofs.grids.get.Goals as goal

@@ -1,7 +1,6 @@
 -- `moved_byte` meets its contract: place j of the mapped grid holds what stood at its source. Assumes nothing.
 use Prim.Native.Nat.{ℕ}
 use mathlib.Core.Path.{sym, ap, ◌∙◌}
-use borrow.Author.Rules.{rules}
 use lib.ListN.{get_or}
 use Rattle.shape.specs.Grids.{as_grid}
 use Rattle.shape.proofs.PlaceLaws.{mapped_place}

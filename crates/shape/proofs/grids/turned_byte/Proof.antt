@@ -2,7 +2,6 @@
 use mathlib.Core.Path.{sym, ◌∙◌}
 use native.Mathlib.Omega.{arith}
 use borrow.Author.Rules.{rules}
-use borrow.Author.Tests.{not-true, not-false}
 use lib.ListN.{get_or-eq_default}
 use Rattle.definitions.specs.Maps.{map_of, map_grid}
 use Rattle.shape.specs.Grids.{as_grid, Whole}

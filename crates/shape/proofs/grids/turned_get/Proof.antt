@@ -2,7 +2,6 @@
 use Prim.Native.Nat.{ℕ, ◌<◌}
 use mathlib.Core.Path.{sym, ap, ◌∙◌, subst, subst⁻¹}
 use borrow.Author.Rules.{rules}
-use borrow.Author.Tests.{not-true, not-false}
 use lib.ListN.{get_or}
 use Rattle.definitions.specs.Grid.{Sides, volume, place_of, InBox, byte_at}
 use Rattle.definitions.specs.Maps.{map_of, map_sides, map_grid}

@@ -1,7 +1,6 @@
 -- `line_along` meets its contract. Assumes nothing.
 use Prim.Native.Nat.{◌≤◌}
 use mathlib.Core.Path.{sym, subst}
-use borrow.Author.Rules.{rules}
 use Rattle.shape.specs.Coords.{as_sides}
 use Rattle.shape.proofs.PlaceLaws.{side_fit}
 use Rattle.shape.proofs.LineLaws.{line_path}

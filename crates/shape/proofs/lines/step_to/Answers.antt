@@ -3,7 +3,6 @@ use Prim.Native.Nat.{ℕ, ◌*◌, ◌-◌, ◌≤◌}
 use mathlib.Core.Path.{sym, ap}
 use native.Mathlib.Nat.{mul-le-mul}
 use native.Mathlib.Omega.{arith}
-use borrow.Author.Rules.{rules}
 use Rattle.shape.specs.Lines.{step_to}
 use Rattle.shape.proofs.MapTableLaws.{from_start, from-end}
 use Rattle.shape.proofs.lines.step_to.Goals as goal

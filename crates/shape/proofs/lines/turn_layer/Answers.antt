@@ -1,10 +1,9 @@
 -- `turn_layer` meets its contract. The loop's invariant: the cells of the first j lines are written. Assumes nothing.
-use Prim.Native.Nat.{ℕ, ◌+◌, ◌*◌, ◌-◌, ◌≤◌}
+use Prim.Native.Nat.{ℕ, ◌+◌, ◌*◌, ◌≤◌}
 use mathlib.Core.Path.{◌≡◌, refl, sym, ap, ◌∙◌}
 use native.Mathlib.Nat.{mul-le-mul, zero-mul}
 use native.Mathlib.Omega.{arith}
 use borrow.Author.Rules.{rules}
-use lib.ListN.{length}
 use lib.Seq.{paste, paste-zero}
 use Rattle.shape.specs.Lines.{layer_of}
 use Rattle.lists.proofs.PartLaws.{part_fits}

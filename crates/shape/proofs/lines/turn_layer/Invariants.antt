@@ -1,13 +1,8 @@
-use Prim.Native.Nat.{ℕ, ◌+◌, ◌*◌, ◌-◌, ◌≤◌}
-use mathlib.Core.Path.{◌≡◌, refl, sym, ap, ◌∙◌}
-use native.Mathlib.Nat.{mul-le-mul, zero-mul}
-use native.Mathlib.Omega.{arith}
-use borrow.Author.Rules.{rules}
+use Prim.Native.Nat.{◌*◌, ◌-◌, ◌≤◌}
+use mathlib.Core.Path.{◌≡◌}
 use lib.ListN.{length}
-use lib.Seq.{paste, paste-zero}
+use lib.Seq.{paste}
 use Rattle.shape.specs.Lines.{layer_of}
-use Rattle.lists.proofs.PartLaws.{part_fits}
-use Rattle.shape.proofs.LineLaws.{layer_next}
 use Rattle.shape.proofs.lines.turn_layer.Given as goal
 
 abbrev pub invariant-loop-j : goal.invariant-loop-j

@@ -1,9 +1,8 @@
 -- `turn_line` meets its contract. The loop's invariant: the first k cells of the line are written. Assumes nothing.
-use Prim.Native.Nat.{ℕ, ◌+◌, ◌-◌, ◌≤◌}
+use Prim.Native.Nat.{ℕ, ◌+◌}
 use mathlib.Core.Path.{◌≡◌, refl, ap, ◌∙◌}
 use native.Mathlib.Omega.{arith}
 use borrow.Author.Rules.{rules}
-use lib.ListN.{length}
 use lib.Seq.{paste, paste-zero}
 use Rattle.shape.specs.Lines.{line_of}
 use Rattle.shape.proofs.LineLaws.{line_next}

@@ -4,7 +4,6 @@ use native.Mathlib.Omega.{arith}
 use Rattle.definitions.specs.Maps.{side, coordinate}
 use Rattle.shape.specs.Coords.{as_sides, as_cell}
 use Rattle.shape.proofs.MapTableLaws.{from_start, from-end}
-use borrow.Author.Rules.{rules}
 use Rattle.shape.proofs.maps.along.Goals as goal
 
 pub returns-then-flip-eq0 : goal.returns-then-flip-eq0

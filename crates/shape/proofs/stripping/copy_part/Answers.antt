@@ -1,9 +1,7 @@
 -- `copy_part` meets its contract. The loop's invariant: the bytes of the part's first j cells are written. Assumes nothing.
-use Prim.Native.Nat.{◌-◌, ◌≤◌}
 use mathlib.Core.Path.{◌≡◌, ap, ◌∙◌}
 use native.Mathlib.Omega.{arith}
 use borrow.Author.Rules.{rules}
-use lib.ListN.{length}
 use lib.Seq.{paste, paste-zero}
 use Rattle.definitions.specs.Grid.{Cell, volume, byte_at, set_down}
 use Rattle.shape.specs.Coords.{as_sides, as_cell}

@@ -1,14 +1,10 @@
 use Prim.Native.Nat.{◌-◌, ◌≤◌}
-use mathlib.Core.Path.{◌≡◌, ap, ◌∙◌}
-use native.Mathlib.Omega.{arith}
-use borrow.Author.Rules.{rules}
+use mathlib.Core.Path.{◌≡◌}
 use lib.ListN.{length}
-use lib.Seq.{paste, paste-zero}
-use Rattle.definitions.specs.Grid.{Cell, volume, byte_at, set_down}
+use lib.Seq.{paste}
 use Rattle.shape.specs.Coords.{as_sides, as_cell}
 use Rattle.shape.specs.Grids.{as_grid}
 use Rattle.shape.specs.Stripping.{part_of}
-use Rattle.shape.proofs.StrippingLaws.{part_fit, part_in_box, part_next}
 use Rattle.shape.proofs.stripping.copy_part.Given as goal
 
 abbrev pub invariant-loop-j : goal.invariant-loop-j

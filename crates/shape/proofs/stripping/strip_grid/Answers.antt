@@ -1,6 +1,5 @@
 -- `strip_grid` meets its contract: the part that it copies is the stripped grid. Assumes nothing.
 use native.Mathlib.Omega.{arith}
-use borrow.Author.Rules.{rules}
 use Rattle.shape.specs.Grids.{as_grid}
 use Rattle.shape.proofs.StrippingLaws.{part_within, part_volume, part_bytes}
 use Rattle.shape.proofs.stripping.strip_grid.Goals as goal

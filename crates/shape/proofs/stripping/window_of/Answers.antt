@@ -1,13 +1,9 @@
 -- `window_of` meets its contract. The loop's invariant: along each axis, low and high are the bounds of the filled cells at the places below i. Assumes nothing.
-use Prim.Native.Nat.{◌-◌}
-use mathlib.Core.Logic.{⊎_elim}
 use mathlib.Core.Path.{ap, ◌∙◌}
 use native.Mathlib.Omega.{arith}
-use borrow.Author.Rules.{rules}
-use lib.ListN.{length}
 use Rattle.theorems.proofs.MapLaws.{cell_path}
 use Rattle.shape.specs.Coords.{as_sides, as_cell}
-use Rattle.shape.proofs.StrippingLaws.{AllMet, all_none, all_same, all_more, found_none, found_some, found_order}
+use Rattle.shape.proofs.StrippingLaws.{all_none, all_same, all_more, found_none, found_some, found_order}
 use Rattle.shape.proofs.stripping.window_of.Goals as goal
 use Rattle.shape.proofs.stripping.window_of.Goals.{else-cells-i-eq1, then-cells-i-eq1}
 

@@ -1,7 +1,6 @@
 -- `Map::axes_of` meets its contract: the table that it reads is the list of the maps, entry by entry. Assumes nothing.
 use mathlib.Core.Path.{◌∙◌}
 use Rattle.shape.proofs.MapTableLaws.{rows, rows_at}
-use borrow.Author.Rules.{rules}
 use Rattle.shape.proofs.maps.Map.axes_of.Goals as goal
 
 pub returns : goal.returns

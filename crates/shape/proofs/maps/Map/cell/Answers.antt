@@ -3,7 +3,6 @@ use mathlib.Core.Path.{ap, ◌∙◌}
 use Rattle.definitions.specs.Maps.{Map, map_cell}
 use Rattle.theorems.proofs.MapLaws.{cell_path}
 use Rattle.shape.specs.Coords.{as_sides, as_cell, as_map}
-use borrow.Author.Rules.{rules}
 use Rattle.shape.proofs.maps.Map.cell.Goals as goal
 
 pub returns : goal.returns

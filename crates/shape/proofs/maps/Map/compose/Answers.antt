@@ -3,7 +3,6 @@ use mathlib.Core.Path.{◌≡◌, ap₂, ◌∙◌, subst⁻¹}
 use Prim.Native.Nat.{ℕ, ◌<◌}
 use Rattle.definitions.specs.Maps.{map_of, product}
 use Rattle.shape.proofs.MapTableLaws.{products, products_at, times_lt, times_is}
-use borrow.Author.Rules.{rules}
 use Rattle.shape.proofs.maps.Map.compose.Goals as goal
 
 pub returns : goal.returns

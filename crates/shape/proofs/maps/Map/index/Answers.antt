@@ -3,7 +3,6 @@ use mathlib.Core.Path.{sym, ◌∙◌}
 use native.Mathlib.Omega.{arith}
 use Rattle.theorems.proofs.MapNumberLaws.{past_maps}
 use Rattle.shape.proofs.MapTableLaws.{map_zero}
-use borrow.Author.Rules.{rules}
 use Rattle.shape.proofs.maps.Map.index.Goals as goal
 
 pub returns-else-n-lt48 : goal.returns-else-n-lt48

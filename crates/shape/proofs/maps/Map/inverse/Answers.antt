@@ -3,7 +3,6 @@ use mathlib.Core.Path.{◌≡◌, ap, ◌∙◌, subst⁻¹}
 use Prim.Native.Nat.{ℕ, ◌<◌}
 use Rattle.definitions.specs.Maps.{map_of, inverse}
 use Rattle.shape.proofs.MapTableLaws.{inverses, inverses_at, inverse_lt, inverse_is}
-use borrow.Author.Rules.{rules}
 use Rattle.shape.proofs.maps.Map.inverse.Goals as goal
 
 pub returns : goal.returns

@@ -3,7 +3,6 @@ use mathlib.Core.Path.{ap, ◌∙◌}
 use Rattle.definitions.specs.Maps.{Map, map_sides}
 use Rattle.shape.specs.Coords.{as_sides, as_map}
 use Rattle.shape.proofs.MapTableLaws.{sides_path}
-use borrow.Author.Rules.{rules}
 use Rattle.shape.proofs.maps.Map.sides.Goals as goal
 
 pub returns : goal.returns
