@@ -27,7 +27,8 @@ use Rattle.kept.proofs.ReadyLaws as laws
 use Rattle.fast.specs.Searching.{uncovered, state_by, goes_on}
 use Rattle.fast.proofs.ChoiceLaws.{chosen_at, none_left, other_cell}
 use Rattle.fast.proofs.SearchingLaws.{goes_any, fits, fits_apart, fits_possible, child_state, first_uncovered, none_uncovered, some_uncovered}
-use Rattle.fast.proofs.TurnLaws.{rows_many, size_is, row_is, row-cells, row_first, range_within, start_is, start_up, start_before, start_behind, start_few, start_range}
+use Rattle.fast.proofs.TurnLaws.{rows_many, size_is, row_is, row-cells, row_first, range_within, start_is, start_up, start_before, start_behind, start_few}
+use Rattle.fast.proofs.TurnLaws.{start_range}
 
 -- ---- the look at a state
 some_kept : {A : Type 0} (xs : List A) {x : A} → Memᴰ x xs → is_empty xs ≡ false
@@ -122,7 +123,8 @@ module _ {d : Dims} {work chart : List ℕ} (left : List ℕ) (covered : Mask) (
             sym (ap₂ (λ (b f : Bool). b || not f) (some_uncovered t.free c at_first).0 n)
 
         -- or none can
-        pub kind_unplaced : any (λ r. apart 128 (has (mask_at work r)) (has covered)) (from start (end - start)) ≡ false → Unplaced d work chart left covered k → Unplaced d work chart left covered (k + 1)
+        pub kind_unplaced : any (λ r. apart 128 (has (mask_at work r)) (has covered)) (from start (end - start)) ≡ false → Unplaced d work chart left covered k
+            → Unplaced d work chart left covered (k + 1)
         unfolding fits
         kind_unplaced e none r row h =
             by_eq (row_at work r).kind k
@@ -135,7 +137,8 @@ module _ {d : Dims} {work chart : List ℕ} (left : List ℕ) (covered : Mask) (
                 let b = end_at in
                 let x = start_range ready (128 * k + c) r row (omega arith) in
                 let off = is_false (apart 128 (has (mask_at work r)) (has covered))
-                (λ z. subst T e (any_of (λ r. apart 128 (has (mask_at work r)) (has covered)) (from start (end - start)) (from-of start (end - start) {x = r} (omega arith) (omega arith)) z)) in
+                (λ z. subst T e (any_of (λ r. apart 128 (has (mask_at work r)) (has covered)) (from start (end - start))
+                (from-of start (end - start) {x = r} (omega arith) (omega arith)) z)) in
                 ap (λ (b : Bool). any (eqb (row_at work r).p) (take 1 t.free) && b)
                 (sym (test_is r row) ∙ ap (λ (b : Bool). b && ltb 0 (get_or left (row_at work r).kind 0)) off)
                 ∙ and_no (any (eqb (row_at work r).p) (take 1 t.free))
@@ -146,7 +149,8 @@ module _ {d : Dims} {work chart : List ℕ} (left : List ℕ) (covered : Mask) (
       kind_spent e none r row h =
           let m = laws.kinds_many d work chart in
           by_eq (row_at work r).kind k
-          (λ q. none_left S None t (row_at work r) (get_or-take (length S.copies) left (row_at work r).kind 0 (omega arith) ∙ ap (λ (j : ℕ). get_or left j 0) q ∙ e))
+          (λ q. none_left S None t (row_at work r)
+          (get_or-take (length S.copies) left (row_at work r).kind 0 (omega arith) ∙ ap (λ (j : ℕ). get_or left j 0) q ∙ e))
           (λ q. none r row (omega arith))
 
     unchosen : (k : ℕ) → d.kinds ≤ k → Unplaced d work chart left covered k → (q : Placement) → Memᴰ q S.rows → T (chosen_at t q) → ⊥
@@ -164,7 +168,8 @@ module _ {d : Dims} {work chart : List ℕ} (left : List ℕ) (covered : Mask) (
         sym (ap₂ (λ (b f : Bool). b || not f) (some_uncovered t.free c at_first).0 (ap (λ (l : List Placement). is_empty l) e))
 
 -- ---- the state below row r is the one looked at
-pub goes_below : {d : Dims} {work chart : List ℕ} (left : List ℕ) (covered more : Mask) → Ready d work chart → (r kind : ℕ) → r < d.rows → kind ≡ (row_at work r).kind
+pub goes_below : {d : Dims} {work chart : List ℕ} (left : List ℕ) (covered more : Mask) → Ready d work chart → (r kind : ℕ) → r < d.rows
+    → kind ≡ (row_at work r).kind
     → has more ≡ either (has covered) (has (mask_at work r))
     → goes_on (system_in d work chart) (state_by (system_in d work chart) (set left kind (get_or left kind 0 - 1)) more [])
     ≡ goes_on (system_in d work chart) (choose (state_by (system_in d work chart) left covered []) (row_at work r))

@@ -40,7 +40,8 @@ entries_append s i L M =
     ap (λ (K : List (List Placement)). map (entry_by s) K) (keep_append (λ P. normal s i (numbers_of s P)) L M)
     ∙ map-append (entry_by s) (keep (λ P. normal s i (numbers_of s P)) L) (keep (λ P. normal s i (numbers_of s P)) M)
 
-pub entries_each : {A : Type 0} (s : System) (i : Identify) (f : A → List (List Placement)) (xs : List A) → entries s i (each xs f) ≡ each xs (λ x. entries s i (f x))
+pub entries_each : {A : Type 0} (s : System) (i : Identify) (f : A → List (List Placement)) (xs : List A)
+    → entries s i (each xs f) ≡ each xs (λ x. entries s i (f x))
 unfolding entries
 entries_each s i f [] = refl
 entries_each s i f (x ∷ xs) = entries_append s i (f x) (each xs f) ∙ ap (λ (l : List Listed). entries s i (f x) ++ l) (entries_each s i f xs)
@@ -105,7 +106,8 @@ pub leaf_lists : (s : System) (i : Identify) (t : State) → is_empty t.free ≡
 unfolding fast_below
 leaf_lists s i t e = ap (λ (L : List (List Placement)). entries s i L) (below_leaf s.rows s.size t e)
 
-pub all_choices : (s : System) → Lawful s → (i : Identify) (t : State) → is_empty t.free ≡ false → length t.free ≤ s.size → choices_from s i t 0 ≡ fast_below s i t
+pub all_choices : (s : System) → Lawful s → (i : Identify) (t : State) → is_empty t.free ≡ false → length t.free ≤ s.size
+    → choices_from s i t 0 ≡ fast_below s i t
 unfolding choices_from fast_below fast_choices
 all_choices s law i t e h =
     sym (ap (λ (L : List (List Placement)). entries s i L) (below_step s.rows (λ q m. (law.row q m).covers_p) s.size t h e)
@@ -138,7 +140,8 @@ module _ (s : System) (i : Identify) (t : State) where
   unfolding choices_from
   choices_end r h = ap (λ (l : List Placement). each (keep (chosen_at t) l) (λ q. fast_below s i (choose t q))) (drop_of_length-le s.rows h)
 
-  pub choices_skip : (a b : ℕ) → a ≤ b → ((r : ℕ) → a ≤ r → r < b → r < length s.rows → chosen_at t (row_of s r) ≡ false) → choices_from s i t a ≡ choices_from s i t b
+  pub choices_skip : (a b : ℕ) → a ≤ b → ((r : ℕ) → a ≤ r → r < b → r < length s.rows → chosen_at t (row_of s r) ≡ false)
+      → choices_from s i t a ≡ choices_from s i t b
   unfolding choices_from row_of
   choices_skip a b h fail =
       let e : a + (b - a) ≡ b = omega arith in
@@ -167,7 +170,8 @@ module _ (s : System) (i : Identify) (t : State) where
           ap (λ (l : List ℕ). any (eqb (row_of s r).p) l && possible t (row_of s r)) first
           ∙ ap (λ (b : Bool). (b || false) && possible t (row_of s r)) (is_true (eqb (row_of s r).p c) (eqb_of at))
 
-      one_more : choices_from s i t r ≡ each (cons_if (possible t (row_of s r)) (row_of s r) (keep (chosen_at t) (drop (suc r) s.rows))) (λ q. fast_below s i (choose t q))
+      one_more : choices_from s i t r
+          ≡ each (cons_if (possible t (row_of s r)) (row_of s r) (keep (chosen_at t) (drop (suc r) s.rows))) (λ q. fast_below s i (choose t q))
       unfolding choices_from row_of
       one_more =
           ap (λ (l : List Placement). each (keep (chosen_at t) l) (λ q. fast_below s i (choose t q))) (drop-cons s.rows r no_row row)

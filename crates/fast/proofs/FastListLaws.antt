@@ -9,7 +9,8 @@ use lib.Dec.{T, ltb, eqb, eqb→eq, ltb→lt, lt→ltb}
 use lib.ListN.{length, get_or, length-map}
 use Rattle.lists.specs.Lists.{cons_if, all, any, keep, each, below, from, before, same, less, sort, ascending}
 use Rattle.lists.proofs.TestLaws.{or_no, and_left, and_right, and_both, eqb_of, holds, or_cases, tests_same}
-use Rattle.lists.proofs.ListLaws.{any_at, any_of, keep_at, keep_of, keep_same, each_at, map_same, each_map, any_same, any_map, before_at, before_most, get_or_mem, mem_get_or}
+use Rattle.lists.proofs.ListLaws.{any_at, any_of, keep_at, keep_of, keep_same, each_at, map_same, each_map, any_same, any_map, before_at, before_most}
+use Rattle.lists.proofs.ListLaws.{get_or_mem, mem_get_or}
 use Rattle.lists.proofs.SortLaws.{ahead_number, get_or_ahead}
 use Rattle.lists.proofs.RangeLaws.{below_at, map_below}
 use Rattle.lists.proofs.NthLaws.{Nth, nth_get_or}
@@ -50,7 +51,8 @@ map_keep {B = B} f p (x ∷ xs) = go (p (f x)) (map_keep f p xs)
     go true e = ap (λ (l : List B). f x ∷ l) e
     go false e = e
 
-all_numbers : {A : Type 0} (p : ℕ → Bool) (q : A → Bool) (i : ℕ) (xs : List A) → ((n : ℕ) (x : A) → Nth xs n x → p (n + i) ≡ q x) → all p (from i (length xs)) ≡ all q xs
+all_numbers : {A : Type 0} (p : ℕ → Bool) (q : A → Bool) (i : ℕ) (xs : List A) → ((n : ℕ) (x : A) → Nth xs n x → p (n + i) ≡ q x)
+    → all p (from i (length xs)) ≡ all q xs
 all_numbers p q i [] h = refl
 all_numbers p q i (x ∷ xs) h =
     ap₂ (λ (a b : Bool). a && b) (ap p {x = i} {y = 0 + i} (omega arith) ∙ h 0 x refl)
@@ -139,13 +141,16 @@ module _ (l : Call) (ok : refusal l ≡ 0) where
         (λ n a. takes_to l ok m n ((W l ok).on_board (row r) (get_or_mem no_row rows r h) n a))))
 
     module _ (z : (row r).kind ≡ 0) where
-      moved_first : (odd : Bool) (m : Map) → ltb (image_of S odd (cell_images C m) r) r ≡ any (λ x. eqb x.kind (row r).kind && ahead x (row r)) (image C odd (map_cell m C.board.sides) (row r ∷ []))
+      moved_first : (odd : Bool) (m : Map)
+          → ltb (image_of S odd (cell_images C m) r) r
+          ≡ any (λ x. eqb x.kind (row r).kind && ahead x (row r)) (image C odd (map_cell m C.board.sides) (row r ∷ []))
       unfolding image_of row_of row_with image system_of
       moved_first odd m =
           ap (λ (ns : List ℕ). ltb (before (λ x. same (x.kind ∷ x.cells) ns) rows) r) (moved_is odd m)
           ∙ first_smaller rows (W l ok).in_order r h z (λ x. same (x.kind ∷ x.cells) to)
           ∙ ap (any (λ (x : Placement). eqb x.kind (row r).kind && ahead x (row r)))
-          (keep_same (λ (x : Placement). same (x.kind ∷ x.cells) to) (λ x. any (same (x.kind ∷ x.cells)) (to ∷ [])) rows (λ x k. sym (or_no (same (x.kind ∷ x.cells) to))))
+          (keep_same (λ (x : Placement). same (x.kind ∷ x.cells) to) (λ x. any (same (x.kind ∷ x.cells)) (to ∷ [])) rows
+          (λ x k. sym (or_no (same (x.kind ∷ x.cells) to))))
         where
           to : List ℕ
           to = moved C odd (map_cell m C.board.sides) (row r)
@@ -154,7 +159,8 @@ module _ (l : Call) (ok : refusal l ≡ 0) where
       unfolding moved_before moved_ahead
       moved_same odd ms =
           any_map (λ to. ltb (image_of S odd to r) r) (cell_images C) (symmetries C.board ms)
-          ∙ any_same (λ m. ltb (image_of S odd (cell_images C m) r) r) (λ m. any (λ x. eqb x.kind (row r).kind && ahead x (row r)) (image C odd (map_cell m C.board.sides) (row r ∷ [])))
+          ∙ any_same (λ m. ltb (image_of S odd (cell_images C m) r) r)
+          (λ m. any (λ x. eqb x.kind (row r).kind && ahead x (row r)) (image C odd (map_cell m C.board.sides) (row r ∷ [])))
           (symmetries C.board ms) (λ m k. moved_first odd m)
 
   always_same : always_mirrorable_by S ≡ always_mirrorable C
@@ -207,7 +213,8 @@ module _ (l : Call) (ok : refusal l ≡ 0) where
   fast-first : (i : Identify) → kind0_first C i ≡ true → answers_in (fast_first S i (start C)) ≡ map (answer C) (listed C i Fast)
   unfolding fast_first system_of fast_pruned fast_search firsts kind0_first
   fast-first i e =
-      ap (λ (L : List (List Placement)). answers_in (entries S i L)) (sym (each_map (row_of S) F (first_rows S i)) ∙ ap (λ (qs : List Placement). each qs F) (first-rows i))
+      ap (λ (L : List (List Placement)). answers_in (entries S i L))
+      (sym (each_map (row_of S) F (first_rows S i)) ∙ ap (λ (qs : List Placement). each qs F) (first-rows i))
       ∙ entries_same l ok i after packed
       ∙ ap (λ (b : Bool). map (answer C) (keep (kept C i) (cond b after plain))) (sym e)
       ∙ ap (map (answer C)) (fast_unchanged l ok i)
@@ -243,7 +250,8 @@ module _ (l : Call) (ok : refusal l ≡ 0) where
   -- ---- both: the engine's list has the answers of the document's
   pub fast-answers : (i : Identify) → answers_in (fast_answers (system_of (tray_of l)) i) ≡ answers_of (tray_of l) i Fast
   unfolding fast_answers answers_of
-  fast-answers i = ap (λ (t : State). answers_in (cond (first_by S i) (fast_first S i t) (fast_below S i t))) start_same ∙ go (first_by S i) (first_same (tray_of l) i)
+  fast-answers i =
+      ap (λ (t : State). answers_in (cond (first_by S i) (fast_first S i t) (fast_below S i t))) start_same ∙ go (first_by S i) (first_same (tray_of l) i)
     where
       go : (b : Bool) → b ≡ kind0_first C i → answers_in (cond b (fast_first S i (start C)) (fast_below S i (start C))) ≡ map (answer C) (listed C i Fast)
       go true e = fast-first i (sym e)

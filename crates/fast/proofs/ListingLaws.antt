@@ -46,7 +46,8 @@ cells_at chart k = get_or (kinds_part chart) (3 * k) 0 * get_or (kinds_part char
 
 -- ---- the copies of each kind, one after the other
 module _ (chart left : List ℕ) where
-  pub left_next : (k x : ℕ) → k < length left → x ≡ get_or (kinds_part chart) (3 * k) 0 → ((j : ℕ) → j < k → get_or left j 0 ≡ get_or (kinds_part chart) (3 * j) 0)
+  pub left_next : (k x : ℕ) → k < length left → x ≡ get_or (kinds_part chart) (3 * k) 0
+      → ((j : ℕ) → j < k → get_or left j 0 ≡ get_or (kinds_part chart) (3 * j) 0)
       → (j : ℕ) → j < k + 1 → get_or (set left k x) j 0 ≡ get_or (kinds_part chart) (3 * j) 0
   left_next k x h e f =
       below_more (λ (j : ℕ). get_or (set left k x) j 0 ≡ get_or (kinds_part chart) (3 * j) 0) k
@@ -54,7 +55,8 @@ module _ (chart left : List ℕ) where
 
   pub left_end : (n : ℕ) → n ≤ length left → ((j : ℕ) → j < n → get_or left j 0 ≡ get_or (kinds_part chart) (3 * j) 0) → take n left ≡ copies_in chart n
   left_end n h f =
-      sym (map_below (λ k. get_or (kinds_part chart) (3 * k) 0) n 0 (take n left) (length-take-le n left h) (λ k l. sym (f k l) ∙ sym (get_or-take n left k 0 l)))
+      sym (map_below (λ k. get_or (kinds_part chart) (3 * k) 0) n 0 (take n left) (length-take-le n left h)
+      (λ k l. sym (f k l) ∙ sym (get_or-take n left k 0 l)))
 
 -- ---- the cells of the kinds from k on
 abbrev pub cells_from : List ℕ → ℕ → ℕ → ℕ
@@ -134,7 +136,8 @@ module _ (d : Dims) (work chart : List ℕ) where
       let n = d.kinds in
       ap (λ (m : ℕ). sum (map (λ k. get_or (copies_in chart n) k 0 * get_or (sizes_in chart n) k 0) (below m))) (kinds_many d work chart)
       ∙ ap sum (map_same (λ k. get_or (copies_in chart n) k 0 * get_or (sizes_in chart n) k 0) (cells_at chart) (below n)
-      (λ k m. let h = below_at n m in ap₂ (λ (a b : ℕ). a * b) (at (λ j. get_or (kinds_part chart) (3 * j) 0) k h) (at (λ j. get_or (kinds_part chart) (3 * j + 2) 0) k h)))
+      (λ k m. let h = below_at n m in ap₂ (λ (a b : ℕ). a * b) (at (λ j. get_or (kinds_part chart) (3 * j) 0) k h)
+      (at (λ j. get_or (kinds_part chart) (3 * j + 2) 0) k h)))
     where
       at : (f : ℕ → ℕ) (k : ℕ) → k < d.kinds → get_or (map f (below d.kinds)) k 0 ≡ f k
       at f k h = get_or_of f 0 0 d.kinds k h ∙ ap f (let e : 0 + k ≡ k = omega arith in e)

@@ -2,7 +2,7 @@
 use Prim.Native.Nat.{ℕ, ◌+◌, ◌-◌, ◌*◌, ◌≤◌, ◌<◌}
 use mathlib.Core.Bool.{Bool, true, false, not, ◌&&◌, ◌||◌, true≢false}
 use mathlib.Core.List.{List, [], ◌∷◌, ◌++◌, map}
-use mathlib.Core.Logic.{◌⊎◌, ⊎_elim}
+use mathlib.Core.Logic.{⊎_elim}
 use mathlib.Core.Path.{◌≡◌, refl, sym, ap, ap₂, ◌∙◌, subst}
 use native.Mathlib.Omega.{arith}
 use borrow.Author.Tests.{ltb-true, lt-ltb, le-ltb, le-leb, lt-leb, eq-eqb, ne_eqb, not-true, not-false}
@@ -53,18 +53,23 @@ module _ (chart : List ℕ) (n : ℕ) where
   partners = map (λ k. get_or (kinds_part chart) (3 * k + 1) 0) (below n)
 
   copies_at : (k : ℕ) → k < n → get_or copies k 0 ≡ get_or (kinds_part chart) (3 * k) 0
-  copies_at k h = get_or_of (λ k. get_or (kinds_part chart) (3 * k) 0) 0 0 n k h ∙ ap (λ (i : ℕ). get_or (kinds_part chart) (3 * i) 0) (let e : 0 + k ≡ k = omega arith in e)
+  copies_at k h =
+      get_or_of (λ k. get_or (kinds_part chart) (3 * k) 0) 0 0 n k h
+      ∙ ap (λ (i : ℕ). get_or (kinds_part chart) (3 * i) 0) (let e : 0 + k ≡ k = omega arith in e)
 
   pub partner-at : (k : ℕ) → k < n → kind_by (map (λ k. get_or (kinds_part chart) (3 * k + 1) 0) (below n)) true k ≡ get_or (kinds_part chart) (3 * k + 1) 0
   unfolding kind_by
-  partner-at k h = get_or_of (λ k. get_or (kinds_part chart) (3 * k + 1) 0) (length partners) 0 n k h ∙ ap (λ (i : ℕ). get_or (kinds_part chart) (3 * i + 1) 0) (let e : 0 + k ≡ k = omega arith in e)
+  partner-at k h =
+      get_or_of (λ k. get_or (kinds_part chart) (3 * k + 1) 0) (length partners) 0 n k h
+      ∙ ap (λ (i : ℕ). get_or (kinds_part chart) (3 * i + 1) 0) (let e : 0 + k ≡ k = omega arith in e)
 
   mirrors-at : (k : ℕ) → k < n → (ltb (kind_by partners true k) n && eqb (get_or copies k 0) (get_or copies (kind_by partners true k) 0)) ≡ mirrors chart n k
   unfolding mirrors
   mirrors-at k h =
       let p = get_or (kinds_part chart) (3 * k + 1) 0 in
       let y = get_or (kinds_part chart) (3 * k) 0 in
-      ap (λ (x : ℕ). ltb x n && eqb (get_or copies k 0) (get_or copies x 0)) (partner-at k h) ∙ ap (λ (x : ℕ). ltb p n && eqb x (get_or copies p 0)) (copies_at k h)
+      ap (λ (x : ℕ). ltb x n && eqb (get_or copies k 0) (get_or copies x 0)) (partner-at k h)
+      ∙ ap (λ (x : ℕ). ltb p n && eqb x (get_or copies p 0)) (copies_at k h)
       ∙ go p y (ltb p n) refl
     where
       go : (p y : ℕ) (b : Bool) → ltb p n ≡ b → (b && eqb y (get_or copies p 0)) ≡ (b && eqb y (get_or (kinds_part chart) (3 * p) 0))
@@ -101,7 +106,8 @@ module _ (d : Dims) (work chart : List ℕ) (r : ℕ) where
   moves m = ltb (image_of (system_in d work chart) (leb d.turns m) (images_of chart d.size m) r) r
 
   pub moves_told : r < d.rows → (m x : ℕ)
-      → x ≡ row_with (rows_in work d.rows) (moved_by (map (λ k. get_or (kinds_part chart) (3 * k + 1) 0) (below d.kinds)) (leb d.turns m) (images_of chart d.size m) (row_at work r))
+      → x ≡ row_with (rows_in work d.rows)
+      (moved_by (map (λ k. get_or (kinds_part chart) (3 * k + 1) 0) (below d.kinds)) (leb d.turns m) (images_of chart d.size m) (row_at work r))
       → (b : Bool) → ltb x r ≡ b → moves m ≡ b
   moves_told h m x e b f =
       ap (λ (y : ℕ). ltb y r) (sym (e ∙ image_is d work chart r h (leb d.turns m) (images_of chart d.size m))) ∙ f
@@ -116,7 +122,8 @@ module _ (d : Dims) (work chart : List ℕ) (r : ℕ) where
       (λ m k. ap (λ (b : Bool). ltb (image_of s b (images_of chart d.size m) r) r) (lt-leb d.turns m (below_at d.turns k)))
       ∙ sym (any_map (λ to. ltb (image_of s false to r) r) (λ m. images_of chart d.size m) (from 0 d.turns))
 
-  pub mirrored_before : any moves (from d.turns (d.turns + d.mirrorings - d.turns)) ≡ moved_before (system_in d work chart) true (system_in d work chart).mirrored r
+  pub mirrored_before : any moves (from d.turns (d.turns + d.mirrorings - d.turns))
+      ≡ moved_before (system_in d work chart) true (system_in d work chart).mirrored r
   unfolding moved_before system_in system_over images_in images_of
   mirrored_before =
       let s = system_in d work chart in
@@ -191,7 +198,8 @@ module _ (s : System) (i : Identify) (t : State) (n : ℕ) where
         rw (keep_fails (λ q. eqb (row_of s q).kind 0 && not (pruned_by s i q)) (from r (n - r))
         (λ q m. let k = from_at r (n - r) m in let l = f q k.0 (omega arith) in rw (ne_eqb (row_of s q).kind 0 (λ e. omega arith))))
 
-    first_next : r < n → (row_of s r).kind ≡ 0 → pruned_by s i r ≡ false → first_from s i t n r ≡ fast_below s i (choose t (row_of s r)) ++ first_from s i t n (r + 1)
+    first_next : r < n → (row_of s r).kind ≡ 0 → pruned_by s i r ≡ false
+        → first_from s i t n r ≡ fast_below s i (choose t (row_of s r)) ++ first_from s i t n (r + 1)
     unfolding first_from
     first_next h e f = rw (from_next r n h, eq-eqb (row_of s r).kind 0 e, f)
 
@@ -201,13 +209,16 @@ module _ (s : System) (i : Identify) (t : State) (n : ℕ) where
 
     -- what a turn of the loop leaves: x before it, y after it
     module _ (capacity : ℕ) (x z : Emitted) where
-      pub first_emitted : (y : Emitted) → r < n → (row_of s r).kind ≡ 0 → pruned_by s i r ≡ false → y ≡ emits capacity (fast_below s i (choose t (row_of s r))) x
+      pub first_emitted : (y : Emitted) → r < n → (row_of s r).kind ≡ 0 → pruned_by s i r ≡ false
+          → y ≡ emits capacity (fast_below s i (choose t (row_of s r))) x
           → emits capacity (first_from s i t n r) x ≡ z → emits capacity (first_from s i t n (r + 1)) y ≡ z
       first_emitted y h e f g k =
-          ap (emits capacity (first_from s i t n (r + 1))) g ∙ sym (emits_append capacity (fast_below s i (choose t (row_of s r))) (first_from s i t n (r + 1)) x)
+          ap (emits capacity (first_from s i t n (r + 1))) g
+          ∙ sym (emits_append capacity (fast_below s i (choose t (row_of s r))) (first_from s i t n (r + 1)) x)
           ∙ ap (λ (l : List Listed). emits capacity l x) (sym (first_next h e f)) ∙ k
 
-      first_passed : r < n → (row_of s r).kind ≡ 0 → pruned_by s i r ≡ true → emits capacity (first_from s i t n r) x ≡ z → emits capacity (first_from s i t n (r + 1)) x ≡ z
+      first_passed : r < n → (row_of s r).kind ≡ 0 → pruned_by s i r ≡ true → emits capacity (first_from s i t n r) x ≡ z
+          → emits capacity (first_from s i t n (r + 1)) x ≡ z
       first_passed h e f k = ap (λ (l : List Listed). emits capacity l x) (sym (first_past h e f)) ∙ k
 
       pub first_full : x.further ≡ true → emits capacity (first_from s i t n r) x ≡ z → x ≡ z
@@ -276,14 +287,17 @@ module _ (d : Dims) (work chart : List ℕ) (ready : Ready d work chart) (r : �
       can_start : possible begun (row_of sys r) ≡ true
       can_start = sym (fits_possible sys ready.lawful left₀ nothing_covered (mask_at work r) [] r in_rows row_mask) ∙ fits_first left₀ some
 
-      module _ (last shown : List ℕ) (sh : Shown d.size (take d.places (scans_part chart)) last shown) (i : Identify) (capacity : ℕ) (x z : Emitted) (is : x.last ≡ last) where
-        hides : shows_row (owned_in (pieces_part chart) d.pieces) shown (row_at work r) ≡ false → x.waiting ≡ true → emits capacity (fast_below sys i (choose begun (row_of sys r))) x ≡ x
+      module _ (last shown : List ℕ) (sh : Shown d.size (take d.places (scans_part chart)) last shown) (i : Identify) (capacity : ℕ) (x z : Emitted)
+          (is : x.last ≡ last) where
+        hides : shows_row (owned_in (pieces_part chart) d.pieces) shown (row_at work r) ≡ false → x.waiting ≡ true
+            → emits capacity (fast_below sys i (choose begun (row_of sys r))) x ≡ x
         unfolding system_in system_over
         hides v w =
             unmet sys ready.lawful left₀ nothing_covered [] tt all r in_rows can_start last shown sh
             (ap (λ (q : Placement). shows_row (owned_in (pieces_part chart) d.pieces) shown q) at_row ∙ v) i capacity x w is
 
-        pub first_untried : (not (pruned_by (system_in d work chart) i r) && (not x.waiting || shows_row (owned_in (pieces_part chart) d.pieces) shown (row_at work r))) ≡ false
+        pub first_untried : (not (pruned_by (system_in d work chart) i r)
+            && (not x.waiting || shows_row (owned_in (pieces_part chart) d.pieces) shown (row_at work r))) ≡ false
             → emits capacity (first_from (system_in d work chart) i (state_by (system_in d work chart) left₀ nothing_covered []) d.rows r) x ≡ z
             → emits capacity (first_from (system_in d work chart) i (state_by (system_in d work chart) left₀ nothing_covered []) d.rows (r + 1)) x ≡ z
         first_untried f k =
@@ -292,7 +306,8 @@ module _ (d : Dims) (work chart : List ℕ) (ready : Ready d work chart) (r : �
             (untried (not (pruned_by sys i r)) x.waiting (shows_row (owned_in (pieces_part chart) d.pieces) shown (row_at work r)) f)
 
     -- the state with it chosen: of a state with the copies of the first
-    module _ (state₀ state placed : List ℕ) (same : left_part state ≡ left_part state₀) (long : length state ≡ state_length) (is : placed ≡ put_row (take_copy state 0) 0 r) where
+    module _ (state₀ state placed : List ℕ) (same : left_part state ≡ left_part state₀) (long : length state ≡ state_length)
+        (is : placed ≡ put_row (take_copy state 0) 0 r) where
       abbrev left₀ : List ℕ
       left₀ = left_part state₀
 

@@ -1,4 +1,5 @@
--- A turn of Fast's search over slices is a choice of the definition's search: the test of a row, the state below it, and what the search keeps true. Assumes nothing.
+-- A turn of Fast's search over slices is a choice of the definition's search: the test of a row, the state below it, and what the search keeps true. Assumes
+-- nothing.
 use Prim.Native.Nat.{ℕ, zero, suc, ◌+◌, ◌-◌, ◌≤◌, ◌<◌}
 use mathlib.Core.Bool.{Bool, true, false, cond, not, ◌&&◌, ◌||◌}
 use mathlib.Core.List.Memᴰ
@@ -36,7 +37,8 @@ fits left covered mask kind = apart 128 (has mask) (has covered) && ltb 0 (get_o
 pub fits_apart : (left : List ℕ) (covered mask : Mask) (kind : ℕ) → 0 < get_or left kind 0 → fits left covered mask kind ≡ apart 128 (has mask) (has covered)
 unfolding fits
 fits_apart left covered mask kind h =
-    ap (λ (b : Bool). apart 128 (has mask) (has covered) && b) (is_true (ltb 0 (get_or left kind 0)) (lt→ltb 0 (get_or left kind 0) h)) ∙ and_true (apart 128 (has mask) (has covered))
+    ap (λ (b : Bool). apart 128 (has mask) (has covered) && b) (is_true (ltb 0 (get_or left kind 0)) (lt→ltb 0 (get_or left kind 0) h))
+    ∙ and_true (apart 128 (has mask) (has covered))
 
 -- ---- whether a search goes on: the rows chosen do not matter
 pub goes_same : (s : System) (left : List ℕ) (covered : Mask) (rs : List ℕ) (q : Placement)
@@ -49,7 +51,8 @@ unfolding goes_on fast_choices possible state_by
 goes_any s left covered rs = refl
 
 -- ---- the first uncovered cell
-first-from : (a : ℕ → Bool) (c i n : ℕ) → i ≤ c → c < i + n → ((k : ℕ) → i ≤ k → k < c → a k ≡ true) → a c ≡ false → take 1 (keep (λ k. not (a k)) (from i n)) ≡ c ∷ []
+first-from : (a : ℕ → Bool) (c i n : ℕ) → i ≤ c → c < i + n → ((k : ℕ) → i ≤ k → k < c → a k ≡ true) → a c ≡ false
+    → take 1 (keep (λ k. not (a k)) (from i n)) ≡ c ∷ []
 first-from a c i zero h l f e = absurd (omega arith)
 first-from a c i (suc n) h l f e = go (decide (eqb i c)) (λ (u : suc i ≤ c) (v : c < suc i + n). first-from a c (suc i) n u v (λ k x y. f k (omega arith) y) e)
   where
@@ -68,7 +71,8 @@ first-from a c i (suc n) h l f e = go (decide (eqb i c)) (λ (u : suc i ≤ c) (
 none_from : (a : ℕ → Bool) (i n : ℕ) → ((k : ℕ) → i ≤ k → k < i + n → a k ≡ true) → keep (λ k. not (a k)) (from i n) ≡ []
 none_from a i zero f = refl
 none_from a i (suc n) f =
-    ap (λ (b : Bool). cons_if (not b) i (keep (λ k. not (a k)) (from (suc i) n))) (f i (omega arith) (omega arith)) ∙ none_from a (suc i) n (λ k x y. f k (omega arith) (omega arith))
+    ap (λ (b : Bool). cons_if (not b) i (keep (λ k. not (a k)) (from (suc i) n))) (f i (omega arith) (omega arith))
+    ∙ none_from a (suc i) n (λ k x y. f k (omega arith) (omega arith))
 
 pub first_uncovered : (size : ℕ) (covered : Mask) (c : ℕ) → FirstOpen (has covered) 0 c → size ≤ 128 → c < size → take 1 (uncovered size covered) ≡ c ∷ []
 unfolding uncovered
@@ -116,10 +120,12 @@ uncovered_more size covered mask more h e =
     sym (keep_keep (λ k. not (has covered k)) (λ n. not (member n (cells_of mask))) (below size)
     ∙ keep_same (λ k. not (has covered k) && not (member k (cells_of mask))) (λ k. not (has more k)) (below size)
     (λ k m. let l = below_at size m in
-    ap (λ (b : Bool). not (has covered k) && not b) (cells_member mask k (omega arith)) ∙ not_both (has covered k) (has mask k) ∙ sym (ap (λ (g : ℕ → Bool). not (g k)) e)))
+    ap (λ (b : Bool). not (has covered k) && not b) (cells_member mask k (omega arith)) ∙ not_both (has covered k) (has mask k)
+    ∙ sym (ap (λ (g : ℕ → Bool). not (g k)) e)))
 
 -- ---- a row of a search
-module _ (s : System) (law : Lawful s) (left : List ℕ) (covered mask : Mask) (rs : List ℕ) (r : ℕ) (row : r < length s.rows) (cells : (row_of s r).cells ≡ cells_of mask) where
+module _ (s : System) (law : Lawful s) (left : List ℕ) (covered mask : Mask) (rs : List ℕ) (r : ℕ) (row : r < length s.rows)
+    (cells : (row_of s r).cells ≡ cells_of mask) where
   row_lawful : LawfulRow s (row_of s r)
   row_lawful = law.row (row_of s r) (row_of_in s r row)
 
@@ -146,7 +152,8 @@ module _ (s : System) (law : Lawful s) (left : List ℕ) (covered mask : Mask) (
             all_of (λ n. member n (uncovered s.size covered)) q.cells (λ n m.
             let x = cells_at mask (subst (λ (l : List ℕ). Memᴰ n l) cells m) in
             member_of (uncovered s.size covered) (uncovered_of s.size covered (row_lawful.on_board n m)
-            (is_false (has covered n) (λ u. apart_not 128 (has mask) (has covered) (is_true (apart 128 (has mask) (has covered)) t) n x.0 x.1 (is_true (has covered n) u)))))
+            (is_false (has covered n)
+            (λ u. apart_not 128 (has mask) (has covered) (is_true (apart 128 (has mask) (has covered)) t) n x.0 x.1 (is_true (has covered n) u)))))
 
   and_swap : (a b : Bool) → (a && b) ≡ (b && a)
   and_swap true true = refl
@@ -190,7 +197,9 @@ module _ (s : System) (law : Lawful s) (left : List ℕ) (covered mask : Mask) (
       module _ (h : Searching s left covered rs) (fit : fits left covered mask q.kind ≡ true) where
         pub some_left : 0 < get_or left q.kind 0
         unfolding fits
-        some_left = ltb→lt 0 (get_or left q.kind 0) (and_right (apart 128 (has mask) (has covered)) (ltb 0 (get_or left q.kind 0)) (holds (fits left covered mask q.kind) fit))
+        some_left =
+            ltb→lt 0 (get_or left q.kind 0)
+            (and_right (apart 128 (has mask) (has covered)) (ltb 0 (get_or left q.kind 0)) (holds (fits left covered mask q.kind) fit))
 
         new_row : Memᴰ r rs → ⊥
         new_row m = subst T (sym (h.covers r m q.p row_lawful.covers_p) ∙ ap (has covered) at ∙ is_open) tt
@@ -204,10 +213,12 @@ module _ (s : System) (law : Lawful s) (left : List ℕ) (covered mask : Mask) (
         used_one k true e = ap (λ (b : Bool). length (cons_if b r [])) e
         used_one k false e = ap (λ (b : Bool). length (cons_if b r [])) e
 
-        still_taken : (k : ℕ) → k < length s.copies → get_or (set left q.kind (get_or left q.kind 0 - 1)) k 0 + length (of_kind s k (rs ++ (r ∷ []))) ≡ get_or s.copies k 0
+        still_taken : (k : ℕ) → k < length s.copies
+            → get_or (set left q.kind (get_or left q.kind 0 - 1)) k 0 + length (of_kind s k (rs ++ (r ∷ []))) ≡ get_or s.copies k 0
         still_taken k l = go (eqb q.kind k) refl
           where
-            go : (b : Bool) → eqb q.kind k ≡ b → get_or (set left q.kind (get_or left q.kind 0 - 1)) k 0 + length (of_kind s k (rs ++ (r ∷ []))) ≡ get_or s.copies k 0
+            go : (b : Bool) → eqb q.kind k ≡ b
+                → get_or (set left q.kind (get_or left q.kind 0 - 1)) k 0 + length (of_kind s k (rs ++ (r ∷ []))) ≡ get_or s.copies k 0
             go true e =
                 let i : q.kind ≡ k = eqb→eq q.kind k (holds (eqb q.kind k) e) in
                 let a : get_or (set left q.kind (get_or left q.kind 0 - 1)) k 0 ≡ get_or left k 0 - 1 =

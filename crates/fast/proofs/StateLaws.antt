@@ -4,7 +4,8 @@ use mathlib.Core.List.{List, [], ◌∷◌, ◌++◌}
 use mathlib.Core.Path.{◌≡◌, sym, ap, ◌∙◌}
 use native.Mathlib.Omega.{arith}
 use lib.ListN.{length, get_or, take, drop, set, length-drop, length-set, length-append, take-append-drop}
-use lib.Seq.{length-take-le, take_all, drop_at, take-take, get_or-take, get_or-drop, take-set-le, take-set-lt, drop-set-lt, drop-set-add, set-set, set-get_or, get_or-set_same}
+use lib.Seq.{length-take-le, take_all, drop_at, take-take, get_or-take, get_or-drop, take-set-le, take-set-lt, drop-set-lt, drop-set-add, set-set, set-get_or}
+use lib.Seq.{get_or-set_same}
 use Rattle.lists.proofs.ListLaws.{get_or_pos, take_set_next}
 use Rattle.kept.specs.Ready.{Restored}
 use Rattle.fast.specs.States.{left_at, state_length, path_part, left_part, put_row, set_left, take_copy, put_back}
@@ -76,7 +77,8 @@ module _ (s : List ℕ) (k x : ℕ) where
 -- ---- one copy fewer, and put back
 one_more : (left left₁ : List ℕ) (k : ℕ) → left₁ ≡ set left k (get_or left k 0 - 1) → 0 < get_or left k 0 → get_or left₁ k 0 + 1 ≡ get_or left k 0
 one_more left left₁ k e some =
-    let a : get_or left₁ k 0 ≡ get_or left k 0 - 1 = ap (λ (l : List ℕ). get_or l k 0) e ∙ get_or-set_same left k (get_or left k 0 - 1) 0 (get_or_pos left k some) in
+    let a : get_or left₁ k 0 ≡ get_or left k 0 - 1 =
+    ap (λ (l : List ℕ). get_or l k 0) e ∙ get_or-set_same left k (get_or left k 0 - 1) 0 (get_or_pos left k some) in
     omega arith
 
 put-back : (left left₁ : List ℕ) (k : ℕ) → left₁ ≡ set left k (get_or left k 0 - 1) → 0 < get_or left k 0 → set left₁ k (get_or left₁ k 0 + 1) ≡ left

@@ -28,11 +28,13 @@ use Rattle.kept.specs.Emission.{emit_kept}
 use Rattle.fast.specs.Searching.{fast_below, uncovered, state_by, Searching, goes_on}
 use Rattle.fast.specs.States.{state_length, left_part, put_row, take_copy}
 use Rattle.rows.specs.declared.Dims.{Dims}
-use Rattle.fast.proofs.ChoiceLaws.{chosen_at, choices_from, dead_lists, leaf_lists, all_choices, choices_end, choices_skip, choices_take, choices_pass, none_left, other_cell}
+use Rattle.fast.proofs.ChoiceLaws.{chosen_at, choices_from, dead_lists, leaf_lists, all_choices, choices_end, choices_skip, choices_take, choices_pass}
+use Rattle.fast.proofs.ChoiceLaws.{none_left, other_cell}
 use Rattle.rows.proofs.RowRangeLaws.{range_of, start_most, before_start, starts_up, from_start, range-of}
 use Rattle.kept.proofs.LeafLaws.{packing_emits}
 use Rattle.kept.proofs.ReadyLaws as laws
-use Rattle.fast.proofs.SearchingLaws.{goes_same, fits, fits_apart, first_uncovered, none_uncovered, some_uncovered, fits_possible, child_state, child_less, child_searching, fillable}
+use Rattle.fast.proofs.SearchingLaws.{goes_same, fits, fits_apart, first_uncovered, none_uncovered, some_uncovered, fits_possible, child_state, child_less}
+use Rattle.fast.proofs.SearchingLaws.{child_searching, fillable}
 use Rattle.fast.proofs.UnmetLaws.{untried, unmet}
 use Rattle.fast.proofs.StateLaws.{placed_length, placed_left, placed_path}
 
@@ -117,7 +119,8 @@ module _ {d : Dims} {work chart : List ℕ} (ready : Ready d work chart) where
     leaf_emits i capacity c e o l =
         let z = size_is in
         packing_emits S ready.lawful (take n path) all_rows h.apart i capacity e
-        ∙ sym (ap (λ (L : List Listed). emits capacity L e) (leaf_lists S i t (ap (λ (l : List ℕ). is_empty l) (none_uncovered S.size covered c o (omega arith)))))
+        ∙ sym (ap (λ (L : List Listed). emits capacity L e)
+        (leaf_lists S i t (ap (λ (l : List ℕ). is_empty l) (none_uncovered S.size covered c o (omega arith)))))
 
 -- ---- cell c is the first that is left
 pub record Opened (d : Dims) (work chart left path : List ℕ) (n : ℕ) (covered : Mask) (c : ℕ) : Type 0 where
@@ -147,7 +150,11 @@ module _ {d : Dims} {work chart left path : List ℕ} {n : ℕ} {covered : Mask}
   row_small r l = let m = rows_many x.ready in let f = x.ready.lawful.few_rows in omega arith
 
   first : take 1 the_state.free ≡ c ∷ []
-  first = let z = size_is x.ready in let f = few in ap (λ (l : List ℕ). take 1 l) (free_is x.ready x.of_rows x.searching) ∙ first_uncovered the_system.size covered c x.first (omega arith) (omega arith)
+  first =
+      let z = size_is x.ready in
+      let f = few in
+      ap (λ (l : List ℕ). take 1 l) (free_is x.ready x.of_rows x.searching)
+      ∙ first_uncovered the_system.size covered c x.first (omega arith) (omega arith)
 
   pub room_left : n < 128
   room_left =
@@ -177,41 +184,55 @@ module _ {d : Dims} {work chart left path : List ℕ} {n : ℕ} {covered : Mask}
       (λ g. other_cell the_system i the_state c first (row_at work r) g))
 
   module _ (i : Identify) (capacity : ℕ) (e : Emitted) where
-    pub loop_starts : emits capacity (choices_from the_system i the_state (start_of the_system.rows (128 * 0 + c))) e ≡ emits capacity (fast_below the_system i the_state) e
+    pub loop_starts : emits capacity (choices_from the_system i the_state (start_of the_system.rows (128 * 0 + c))) e
+        ≡ emits capacity (fast_below the_system i the_state) e
     loop_starts =
-        let b : length the_state.free ≤ the_system.size = let w = x.searching.room in let z = ap (λ (l : List ℕ). length l) (free_is x.ready x.of_rows x.searching) in omega arith in
+        let b : length the_state.free ≤ the_system.size =
+        let w = x.searching.room in
+        let z = ap (λ (l : List ℕ). length l) (free_is x.ready x.of_rows x.searching) in
+        omega arith in
         ap (λ (L : List Listed). emits capacity L e)
-        (sym (passed i 0 (start_of the_system.rows (128 * 0 + c)) (omega arith) (λ r u v w g. absurd (let k = start_before x.ready (128 * 0 + c) r v in omega arith)))
+        (sym (passed i 0 (start_of the_system.rows (128 * 0 + c)) (omega arith)
+        (λ r u v w g. absurd (let k = start_before x.ready (128 * 0 + c) r v in omega arith)))
         ∙ all_choices the_system x.ready.lawful i the_state (some_uncovered the_state.free c first).0 b)
 
     -- no row is of a kind behind the last
-    pub loop_ends : (k : ℕ) (whole : Emitted) → d.kinds ≤ k → emits capacity (choices_from the_system i the_state (start_of the_system.rows (128 * k + c))) e ≡ whole → e ≡ whole
+    pub loop_ends : (k : ℕ) (whole : Emitted) → d.kinds ≤ k
+        → emits capacity (choices_from the_system i the_state (start_of the_system.rows (128 * k + c))) e ≡ whole → e ≡ whole
     loop_ends k whole h g =
         let m = rows_many x.ready in
         sym (emits_none capacity e) ∙ sym (ap (λ (L : List Listed). emits capacity L e)
         (passed i (start_of the_system.rows (128 * k + c)) d.rows (start_few x.ready (128 * k + c))
-        (λ r u v w p. absurd (let a = start_behind x.ready (128 * k + c) r u w in let b = laws.row_kind d work chart x.ready.lawful r w in let f = row_first x.ready r w in omega arith))
+        (λ r u v w p.
+        absurd (let a = start_behind x.ready (128 * k + c) r u w in
+        let b = laws.row_kind d work chart x.ready.lawful r w in
+        let f = row_first x.ready r w in
+        omega arith))
         ∙ choices_end the_system i the_state d.rows (omega arith))) ∙ g
 
     -- a kind without copies left is passed; and behind the rows of a kind those of the next come
-    pub kind_passes : (k : ℕ) (whole : Emitted) → get_or left k 0 ≡ 0 → emits capacity (choices_from the_system i the_state (start_of the_system.rows (128 * k + c))) e ≡ whole
+    pub kind_passes : (k : ℕ) (whole : Emitted) → get_or left k 0 ≡ 0
+        → emits capacity (choices_from the_system i the_state (start_of the_system.rows (128 * k + c))) e ≡ whole
         → emits capacity (choices_from the_system i the_state (start_of the_system.rows (128 * (k + 1) + c))) e ≡ whole
     kind_passes k whole none g =
         sym (ap (λ (L : List Listed). emits capacity L e)
-        (passed i (start_of the_system.rows (128 * k + c)) (start_of the_system.rows (128 * (k + 1) + c)) (start_up x.ready (128 * k + c) (128 * (k + 1) + c) (omega arith))
+        (passed i (start_of the_system.rows (128 * k + c)) (start_of the_system.rows (128 * (k + 1) + c))
+        (start_up x.ready (128 * k + c) (128 * (k + 1) + c) (omega arith))
         (λ r u v w p.
         let a = start_behind x.ready (128 * k + c) r u w in
         let b = start_before x.ready (128 * (k + 1) + c) r v in
         let q : (row_at work r).kind ≡ k = omega arith in
         ap (λ (j : ℕ). get_or left j 0) q ∙ none))) ∙ g
 
-    pub kind_ends : (k r : ℕ) (whole : Emitted) → r ≡ start_of the_system.rows (128 * k + c + 1) → emits capacity (choices_from the_system i the_state r) e ≡ whole
+    pub kind_ends : (k r : ℕ) (whole : Emitted) → r ≡ start_of the_system.rows (128 * k + c + 1)
+        → emits capacity (choices_from the_system i the_state r) e ≡ whole
         → emits capacity (choices_from the_system i the_state (start_of the_system.rows (128 * (k + 1) + c))) e ≡ whole
     kind_ends k r whole is g =
         let f = cell_below in
         sym (ap (λ (L : List Listed). emits capacity L e)
         (ap (choices_from the_system i the_state) is
-        ∙ passed i (start_of the_system.rows (128 * k + c + 1)) (start_of the_system.rows (128 * (k + 1) + c)) (start_up x.ready (128 * k + c + 1) (128 * (k + 1) + c) (omega arith))
+        ∙ passed i (start_of the_system.rows (128 * k + c + 1)) (start_of the_system.rows (128 * (k + 1) + c))
+        (start_up x.ready (128 * k + c + 1) (128 * (k + 1) + c) (omega arith))
         (λ r u v w p.
         absurd (let a = start_behind x.ready (128 * k + c + 1) r u w in let b = start_before x.ready (128 * (k + 1) + c) r v in omega arith)))) ∙ g
 
@@ -273,7 +294,8 @@ module _ {d : Dims} {work chart left path : List ℕ} {n : ℕ} {covered : Mask}
         sym (ap (λ (L : List Listed). emits capacity L e) (choices_pass the_system i the_state c first r row_in_rows at_row (sym test_is ∙ f)))
 
     takes : fits left covered (mask_at work r) (row_at work r).kind ≡ true → (i : Identify)
-        → choices_from the_system i the_state r ≡ fast_below the_system i (choose the_state (row_of the_system r)) ++ choices_from the_system i the_state (r + 1)
+        → choices_from the_system i the_state r
+        ≡ fast_below the_system i (choose the_state (row_of the_system r)) ++ choices_from the_system i the_state (r + 1)
     takes f i = choices_take the_system i the_state c first r row_in_rows at_row (sym test_is ∙ f)
 
     module _ (last shown : List ℕ) (sh : Shown d.size (take d.places (scans_part chart)) last shown) where
@@ -285,22 +307,26 @@ module _ {d : Dims} {work chart left path : List ℕ} {n : ℕ} {covered : Mask}
           let rest = choices_from the_system i the_state (r + 1) in
           let here = fast_below the_system i (choose the_state (row_of the_system r)) in
           ap (emits capacity rest)
-          (sym (unmet the_system x.ready.lawful left covered (take n path) (all_rows x.ready x.of_rows x.searching) x.searching r row_in_rows (sym test_is ∙ f) last shown sh
+          (sym (unmet the_system x.ready.lawful left covered (take n path) (all_rows x.ready x.of_rows x.searching) x.searching r row_in_rows
+          (sym test_is ∙ f) last shown sh
           (ap (λ (q : Placement). shows_row (owned_in (pieces_part chart) d.pieces) shown q) (row_is x.ready r row) ∙ v) i capacity e w is))
           ∙ sym (emits_append capacity here rest e) ∙ ap (λ (L : List Listed). emits capacity L e) (sym (takes f i))
 
       -- or the search does not go on below it
-      dead : fits left covered (mask_at work r) (row_at work r).kind ≡ true → goes_on the_system (choose (state_by the_system left covered []) (row_at work r)) ≡ false
+      dead : fits left covered (mask_at work r) (row_at work r).kind ≡ true
+          → goes_on the_system (choose (state_by the_system left covered []) (row_at work r)) ≡ false
           → (i : Identify) (capacity : ℕ) (e : Emitted)
           → emits capacity (choices_from the_system i the_state (r + 1)) e ≡ emits capacity (choices_from the_system i the_state r) e
       dead f g i capacity e =
           let none = dead_lists the_system i (choose the_state (row_of the_system r))
-          (ap (λ (q : Placement). goes_on the_system (choose the_state q)) (row_is x.ready r row) ∙ goes_same the_system left covered (take n path) (row_at work r) ∙ g) in
+          (ap (λ (q : Placement). goes_on the_system (choose the_state q)) (row_is x.ready r row)
+          ∙ goes_same the_system left covered (take n path) (row_at work r) ∙ g) in
           sym (ap (λ (L : List Listed). emits capacity L e) (takes f i ∙ ap (λ (L : List Listed). L ++ choices_from the_system i the_state (r + 1)) none))
 
       pub turn_passes : 0 < get_or left (row_at work r).kind 0 → (i : Identify) (capacity : ℕ) (e whole : Emitted) → e.last ≡ last
           → (apart 128 (has (mask_at work r)) (has covered)
-          && ((not e.waiting || shows_row (owned_in (pieces_part chart) d.pieces) shown (row_at work r)) && goes_on the_system (choose (state_by the_system left covered []) (row_at work r)))) ≡ false
+          && ((not e.waiting || shows_row (owned_in (pieces_part chart) d.pieces) shown (row_at work r))
+          && goes_on the_system (choose (state_by the_system left covered []) (row_at work r)))) ≡ false
           → emits capacity (choices_from the_system i the_state r) e ≡ whole → emits capacity (choices_from the_system i the_state (r + 1)) e ≡ whole
       turn_passes some i capacity e whole is f g =
           let fit = fits_apart left covered (mask_at work r) (row_at work r).kind some in
@@ -327,9 +353,11 @@ module _ {d : Dims} {work chart left path : List ℕ} {n : ℕ} {covered : Mask}
         call_less : length (uncovered d.size more) < length (uncovered d.size covered)
         call_less =
             subst (λ (m : ℕ). length (uncovered m more) < length (uncovered m covered)) (size_is x.ready)
-            (child_less the_system x.ready.lawful left covered (mask_at work r) (take n path) r row_in_rows (row-cells x.ready r row) more union c at_row is_open in_size)
+            (child_less the_system x.ready.lawful left covered (mask_at work r) (take n path) r row_in_rows
+            (row-cells x.ready r row) more union c at_row is_open in_size)
 
-        module _ (left' path' : List ℕ) (l : left' ≡ set left (row_at work r).kind (get_or left (row_at work r).kind 0 - 1)) (p : take (n + 1) path' ≡ take n path ++ (r ∷ [])) where
+        module _ (left' path' : List ℕ) (l : left' ≡ set left (row_at work r).kind (get_or left (row_at work r).kind 0 - 1))
+            (p : take (n + 1) path' ≡ take n path ++ (r ∷ [])) where
           left_row : left' ≡ set left (row_of the_system r).kind (get_or left (row_of the_system r).kind 0 - 1)
           left_row = l ∙ ap (λ (k : ℕ). set left k (get_or left k 0 - 1)) (sym kind_is)
 
@@ -337,7 +365,8 @@ module _ {d : Dims} {work chart left path : List ℕ} {n : ℕ} {covered : Mask}
           call_searching =
               subst (λ (y : List ℕ). Searching the_system y more (take (n + 1) path')) (sym left_row)
               (subst (λ (y : List ℕ). Searching the_system (set left (row_of the_system r).kind (get_or left (row_of the_system r).kind 0 - 1)) more y) (sym p)
-              (child_searching the_system x.ready.lawful left covered (mask_at work r) (take n path) r row_in_rows (row-cells x.ready r row) more union c at_row is_open in_size x.searching fit_row))
+              (child_searching the_system x.ready.lawful left covered (mask_at work r) (take n path) r row_in_rows
+              (row-cells x.ready r row) more union c at_row is_open in_size x.searching fit_row))
 
           call_rows : n + 1 ≤ length path' → OfRows d path' (n + 1)
           call_rows e =
@@ -354,7 +383,8 @@ module _ {d : Dims} {work chart left path : List ℕ} {n : ℕ} {covered : Mask}
                   and_both (ltb z d.rows) (all (λ j. ltb j d.rows) (xs ++ (r ∷ []))) (and_left (ltb z d.rows) (all (λ j. ltb j d.rows) xs) u)
                   (all_last xs (and_right (ltb z d.rows) (all (λ j. ltb j d.rows) xs) u))
 
-          turn : (i : Identify) (capacity : ℕ) (e e' whole : Emitted) → e' ≡ emits capacity (fast_below the_system i (state_by the_system left' more (take (n + 1) path'))) e
+          turn : (i : Identify) (capacity : ℕ) (e e' whole : Emitted)
+              → e' ≡ emits capacity (fast_below the_system i (state_by the_system left' more (take (n + 1) path'))) e
               → emits capacity (choices_from the_system i the_state r) e ≡ whole → emits capacity (choices_from the_system i the_state (r + 1)) e' ≡ whole
           turn i capacity e e' whole g w =
               let s : state_by the_system left' more (take (n + 1) path') ≡ choose the_state (row_of the_system r) =
@@ -418,5 +448,6 @@ module _ {d : Dims} {work chart state₀ state : List ℕ} {n : ℕ} {covered : 
       pub place_turns : (i : Identify) (capacity : ℕ) (e e' whole : Emitted)
           → e' ≡ emits capacity (fast_below (system_in d work chart) i (state_by (system_in d work chart) (left_part placed) more (take (n + 1) placed))) e
           → emits capacity (choices_from (system_in d work chart) i (state_by (system_in d work chart) (left_part state₀) covered (take n state₀)) r) e ≡ whole
-          → emits capacity (choices_from (system_in d work chart) i (state_by (system_in d work chart) (left_part state₀) covered (take n state₀)) (r + 1)) e' ≡ whole
+          → emits capacity (choices_from (system_in d work chart) i (state_by (system_in d work chart) (left_part state₀) covered (take n state₀)) (r + 1)) e'
+          ≡ whole
       place_turns = turn x r y.row y.at fit₀ more union_is (left_part placed) placed left_is path_is

@@ -120,7 +120,8 @@ module _ (s : System) (q : Placement) where
       and_right (any (eqb x.p) (take 1 t.free)) (possible t x) (keep_at (λ (z : Placement). any (eqb z.p) (take 1 t.free) && possible t z) s.rows a).1
 
   -- each packing that the search finds is chosen at such a state
-  found : (fuel : ℕ) (t : State) → Chosen s q t → {P : List Placement} → Memᴰ P (search (fast_choices s.rows) fuel t) → (v : State) × Chosen s q v × (P ≡ v.chosen)
+  found : (fuel : ℕ) (t : State) → Chosen s q t → {P : List Placement} → Memᴰ P (search (fast_choices s.rows) fuel t)
+      → (v : State) × Chosen s q v × (P ≡ v.chosen)
   unfolding search
   found zero t h {P} m = go (is_empty t.free) m
     where
@@ -129,16 +130,19 @@ module _ (s : System) (q : Placement) where
       go false k = absurd (Memᴰ.not-nil k)
   found (suc fuel) t h {P} m =
       go (is_empty t.free) m
-      (λ (x : Placement) (a : Memᴰ x (fast_choices s.rows t)) (k : Memᴰ P (search (fast_choices s.rows) fuel (choose t x))). found fuel (choose t x) (still_chosen t x h (can-be t x a)) k)
+      (λ (x : Placement) (a : Memᴰ x (fast_choices s.rows t)) (k : Memᴰ P (search (fast_choices s.rows) fuel (choose t x))). found fuel (choose t x)
+      (still_chosen t x h (can-be t x a)) k)
     where
       go : (b : Bool) → Memᴰ P (cond b (t.chosen ∷ []) (each (fast_choices s.rows t) (λ x. search (fast_choices s.rows) fuel (choose t x))))
-          → ((x : Placement) → Memᴰ x (fast_choices s.rows t) → Memᴰ P (search (fast_choices s.rows) fuel (choose t x)) → (v : State) × Chosen s q v × (P ≡ v.chosen))
+          → ((x : Placement) → Memᴰ x (fast_choices s.rows t) → Memᴰ P (search (fast_choices s.rows) fuel (choose t x))
+          → (v : State) × Chosen s q v × (P ≡ v.chosen))
           → (v : State) × Chosen s q v × (P ≡ v.chosen)
       go true k f = (t, h, Memᴰ.eq_of_singleton k)
       go false k f = let r = each_at (λ (x : Placement). search (fast_choices s.rows) fuel (choose t x)) (fast_choices s.rows t) k in f r.0 r.1 r.2
 
 -- ---- row r, which is possible, is chosen
-module _ (s : System) (law : Lawful s) (left : List ℕ) (covered : Mask) (rs : List ℕ) (rows : T (all (λ r. ltb r (length s.rows)) rs)) (h : Searching s left covered rs)
+module _ (s : System) (law : Lawful s) (left : List ℕ) (covered : Mask) (rs : List ℕ) (rows : T (all (λ r. ltb r (length s.rows)) rs))
+    (h : Searching s left covered rs)
     (r : ℕ) (row : r < length s.rows) (fit : possible (state_by s left covered rs) (row_of s r) ≡ true) where
   abbrev t : State
   t = state_by s left covered rs
@@ -182,7 +186,8 @@ module _ (s : System) (law : Lawful s) (left : List ℕ) (covered : Mask) (rs : 
       let a = get_or-take (length s.copies) left k 0 b in
       let test : Placement → Bool = λ z. eqb z.kind k in
       let u : used (put_all [] (map (row_of s) rs)) k ≡ length (of_kind s k rs) =
-      ap (λ (P : List Placement). used P k) (packing_sorted s law rs rows h.apart) ∙ how_many_length test (map (row_of s) (sort_rows rs)) ∙ ap length (keep_map (row_of s) test (sort_rows rs))
+      ap (λ (P : List Placement). used P k) (packing_sorted s law rs rows h.apart) ∙ how_many_length test (map (row_of s) (sort_rows rs))
+      ∙ ap length (keep_map (row_of s) test (sort_rows rs))
       ∙ length-map (of_kind s k (sort_rows rs)) (row_of s) ∙ sort_keep (λ j. eqb (row_of s j).kind k) rs in
       let e = h.taken k b in
       omega arith
@@ -214,8 +219,10 @@ module _ (s : System) (law : Lawful s) (left : List ℕ) (covered : Mask) (rs : 
         let e = law.copies_each q.kind b in
         let is : answer_by s v.0.chosen ≡ x.answer = ap (answer_by s) (sym v.2) ∙ ap (λ (z : Listed). z.answer) y.2 in
         is_false (same x.answer last) (λ w.
-        true≢false (sym (answer_shows s law v.0.chosen q v.1.is_in (row_of_in s r row) v.1.alone (omega arith) last shown sh (is ∙ same→eq x.answer last w)) ∙ hidden))
+        true≢false (sym (answer_shows s law v.0.chosen q v.1.is_in (row_of_in s r row) v.1.alone (omega arith) last shown sh (is ∙ same→eq x.answer last w))
+        ∙ hidden))
 
     -- what lies below it is not what is waited for
-    pub unmet : (capacity : ℕ) (e : Emitted) → e.waiting ≡ true → e.last ≡ last → emits capacity (fast_below s i (choose (state_by s left covered rs) (row_of s r))) e ≡ e
+    pub unmet : (capacity : ℕ) (e : Emitted) → e.waiting ≡ true → e.last ≡ last
+        → emits capacity (fast_below s i (choose (state_by s left covered rs) (row_of s r))) e ≡ e
     unmet capacity e w is = emits_unmet capacity (fast_below s i (choose t q)) e w (λ x m. ap (same x.answer) is ∙ others x m)

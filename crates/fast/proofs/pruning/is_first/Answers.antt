@@ -2,7 +2,6 @@
 use mathlib.Core.Bool.{not}
 use mathlib.Core.Path.{ap}
 use native.Mathlib.Omega.{arith}
-use borrow.Author.Rules.{rules}
 use Rattle.fast.proofs.PrunedLaws.{first_small}
 use Rattle.fast.proofs.UnmetLaws.{test_fails, test_passes}
 use Rattle.fast.proofs.pruning.is_first.Goals as goal

@@ -1,6 +1,5 @@
 -- `left_of` meets its contract: the copies left stand behind the path. Assumes nothing.
 use mathlib.Core.Path.{sym}
-use borrow.Author.Rules.{rules}
 use Rattle.fast.proofs.StateLaws.{left-at}
 use Rattle.fast.proofs.state.left_of.Goals as goal
 

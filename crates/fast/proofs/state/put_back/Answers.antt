@@ -1,7 +1,6 @@
 -- `put_back` meets its contract: one copy more is left. Assumes nothing.
 use Prim.Native.Nat.{ℕ, ◌+◌}
 use mathlib.Core.Path.{ap, ◌∙◌}
-use borrow.Author.Rules.{rules}
 use Rattle.fast.specs.States.{set_left, put_back}
 use Rattle.fast.proofs.state.put_back.Goals as goal
 

@@ -1,6 +1,5 @@
 -- `put_row` meets its contract: the path stands first. Assumes nothing.
 use mathlib.Core.Path.{refl}
-use borrow.Author.Rules.{rules}
 use Rattle.fast.specs.States.{put_row}
 use Rattle.fast.proofs.state.put_row.Goals as goal
 

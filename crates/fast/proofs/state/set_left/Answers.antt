@@ -1,6 +1,5 @@
 -- `set_left` meets its contract: the copies left stand behind the path. Assumes nothing.
 use mathlib.Core.Path.{refl}
-use borrow.Author.Rules.{rules}
 use Rattle.fast.specs.States.{set_left}
 use Rattle.fast.proofs.state.set_left.Goals as goal
 

@@ -1,7 +1,6 @@
 -- `take_copy` meets its contract: one copy fewer is left. Assumes nothing.
 use Prim.Native.Nat.{ℕ, ◌-◌}
 use mathlib.Core.Path.{ap, ◌∙◌}
-use borrow.Author.Rules.{rules}
 use Rattle.fast.specs.States.{set_left, take_copy}
 use Rattle.fast.proofs.state.take_copy.Goals as goal
 
