@@ -1,33 +1,18 @@
 -- The cells put so far stand for the start of the stretch, from the place on. Assumes nothing.
-use Prim.Native.Nat.{◌-◌, ◌≤◌}
+use Prim.Native.Nat.{◌-◌}
 use mathlib.Core.List.{map}
 use mathlib.Core.Path.{◌≡◌, refl, ap, ◌∙◌}
 use native.Mathlib.Omega.{arith}
-use lib.ListN.{take, drop}
-use lib.Seq.{paste, paste-zero}
+use lib.Seq.{paste}
 use Rattle.files.specs.Stretches.{stretch}
-use Rattle.files.proofs.ReadingLaws.{cell-at, cell_put, cells_length}
-use borrow.Author.Rules.{rules}
+use Rattle.files.proofs.ReadingLaws.{cell-at, cell_put}
 use Rattle.files.proofs.reading.put_cells.Goals as goal
-
-pub loop-i-init : goal.loop-i-init
-loop-i-init c =
-    let a = c.args in
-    (omega arith, paste-zero a.cells.now a.at (map (λ x. x - 48) (take (a.s.to - a.s.from) (drop a.s.from a.text.now))))
 
 pub overflow_sub-cells : goal.overflow_sub-cells
 overflow_sub-cells c =
     let a = c.args in
     let p = c.requires in
     cell-at a.text.now a.s p.0 c.loop-i.i c.loop-i-test.true p.1
-
-pub bounds-cells-at : goal.bounds-cells-at
-unfolding stretch
-bounds-cells-at c =
-    let a = c.args in
-    let p = c.requires in
-    let l = c.loop-i in
-    omega (arith, cells_length a.text.now a.s p.0 a.cells.now a.at l.i l.invariant.0 p.2 l.invariant.1)
 
 pub loop-i-preserved : goal.loop-i-preserved
 unfolding stretch
@@ -36,14 +21,6 @@ loop-i-preserved c =
     let p = c.requires in
     let l = c.loop-i in
     (omega arith, cell_put a.text.now a.s p.0 l.i c.loop-i-test.true a.cells.now a.at l.cells p.2 l.invariant.1)
-
-pub shape_of-cells : goal.shape_of-cells
-unfolding stretch
-shape_of-cells c =
-    let a = c.args in
-    let p = c.requires in
-    let l = c.loop-i in
-    cells_length a.text.now a.s p.0 a.cells.now a.at l.i l.invariant.0 p.2 l.invariant.1
 
 pub returns : goal.returns
 unfolding stretch

@@ -1,12 +1,8 @@
 use Prim.Native.Nat.{◌-◌, ◌≤◌}
 use mathlib.Core.List.{map}
-use mathlib.Core.Path.{◌≡◌, refl, ap, ◌∙◌}
-use native.Mathlib.Omega.{arith}
+use mathlib.Core.Path.{◌≡◌}
 use lib.ListN.{take, drop}
-use lib.Seq.{paste, paste-zero}
-use Rattle.files.specs.Stretches.{stretch}
-use Rattle.files.proofs.ReadingLaws.{cell-at, cell_put, cells_length}
-use borrow.Author.Rules.{rules}
+use lib.Seq.{paste}
 use Rattle.files.proofs.reading.put_cells.Given as goal
 
 abbrev pub invariant-loop-i : goal.invariant-loop-i

@@ -7,7 +7,6 @@ use Rattle.files.specs.Stretches.{stretch}
 use Rattle.files.proofs.SpanLaws.{is_cell}
 use Rattle.files.proofs.ReadingLaws.{board_fields, board-grid, held, grid_cells}
 use Rattle.files.proofs.ReadingLineLaws.{first_ended, file_lines, pieces_kept, board_fits, call_config, asked_pieces, asked_board, asked_bytes}
-use borrow.Author.Rules.{rules}
 use Rattle.files.proofs.reading.read_lines.Goals as goal
 
 pub find-requires-2 : goal.find-requires-2
@@ -29,7 +28,7 @@ read_pieces-p-requires c =
     let first = c.find in
     let second = c.find-2 in
     let here = file_lines bytes c.requires.0 first.result first.ensures second.result second.ensures in
-    (omega (arith, here.ended), here.few, c.requires.1, here.pieces-1)
+    (omega (arith, here.ended), here.few, c.requires.1, here.pieces)
 
 pub record_in-board-requires : goal.record_in-board-requires
 record_in-board-requires c =
@@ -37,7 +36,8 @@ record_in-board-requires c =
     let first = c.find in
     let second = c.find-2 in
     let here = file_lines bytes c.requires.0 first.result first.ensures second.result second.ensures in
-    (here.second_within, omega (arith, board_fields (stretch (record { from = first.result + 1; to = second.result }) bytes) here.board), board-grid (stretch (record { from = first.result + 1; to = second.result }) bytes) here.board)
+    let line = stretch (record { from = first.result + 1; to = second.result }) bytes in
+    (here.second_within, omega (arith, board_fields line here.board), board-grid line here.board)
 
 pub field_of-requires : goal.field_of-requires
 field_of-requires c =
@@ -45,7 +45,8 @@ field_of-requires c =
     let first = c.find in
     let second = c.find-2 in
     let here = file_lines bytes c.requires.0 first.result first.ensures second.result second.ensures in
-    (here.second_within, omega (arith, board_fields (stretch (record { from = first.result + 1; to = second.result }) bytes) here.board))
+    let line = stretch (record { from = first.result + 1; to = second.result }) bytes in
+    (here.second_within, omega (arith, board_fields line here.board))
 
 pub put_cells-used-requires : goal.put_cells-used-requires
 put_cells-used-requires c =
@@ -53,11 +54,12 @@ put_cells-used-requires c =
     let first = c.find in
     let second = c.find-2 in
     let here = file_lines bytes c.requires.0 first.result first.ensures second.result second.ensures in
+    let line = stretch (record { from = first.result + 1; to = second.result }) bytes in
     let f = c.field_of.ensures in
     let p = c.read_pieces-p.ensures in
     let k = pieces_kept here c.args.cells.now c.requires.1 p in
     let m = board_fits here c.args.cells.now c.requires.1 p f in
-    (f.0, held (all is_cell) f.1 (grid_cells 1 (stretch (record { from = first.result + 1; to = second.result }) bytes) (board-grid (stretch (record { from = first.result + 1; to = second.result }) bytes) here.board)), omega arith)
+    (f.0, held (all is_cell) f.1 (grid_cells 1 line (board-grid line here.board)), omega arith)
 
 pub returns : goal.returns
 returns c =

@@ -3,7 +3,6 @@ use native.Mathlib.Omega.{arith}
 use Rattle.files.specs.Stretches.{stretch}
 use Rattle.files.proofs.LineLaws.{fields_few}
 use Rattle.files.proofs.ReadingLaws.{of_side, grid_a, grid_b, grid_c, record_is}
-use borrow.Author.Rules.{rules}
 use Rattle.files.proofs.reading.record_in.Goals as goal
 
 pub number_in-requires : goal.number_in-requires
@@ -28,4 +27,5 @@ number_in-requires-3 c =
 pub returns : goal.returns
 returns c =
     let a = c.args in
-    record_is a.count a.wood a.n a.start (stretch a.line a.text.now) c.number_in.ensures.0 c.field_of.ensures.1 c.number_in-2.ensures.0 c.field_of-2.ensures.1 c.number_in-3.ensures.0 c.field_of-3.ensures.1
+    record_is a.count a.wood a.n a.start (stretch a.line a.text.now) c.number_in.ensures.0 c.field_of.ensures.1
+    c.number_in-2.ensures.0 c.field_of-2.ensures.1 c.number_in-3.ensures.0 c.field_of-3.ensures.1

@@ -1,19 +1,12 @@
 -- `files::spans::are_cells` meets its contract. Assumes nothing.
-use Prim.Native.Nat.{◌-◌, ◌≤◌}
-use mathlib.Core.Path.{◌≡◌, refl, sym, ◌∙◌}
+use mathlib.Core.Path.{sym, ◌∙◌}
 use mathlib.Core.Logic.{inl, inr}
 use native.Mathlib.Omega.{arith}
 use lib.ListN.{get_or}
-use Rattle.lists.specs.Lists.{all, before}
 use Rattle.files.specs.Stretches.{stretch}
 use Rattle.files.proofs.SpanLaws as laws
 use Rattle.files.proofs.SpanLaws.{between, is_cell}
-use Rattle.files.proofs.spans.are_cells.Reads as reads
-use Rattle.files.proofs.spans.are_cells.Lts as lts
 use Rattle.files.proofs.spans.are_cells.Goals as goal
-
-pub loop-i-init : goal.loop-i-init
-loop-i-init c = (omega arith, omega arith, refl)
 
 pub returns-then-text-i-lt48 : goal.returns-then-text-i-lt48
 unfolding stretch
@@ -36,7 +29,8 @@ loop-i-preserved c =
     let l = c.loop-i in
     let a = c.args in
     let t = a.text.now in
-    (omega arith, omega arith, laws.all_more is_cell t l.i a.s.to (omega arith) (omega arith) (laws.cell_yes (get_or t l.i 0) (omega arith) (omega arith)) ∙ l.invariant.2)
+    let cell = laws.cell_yes (get_or t l.i 0) (omega arith) (omega arith) in
+    (omega arith, omega arith, laws.all_more is_cell t l.i a.s.to (omega arith) (omega arith) cell ∙ l.invariant.2)
 
 pub returns : goal.returns
 unfolding stretch

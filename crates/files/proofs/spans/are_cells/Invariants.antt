@@ -1,14 +1,7 @@
 use Prim.Native.Nat.{◌-◌, ◌≤◌}
-use mathlib.Core.Path.{◌≡◌, refl, sym, ◌∙◌}
-use mathlib.Core.Logic.{inl, inr}
-use native.Mathlib.Omega.{arith}
-use lib.ListN.{get_or}
-use Rattle.lists.specs.Lists.{all, before}
-use Rattle.files.specs.Stretches.{stretch}
-use Rattle.files.proofs.SpanLaws as laws
+use mathlib.Core.Path.{◌≡◌}
+use Rattle.lists.specs.Lists.{all}
 use Rattle.files.proofs.SpanLaws.{between, is_cell}
-use Rattle.files.proofs.spans.are_cells.Reads as reads
-use Rattle.files.proofs.spans.are_cells.Lts as lts
 use Rattle.files.proofs.spans.are_cells.Given as goal
 
 abbrev pub invariant-loop-i : goal.invariant-loop-i

@@ -1,18 +1,10 @@
 -- `files::spans::find` meets its contract. Assumes nothing.
-use Prim.Native.Nat.{◌+◌, ◌-◌, ◌≤◌}
-use mathlib.Core.Path.{◌≡◌, refl, sym, ◌∙◌}
+use mathlib.Core.Path.{sym, ◌∙◌}
 use native.Mathlib.Omega.{arith}
-use lib.Dec.{eqb}
-use Rattle.lists.specs.Lists.{before}
 use Rattle.files.specs.Stretches.{stretch}
 use Rattle.files.proofs.SpanLaws as laws
 use Rattle.files.proofs.SpanLaws.{between}
-use Rattle.files.proofs.spans.find.Reads as reads
-use Rattle.files.proofs.spans.find.Lts as lts
 use Rattle.files.proofs.spans.find.Goals as goal
-
-pub loop-i-init : goal.loop-i-init
-loop-i-init c = (omega arith, omega arith, refl)
 
 pub returns-then-text-i : goal.returns-then-text-i
 unfolding stretch

@@ -1,17 +1,10 @@
 -- `files::spans::is_number` meets its contract. Assumes nothing.
-use Prim.Native.Nat.{◌-◌, ◌≤◌}
-use mathlib.Core.Path.{◌≡◌, refl, sym, ◌∙◌}
+use mathlib.Core.Path.{sym, ◌∙◌}
 use native.Mathlib.Omega.{arith}
-use borrow.Author.Tests.{not-true, not-false}
-use borrow.Author.Rules.{rules}
-use Rattle.lists.specs.Lists.{all, before}
 use Rattle.definitions.specs.Files.{is_digit}
 use Rattle.files.specs.Stretches.{stretch}
 use Rattle.files.proofs.SpanLaws as laws
 use Rattle.files.proofs.SpanLaws.{between}
-use Rattle.files.proofs.spans.is_number.Reads as reads
-use Rattle.files.proofs.spans.is_number.Lts as lts
-use Rattle.files.proofs.spans.is_digit.Reads as is-digit-reads
 use Rattle.files.proofs.spans.is_number.Goals as goal
 
 pub returns-then-n-eq0 : goal.returns-then-n-eq0
@@ -28,23 +21,23 @@ returns-then-most-n c =
     let t = a.text.now in
     laws.number_long a.most t a.s.from a.s.to (omega arith) (omega arith) (omega arith)
 
-pub loop-i-init : goal.loop-i-init
-loop-i-init c = (omega arith, omega arith, refl)
-
 pub returns-then-not-is_digit : goal.returns-then-not-is_digit
 unfolding stretch
 returns-then-not-is_digit c =
     let l = c.loop-i in
     let a = c.args in
     let t = a.text.now in
-    sym (sym (laws.number_digits a.most t a.s.from a.s.to (omega arith) (omega arith) (omega arith)) ∙ sym l.invariant.2 ∙ laws.all_stops is_digit t l.i a.s.to (omega arith) (omega arith) (sym c.is_digit.ensures ∙ c.if-not-is_digit.true))
+    let digits = laws.number_digits a.most t a.s.from a.s.to (omega arith) (omega arith) (omega arith) in
+    let stops = laws.all_stops is_digit t l.i a.s.to (omega arith) (omega arith) (sym c.is_digit.ensures ∙ c.if-not-is_digit.true) in
+    sym (sym digits ∙ sym l.invariant.2 ∙ stops)
 
 pub loop-i-preserved : goal.loop-i-preserved
 loop-i-preserved c =
     let l = c.loop-i in
     let a = c.args in
     let t = a.text.now in
-    (omega arith, omega arith, laws.all_more is_digit t l.i a.s.to (omega arith) (omega arith) (sym c.is_digit.ensures ∙ c.if-not-is_digit.false) ∙ l.invariant.2)
+    let more = laws.all_more is_digit t l.i a.s.to (omega arith) (omega arith) (sym c.is_digit.ensures ∙ c.if-not-is_digit.false) in
+    (omega arith, omega arith, more ∙ l.invariant.2)
 
 pub returns : goal.returns
 unfolding stretch
@@ -52,4 +45,5 @@ returns c =
     let l = c.loop-i in
     let a = c.args in
     let t = a.text.now in
-    sym (sym (laws.number_digits a.most t a.s.from a.s.to (omega arith) (omega arith) (omega arith)) ∙ sym l.invariant.2 ∙ laws.all_ends is_digit t l.i a.s.to (omega arith))
+    let digits = laws.number_digits a.most t a.s.from a.s.to (omega arith) (omega arith) (omega arith) in
+    sym (sym digits ∙ sym l.invariant.2 ∙ laws.all_ends is_digit t l.i a.s.to (omega arith))

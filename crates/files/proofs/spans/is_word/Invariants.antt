@@ -1,13 +1,8 @@
-use Prim.Native.Nat.{ℕ, ◌+◌, ◌-◌, ◌≤◌}
-use mathlib.Core.Path.{◌≡◌, sym, ap, ◌∙◌}
-use native.Mathlib.Omega.{arith}
+use Prim.Native.Nat.{◌+◌, ◌-◌, ◌≤◌}
+use mathlib.Core.Path.{◌≡◌}
 use lib.ListN.{drop}
-use Rattle.lists.specs.Lists.{before, same}
-use Rattle.files.specs.Stretches.{stretch}
-use Rattle.files.proofs.SpanLaws as laws
+use Rattle.lists.specs.Lists.{same}
 use Rattle.files.proofs.SpanLaws.{between}
-use Rattle.files.proofs.spans.is_word.Reads as reads
-use Rattle.files.proofs.spans.is_word.Lts as lts
 use Rattle.files.proofs.spans.is_word.Given as goal
 
 abbrev pub invariant-loop-i : goal.invariant-loop-i

@@ -1,16 +1,12 @@
 -- `files::spans::number_in` meets its contract. Assumes nothing.
-use Prim.Native.Nat.{◌-◌, ◌^◌, ◌≤◌, ◌<◌}
-use mathlib.Core.Path.{◌≡◌, refl, sym, ◌∙◌}
+use Prim.Native.Nat.{◌-◌}
+use mathlib.Core.Path.{refl, sym, ◌∙◌}
 use native.Mathlib.Omega.{arith}
-use lib.Dec.{T}
 use lib.ListN.{get_or}
-use Rattle.lists.specs.Lists.{all, before}
-use Rattle.definitions.specs.Files.{is_digit, number_from, number_in}
+use Rattle.definitions.specs.Files.{number_in}
 use Rattle.files.specs.Stretches.{stretch}
 use Rattle.files.proofs.SpanLaws as laws
 use Rattle.files.proofs.SpanLaws.{between}
-use Rattle.files.proofs.spans.number_in.Reads as reads
-use Rattle.files.proofs.spans.number_in.Lts as lts
 use Rattle.files.proofs.spans.number_in.Goals as goal
 
 pub loop-i-init : goal.loop-i-init
@@ -37,14 +33,6 @@ overflow_sub-n c =
     let d = laws.digits_more t l.i a.s.to (omega arith) (omega arith) l.invariant.2 in
     omega (arith, d.0)
 
-pub overflow_cast-n : goal.overflow_cast-n
-overflow_cast-n c =
-    let l = c.loop-i in
-    let a = c.args in
-    let t = a.text.now in
-    let d = laws.digits_more t l.i a.s.to (omega arith) (omega arith) l.invariant.2 in
-    omega (arith, d.1)
-
 pub overflow_add-n : goal.overflow_add-n
 unfolding stretch
 overflow_add-n c =
@@ -61,7 +49,8 @@ loop-i-preserved c =
     let a = c.args in
     let t = a.text.now in
     let d = laws.digits_more t l.i a.s.to (omega arith) (omega arith) l.invariant.2 in
-    (omega arith, omega arith, d.2, laws.power_step l.n (get_or t l.i 0 - 48) a.s.from l.i (omega arith) l.invariant.3 (omega (arith, d.1)), laws.number_more l.n t l.i a.s.to (omega arith) (omega arith) ∙ l.invariant.4)
+    let below = laws.power_step l.n (get_or t l.i 0 - 48) a.s.from l.i (omega arith) l.invariant.3 (omega (arith, d.1)) in
+    (omega arith, omega arith, d.2, below, laws.number_more l.n t l.i a.s.to (omega arith) (omega arith) ∙ l.invariant.4)
 
 pub returns : goal.returns
 unfolding stretch number_in
