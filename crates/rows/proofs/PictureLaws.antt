@@ -169,7 +169,7 @@ module _ (order : List ℕ) (g : Grid) (size : ℕ) (old : List ℕ) (n start en
 
   pub done_none : DoneTo old n start
   unfolding DoneTo
-  done_none new k p = p
+  done_none _ _ p = p
 
   pub done_all : (now : List ℕ) (r m : ℕ) → end ≤ m → DoneTo now r m → Pictured old n now r size (pictures_from order g start (end - start))
   unfolding DoneTo symmetries

@@ -14,7 +14,6 @@ use Rattle.lists.proofs.SortLaws.{not_again, apart_ascending, sort_at}
 use Rattle.lists.proofs.RangeLaws.{length_below, members_below}
 use Rattle.lists.proofs.CountLaws.{total, total_add, total_zero, total_same, sum_map}
 use Rattle.definitions.specs.Grid.{Cell, set_down, box}
-use Rattle.definitions.specs.Maps.{identity}
 use Rattle.definitions.specs.Scan.{scan_number}
 use Rattle.definitions.specs.Stripping.{strip}
 use Rattle.definitions.specs.Answers.{lent_cells}

@@ -1,20 +1,17 @@
 -- `copy_of` meets its contract. The loop's invariant: copy `left` of those from piece p on is copy i of all. Assumes nothing.
-use Prim.Native.Nat.{ℕ, ◌+◌, ◌-◌, ◌*◌, ◌≤◌, ◌<◌}
+use Prim.Native.Nat.{ℕ, ◌+◌, ◌-◌, ◌*◌, ◌<◌}
 use mathlib.Core.List.{List}
-use mathlib.Core.Logic.{⊎_elim}
-use mathlib.Core.Path.{◌≡◌, sym, ap, ◌∙◌}
+use mathlib.Core.Path.{sym, ap, ◌∙◌}
 use native.Mathlib.Omega.{arith}
-use borrow.Author.Rules.{rules}
 use borrow.Author.Tests.{eq-eqb, ne_eqb}
 use lib.ListN.{get_or}
 use Rattle.definitions.specs.Kinds.{Copy}
 use Rattle.rows.specs.Charts.{pieces_part}
-use Rattle.rows.specs.Systems.{owned_in}
-use Rattle.rows.specs.Answering.{as_copy, copies_by, no_copy}
+use Rattle.rows.specs.Answering.{as_copy, no_copy}
 use Rattle.rows.proofs.ChartLaws.{piece_byte}
 use Rattle.rows.proofs.AnsweringLaws.{copies_from, copies_start, copy_found, copy_later, copy_other, copy_none}
 use Rattle.rows.proofs.answers.copy_of.Goals as goal
-use Rattle.rows.proofs.answers.copy_of.Goals.{else-kind_of-kind, then-kind_of-kind}
+use Rattle.rows.proofs.answers.copy_of.Goals.{else-kind_of-kind, then-kind_of-kind+else-left-count}
 
 pub loop-p-init : goal.loop-p-init
 loop-p-init c =
@@ -42,15 +39,16 @@ loop-p-preserved c =
     let kind = c.kind_of.ensures in
     let h : l.p < a.n = omega arith in
     elim c.if-kind_of-kind.branch [
-      | then-kind_of-kind v ↦ (
+      | then-kind_of-kind+else-left-count v ↦ (
         omega arith,
-        ap rest (v.3 ∙ ap (λ (m : ℕ). l.false - m) v.1.ensures)
-            ∙ sym (copy_later ps a.kind a.n l.p l.false h (eq-eqb _ _ (sym kind ∙ v.if-kind_of-kind.true)) (omega (arith, v.1.ensures)))
+        ap rest (v.left-is ∙ ap (λ (m : ℕ). l.left - m) v.count_of-count.ensures)
+            ∙ sym (copy_later ps a.kind a.n l.p l.left h (eq-eqb _ _ (sym kind ∙ v.if-kind_of-kind.true))
+            (omega (arith, v.count_of-count.ensures, v.if-left-count.false)))
             ∙ l.invariant.1,
       )
       | else-kind_of-kind v ↦ (
         omega arith,
-        ap rest v.1 ∙ sym (copy_other ps a.kind a.n l.p l.false h (ne_eqb _ _ (λ e. v.if-kind_of-kind.false (kind ∙ e)))) ∙ l.invariant.1,
+        ap rest v.left-is ∙ sym (copy_other ps a.kind a.n l.p l.left h (ne_eqb _ _ (λ e. v.if-kind_of-kind.false (kind ∙ e)))) ∙ l.invariant.1,
       )
     ]
 

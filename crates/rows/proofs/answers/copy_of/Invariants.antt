@@ -1,17 +1,10 @@
-use Prim.Native.Nat.{ℕ, ◌+◌, ◌-◌, ◌*◌, ◌≤◌, ◌<◌}
-use mathlib.Core.List.{List}
-use mathlib.Core.Logic.{⊎_elim}
-use mathlib.Core.Path.{◌≡◌, sym, ap, ◌∙◌}
-use native.Mathlib.Omega.{arith}
-use borrow.Author.Rules.{rules}
-use borrow.Author.Tests.{eq-eqb, ne_eqb}
+use Prim.Native.Nat.{◌-◌, ◌≤◌}
+use mathlib.Core.Path.{◌≡◌}
 use lib.ListN.{get_or}
-use Rattle.definitions.specs.Kinds.{Copy}
 use Rattle.rows.specs.Charts.{pieces_part}
 use Rattle.rows.specs.Systems.{owned_in}
-use Rattle.rows.specs.Answering.{as_copy, copies_by, no_copy}
-use Rattle.rows.proofs.ChartLaws.{piece_byte}
-use Rattle.rows.proofs.AnsweringLaws.{copies_from, copies_start, copy_found, copy_later, copy_other, copy_none}
+use Rattle.rows.specs.Answering.{copies_by, no_copy}
+use Rattle.rows.proofs.AnsweringLaws.{copies_from}
 use Rattle.rows.proofs.answers.copy_of.Given as goal
 
 abbrev pub invariant-loop-p : goal.invariant-loop-p

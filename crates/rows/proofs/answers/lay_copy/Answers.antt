@@ -1,12 +1,9 @@
 -- `lay_copy` meets its contract. The loop's invariant: i is a cell of the mask or past the last, and the copy is laid on the cells before i. Assumes nothing.
-use Prim.Native.Nat.{◌+◌, ◌-◌, ◌≤◌, ◌<◌}
-use mathlib.Core.Bool.{true}
+use Prim.Native.Nat.{◌+◌}
 use mathlib.Core.Path.{◌≡◌, ap, ◌∙◌}
 use native.Mathlib.Omega.{arith}
 use borrow.Author.Rules.{rules}
-use lib.ListN.{length, length-set}
-use lib.Seq.{lt-length-set}
-use Rattle.masks.specs.Masks.{has}
+use lib.ListN.{length-set}
 use Rattle.rows.specs.Answering.{as_copy}
 use Rattle.rows.proofs.TellingLaws.{laid_to, laid_none, laid_on, laid_hit, laid_all}
 use Rattle.rows.proofs.answers.lay_copy.Goals as goal
@@ -20,12 +17,6 @@ loop-i-init c =
       n.stops,
       laid_none a.mask (as_copy a.c) a.told.now c.requires ∙ laid_on a.mask (as_copy a.c) a.told.now c.requires 0 _ (omega arith) n,
     )
-
-pub bounds-told-i-in-loop-i : goal.bounds-told-i-in-loop-i
-bounds-told-i-in-loop-i c = lt-length-set c.loop-i.told _ _ (omega arith)
-
-pub loop-i-smaller : goal.loop-i-smaller
-loop-i-smaller c = omega (arith, c.next_cell-i-in-loop-i.ensures.from)
 
 pub loop-i-preserved : goal.loop-i-preserved
 unfolding as_copy

@@ -1,5 +1,4 @@
 -- `image_at` meets its contract: the images stand behind the first 2049 numbers of the chart. Assumes nothing.
-use borrow.Author.Rules.{rules}
 use lib.Seq.{get_or-drop}
 use Rattle.rows.specs.Charts.{images_part}
 use Rattle.rows.proofs.chart.image_at.Goals as goal

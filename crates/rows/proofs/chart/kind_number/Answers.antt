@@ -1,5 +1,4 @@
 -- `kind_number` meets its contract: the kinds stand behind the first 8705 numbers of the chart. Assumes nothing.
-use borrow.Author.Rules.{rules}
 use lib.Seq.{get_or-drop}
 use Rattle.rows.specs.Charts.{kinds_part}
 use Rattle.rows.proofs.chart.kind_number.Goals as goal

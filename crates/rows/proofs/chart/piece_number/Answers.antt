@@ -1,5 +1,4 @@
 -- `piece_number` meets its contract: the pieces stand behind the first 8753 numbers of the chart. Assumes nothing.
-use borrow.Author.Rules.{rules}
 use lib.Seq.{get_or-drop}
 use Rattle.rows.specs.Charts.{pieces_part}
 use Rattle.rows.proofs.chart.piece_number.Goals as goal

@@ -1,5 +1,4 @@
 -- `scan_at` meets its contract: the scan numbers stand behind the first 8193 numbers of the chart. Assumes nothing.
-use borrow.Author.Rules.{rules}
 use lib.Seq.{get_or-drop}
 use Rattle.rows.specs.Charts.{scans_part}
 use Rattle.rows.proofs.chart.scan_at.Goals as goal

@@ -1,8 +1,7 @@
 -- `board_images` meets its contract. The loop's invariant: where the maps from m on are done too, all are (`DoneTo`). Assumes nothing.
-use Prim.Native.Nat.{ℕ, ◌+◌, ◌-◌, ◌≤◌}
+use Prim.Native.Nat.{ℕ, ◌-◌}
 use mathlib.Core.List.{List}
-use mathlib.Core.Logic.{⊎_elim}
-use mathlib.Core.Path.{◌≡◌, sym, ap, ◌∙◌, subst}
+use mathlib.Core.Path.{sym, ap, ◌∙◌, subst}
 use native.Mathlib.Omega.{arith}
 use borrow.Author.Rules.{rules}
 use lib.ListN.{length}
@@ -13,7 +12,7 @@ use Rattle.shape.specs.Scans.{as_order}
 use Rattle.shape.proofs.GridTestLaws.{whole_tells}
 use Rattle.placements.specs.Counting.{OnBoard}
 use Rattle.rows.specs.Boards.{Numbered, Pictured}
-use Rattle.rows.proofs.PictureLaws.{DoneTo, pictures_from, done_none, done_hit, done_miss, done_all, can_move}
+use Rattle.rows.proofs.PictureLaws.{pictures_from, done_none, done_hit, done_miss, done_all, can_move}
 use Rattle.rows.proofs.images.board_images.Goals as goal
 use Rattle.rows.proofs.images.board_images.Goals.{else-keeps, then-keeps}
 
@@ -25,7 +24,8 @@ loop-m-init c =
 pub cell_images-requires : goal.cell_images-requires
 cell_images-requires c =
     let a = c.args in
-    (can_move (as_order a.order) (as_grid a.b a.board.now) a.places.now a.scans.now a.size c.requires.whole.2 c.requires.whole.1 c.requires.whole.0.fit, omega (arith, c.requires.whole.2.few))
+    let q = c.requires.whole in
+    (can_move (as_order a.order) (as_grid a.b a.board.now) a.places.now a.scans.now a.size q.2 q.1 q.0.fit, omega (arith, q.2.few))
 
 pub loop-m-preserved : goal.loop-m-preserved
 loop-m-preserved c =
@@ -37,19 +37,20 @@ loop-m-preserved c =
     let num = subst (λ (o : List ℕ). Numbered o g a.scans.now) (sym c.requires.whole.1.is_order) c.requires.whole.1 in
     elim c.if-keeps.branch [
       | then-keeps w ↦ (
-        ap length w.5 ∙ w.2.kept.1.1.1.1.1.0 ∙ l.invariant.0,
+        ap length w.images-is ∙ w.cell_images.auto.images ∙ l.invariant.0,
         omega arith,
         omega arith,
         omega arith,
         done_hit (axes (as_sides a.b)) g a.size a.images.now a.n a.start a.end l.images l.r l.m (omega arith) l.invariant.4 (sym keeps ∙ w.if-keeps.true)
-            a.places.now a.scans.now on num (omega arith) _ (w.5 ∙ w.2.ensures) _ w.6,
+            a.places.now a.scans.now on num (omega arith) _ (w.images-is ∙ w.cell_images.ensures) _ w.r-is,
       )
       | else-keeps w ↦ (
-        ap length w.1 ∙ l.invariant.0,
+        ap length w.images-is ∙ l.invariant.0,
         omega arith,
         omega arith,
         omega arith,
-        done_miss (axes (as_sides a.b)) g a.size a.images.now a.n a.start a.end l.images l.r l.m (omega arith) l.invariant.4 (sym keeps ∙ w.if-keeps.false) _ w.1 _ w.2,
+        done_miss (axes (as_sides a.b)) g a.size a.images.now a.n a.start a.end l.images l.r l.m (omega arith) l.invariant.4 (sym keeps ∙ w.if-keeps.false)
+            _ w.images-is _ w.r-is,
       )
     ]
 

@@ -2,7 +2,6 @@
 use Prim.Native.Nat.{ℕ, ◌+◌, ◌*◌}
 use mathlib.Core.List.{map}
 use mathlib.Core.Path.{ap, ◌∙◌}
-use borrow.Author.Rules.{rules}
 use lib.ListN.{get_or}
 use Rattle.lists.specs.Lists.{below}
 use Rattle.rows.specs.Charts.{images_of, kinds_part}
@@ -20,9 +19,8 @@ moved_mask-mask-requires c =
 pub returns : goal.returns
 returns c =
     let a = c.args in
-    let q = (c.requires.rows_in_bounds, (c.requires.r_lt_rows, c.requires.size_bound)).1 in
     let partners = map (λ (j : ℕ). get_or (kinds_part a.chart.now) (3 * j + 1) 0) (below a.d.kinds) in
     c.find_row.ensures
     ∙ image_is (rows_in a.work.now a.d.rows) a.work.now partners (images_of a.chart.now a.d.size a.m) a.odd a.r a.d.size
-    c.mask_at.result c.moved_mask-mask.result c.kind_after-kind.result c.mask_at.ensures q.1.0 q.0.3 q.1.2
+    c.mask_at.result c.moved_mask-mask.result c.kind_after-kind.result c.mask_at.ensures c.requires.size_bound.0 c.requires.r_lt_rows.3 c.requires.size_bound.2
     c.moved_mask-mask.ensures (c.kind_after-kind.ensures ∙ ap (kind_by partners a.odd) c.kind_at.ensures)

@@ -1,7 +1,6 @@
 -- `kind_after` meets its contract: number 1 of a kind is its mirror partner. Assumes nothing.
 use Prim.Native.Nat.{ℕ, ◌+◌, ◌*◌}
 use mathlib.Core.Path.{◌∙◌}
-use borrow.Author.Rules.{rules}
 use lib.ListN.{get_or}
 use Rattle.rows.specs.Charts.{kinds_part}
 use Rattle.rows.proofs.MovedLaws.{kind_odd, kind_even}

@@ -1,13 +1,9 @@
-use Prim.Native.Nat.{ℕ, ◌-◌, ◌≤◌}
-use mathlib.Core.Path.{◌≡◌, subst}
-use native.Mathlib.Omega.{arith}
-use borrow.Author.Count.{below_none}
-use borrow.Author.Rules.{rules}
-use lib.ListN.{length, take, length-set}
-use lib.Seq.{lt-length-set}
+-- `show_cells` meets its contract. The loop's invariant: the cells before c have their two bytes. Assumes nothing.
+use Prim.Native.Nat.{◌-◌, ◌≤◌}
+use mathlib.Core.Path.{◌≡◌}
+use lib.ListN.{length, take}
 use Rattle.rows.specs.Charts.{scans_part}
 use Rattle.rows.specs.Shown.{Shown}
-use Rattle.rows.proofs.ShownLaws.{shown_more}
 use Rattle.rows.proofs.shown.show_cells.Given as goal
 
 abbrev pub invariant-loop-c : goal.invariant-loop-c

@@ -1,10 +1,8 @@
-use Prim.Native.Nat.{ℕ, ◌-◌, ◌≤◌}
-use mathlib.Core.Path.{◌≡◌, subst}
-use native.Mathlib.Omega.{arith}
-use borrow.Author.Rules.{rules}
-use lib.ListN.{length, length-set}
+-- `rows::system::lay_numbers` meets its contract. The loop's invariant: the numbers before i stand there, and nothing else is changed. Assumes nothing.
+use Prim.Native.Nat.{◌-◌, ◌≤◌}
+use mathlib.Core.Path.{◌≡◌}
+use lib.ListN.{length}
 use Rattle.rows.specs.Built.{LaidAt}
-use Rattle.rows.proofs.LayingLaws.{laid_none, laid_next}
 use Rattle.rows.proofs.system.lay_numbers.Given as goal
 
 abbrev pub invariant-loop-i : goal.invariant-loop-i
