@@ -16,7 +16,8 @@ pub refused_numbers : (r : Listing) (why : Refusal) → r ≡ listing.Refused wh
     → ◌≡◌ {A = Answer} (record { number = n; written = 0; further = false; missing = false }) (numbers_of r)
 refused_numbers r why e n f = (λ i. record { number = f i; written = 0; further = false; missing = false }) ∙ sym (ap numbers_of e)
 
-pub outcome_numbers : (r : Listing) (a : Answer) (answers work links : List ℕ) → a ≡ numbers_of r → outcome_by a answers work links ≡ outcome_of r answers work links
+pub outcome_numbers : (r : Listing) (a : Answer) (answers work links : List ℕ) → a ≡ numbers_of r
+    → outcome_by a answers work links ≡ outcome_of r answers work links
 unfolding outcome_of
 outcome_numbers (listing.Page written further) a answers work links e = ap (λ (b : Answer). outcome_by b answers work links) e
 outcome_numbers (listing.Refused why) a answers work links e = ap (λ (b : Answer). outcome_by b answers work links) e

@@ -17,7 +17,8 @@ numbers_of listing.NoEntry = record { number = 0; written = 0; further = false; 
 
 -- what an answer says, with the slices that the call leaves
 abbrev pub outcome_by : Answer → List ℕ → List ℕ → List ℕ → Outcome
-outcome_by a answers work links = record { number = a.number; written = a.written; further = a.further; missing = a.missing; answers = answers; work = work; links = links }
+outcome_by a answers work links =
+    record { number = a.number; written = a.written; further = a.further; missing = a.missing; answers = answers; work = work; links = links }
 
 -- the engine that a number stands for, and the configuration
 unfoldable pub engine_of : ℕ → SolverKind

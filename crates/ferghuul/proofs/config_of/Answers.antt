@@ -1,5 +1,4 @@
 -- `ferghuul::config_of` meets its contract: the engine is the one that the number stands for. Assumes nothing.
-use borrow.Author.Rules.{rules}
 use Rattle.ferghuul.specs.Numbers.{config_of}
 use Rattle.ferghuul.proofs.config_of.Goals as goal
 

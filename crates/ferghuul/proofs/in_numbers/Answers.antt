@@ -1,6 +1,5 @@
 -- `ferghuul::in_numbers` meets its contract, arm by arm. Assumes nothing.
 use mathlib.Core.Path.{sym, ap}
-use borrow.Author.Rules.{rules}
 use Rattle.ferghuul.specs.Numbers.{numbers_of}
 use Rattle.ferghuul.proofs.NumberLaws.{refused_numbers}
 use Rattle.ferghuul.proofs.in_numbers.Goals as goal
