@@ -7,41 +7,28 @@ use borrow.Author.Rules.{rules}
 use Rattle.output.proofs.pages.first_page.Reads as reads
 use Rattle.output.proofs.pages.first_page.Goals as goal
 
-pub slice_bounds-page-end : goal.slice_bounds-page-end
-slice_bounds-page-end c =
-    sym (length-take-le _ _ c.requires.0.used_few)
-
-pub slice_bounds-page-end-3 : goal.slice_bounds-page-end-3
-slice_bounds-page-end-3 c = search rules
-
-pub slice_bounds-page-end-4 : goal.slice_bounds-page-end-4
-slice_bounds-page-end-4 c = sym (length-take-le _ _ (slice_bounds-page-end-3 c.before))
-
 pub returns-in-Refused : goal.returns-in-Refused
 returns-in-Refused c =
     let x = c.args in
     let q = c.requires in
-    let told = c.listing-1.given in
     first_refused x.text.now x.asked x.cells.now x.work.now x.links.now q.0 x.answers.now
     c.places_of-places.result c.places_of-places.ensures.0 c.places_of-places.ensures.1 q.1 q.2
-    told.0.0 _ refl c.refusal_number-number.result _ _ _ _ _ c.refusal_number-number.ensures (rw told.1 at c.page-listing.ensures.outcome)
+    c.in-Refused.why _ refl c.refusal_number-number.result _ _ _ _ _ c.refusal_number-number.ensures (rw c.in-Refused.is at c.page-listing.ensures.outcome)
 
 pub returns-in-NoEntry : goal.returns-in-NoEntry
 returns-in-NoEntry c =
     let x = c.args in
     let q = c.requires in
-    let told = c.enum_told-1.given in
     absurd (first_there x.text.now x.asked x.cells.now x.work.now x.links.now q.0 x.answers.now
     c.places_of-places.result c.places_of-places.ensures.0 c.places_of-places.ensures.1 q.1 q.2
-    _ _ _ _ (rw told.1 at c.page-listing.ensures.outcome))
+    _ _ _ _ (rw c.in-NoEntry.is at c.page-listing.ensures.outcome))
 
 pub returns-in-Page : goal.returns-in-Page
 returns-in-Page c =
     let x = c.args in
     let q = c.requires in
-    let told = c.listing-in-Page-1.given in
     let page = c.page-listing.new.answers in
     first_listed x.text.now x.asked x.cells.now x.work.now x.links.now q.0 x.answers.now
     c.places_of-places.result c.places_of-places.ensures.0 c.places_of-places.ensures.1 q.1 q.2
-    told.0.0 told.0.1.0 _ page _ _ _ (rw told.1 at c.page-listing.ensures.outcome) refl
+    c.in-Page.written c.in-Page.further _ page _ _ _ (rw c.in-Page.is at c.page-listing.ensures.outcome) refl
     (length_front x.answers.now page (2 * c.places_of-places.result) c.page-listing.auto.answers)

@@ -16,23 +16,6 @@ use Rattle.output.proofs.lines.copy.Reads as copy-reads
 use Rattle.solver.proofs.pages.page.Reads as page-reads
 use Rattle.output.proofs.pages.page_after.Goals as goal
 
--- src/pages.rt:63:9
-pub slice_bounds-last-end : goal.slice_bounds-last-end
-slice_bounds-last-end c = search rules
-
--- src/pages.rt:63:9
-pub slice_bounds-page-end : goal.slice_bounds-page-end
-slice_bounds-page-end c = sym (length-take-le _ _ (slice_bounds-last-end c.before))
-
--- src/pages.rt:64:9
-pub slice_bounds-page-end-2 : goal.slice_bounds-page-end-2
-slice_bounds-page-end-2 c = search rules
-
--- src/pages.rt:64:9
-pub slice_bounds-page-end-3 : goal.slice_bounds-page-end-3
-slice_bounds-page-end-3 c = sym (length-take-le _ _ (slice_bounds-page-end-2 c.before))
-
--- src/pages.rt:40:1
 pub returns : goal.returns
 returns c =
     let a = c.args in

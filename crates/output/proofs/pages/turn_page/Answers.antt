@@ -9,10 +9,6 @@ use Rattle.output.proofs.TurnLaws.{never_missing, never_refused, turned}
 use borrow.Author.Rules.{rules}
 use Rattle.output.proofs.pages.turn_page.Goals as goal
 
-pub slice_bounds-page_after-end : goal.slice_bounds-page_after-end
-slice_bounds-page_after-end c =
-    sym (length-take-le _ _ c.requires.0.used_few)
-
 pub overflow_sub-written : goal.overflow_sub-written
 overflow_sub-written c =
     c.requires.1.some_written c.requires.3
@@ -30,10 +26,9 @@ returns-in-Page c =
     let x = c.args in
     let q = c.requires in
     let room_some = q.1.room_some in
-    let told = c.listing-1.given in
     turned x.text.now x.p x.cells.now x.work.now x.links.now q.0 x.answers.now q.1 q.2 q.3
     c.grown-room.result (let h = c.grown-room.ensures.1 in omega arith) c.grown-room.ensures.2
-    told.0.0 told.0.1.0 c.page_after-listing.ensures.page _ _ _ (rw told.1 at c.page_after-listing.ensures.outcome_is) c.page_after-listing.ensures.answers_are
+    c.in-Page.n c.in-Page.further c.page_after-listing.ensures.page _ _ _ (rw c.in-Page.is at c.page_after-listing.ensures.outcome_is) c.page_after-listing.ensures.answers_are
     c.page_after-listing.auto.answers
 
 pub returns-in-Refused : goal.returns-in-Refused
@@ -41,17 +36,15 @@ returns-in-Refused c =
     let x = c.args in
     let q = c.requires in
     let room_some = q.1.room_some in
-    let told = c.enum_told-1.given in
     absurd (never_refused x.text.now x.p x.cells.now x.work.now x.links.now q.0 x.answers.now q.1 q.2 q.3
     c.grown-room.result (let h = c.grown-room.ensures.1 in omega arith) c.grown-room.ensures.2
-    told.0.0 c.page_after-listing.ensures.page _ _ (rw told.1 at c.page_after-listing.ensures.outcome_is))
+    _ c.page_after-listing.ensures.page _ _ (rw c.in-Refused.is at c.page_after-listing.ensures.outcome_is))
 
 pub returns-in-NoEntry : goal.returns-in-NoEntry
 returns-in-NoEntry c =
     let x = c.args in
     let q = c.requires in
     let room_some = q.1.room_some in
-    let told = c.enum_told-in-NoEntry-1.given in
     absurd (never_missing x.text.now x.p x.cells.now x.work.now x.links.now q.0 x.answers.now q.1 q.2 q.3
     c.grown-room.result (let h = c.grown-room.ensures.1 in omega arith) c.grown-room.ensures.2
-    c.page_after-listing.ensures.page _ _ (rw told.1 at c.page_after-listing.ensures.outcome_is))
+    c.page_after-listing.ensures.page _ _ (rw c.in-NoEntry.is at c.page_after-listing.ensures.outcome_is))
