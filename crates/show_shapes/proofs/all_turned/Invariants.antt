@@ -1,6 +1,5 @@
 -- `show_shapes::all_turned` meets its contract: the grid is whole by its own requires. The loop's invariant: `m` is at most 48. Assumes nothing.
 use Prim.Native.Nat.{◌≤◌, ◌-◌}
-use borrow.Author.Rules.{rules}
 use Rattle.show_shapes.proofs.all_turned.Given as goal
 
 abbrev pub invariant-loop-m : goal.invariant-loop-m

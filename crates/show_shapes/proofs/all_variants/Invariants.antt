@@ -1,6 +1,5 @@
 -- `show_shapes::all_variants` meets its contract. The loop's invariant: `i` is at most `n`, which `variants_of` keeps to at most 24, the length. Assumes nothing.
 use Prim.Native.Nat.{◌≤◌, ◌-◌}
-use borrow.Author.Rules.{rules}
 use Rattle.show_shapes.proofs.all_variants.Given as goal
 
 abbrev pub invariant-loop-i : goal.invariant-loop-i

@@ -1,6 +1,5 @@
+-- `show_shapes::listed` meets its contract. The loop's invariant: `i` is at most `n`, which is at most the length. Assumes nothing.
 use Prim.Native.Nat.{◌≤◌, ◌-◌}
-use native.Mathlib.Omega.{arith}
-use borrow.Author.Rules.{rules}
 use Rattle.show_shapes.proofs.listed.Given as goal
 
 abbrev pub invariant-loop-i : goal.invariant-loop-i

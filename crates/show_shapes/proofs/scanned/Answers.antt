@@ -1,5 +1,4 @@
 -- `show_shapes::scanned` meets its contract: a whole grid has at most 512 cells, the length of the array, which holds all the places. Assumes nothing.
-use borrow.Author.Rules.{rules}
 use Rattle.shape.specs.Coords.{as_sides}
 use Rattle.shape.proofs.PlaceLaws.{volume_small}
 use Rattle.show_shapes.proofs.scanned.Goals as goal
