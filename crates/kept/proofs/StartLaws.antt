@@ -11,7 +11,7 @@ use borrow.Author.Tests.{lt-ltb, le-ltb, eq-eqb, ne_eqb}
 use lib.Dec.{ltb, eqb, eqb→eq, ltb→lt}
 use lib.ListN.{length, take, drop, get_or, set, length-map, length-append}
 use lib.Seq.{length-take-le, get_or-set_same, get_or-set_other, take_at, drop_at}
-use Rattle.lists.specs.Lists.{keep, all, each, how_many, below, from}
+use Rattle.lists.specs.Lists.{each, how_many, below, from}
 use Rattle.lists.proofs.TestLaws.{by_eq, by_order, lt_or_ge}
 use Rattle.lists.proofs.ListLaws.{all_at, keep_none, keep_length, each_append}
 use Rattle.lists.proofs.RangeLaws.{below_next, below_split, from_next}

@@ -1,11 +1,11 @@
 -- `kept::clearing::clear_work` meets its contract: the first i words are 0, and what lies behind them is as it was. Assumes nothing.
-use Prim.Native.Nat.{ℕ, ◌≤◌, ◌<◌, ◌-◌}
-use mathlib.Core.List.{List, ◌++◌}
-use mathlib.Core.Path.{◌≡◌, ap, ◌∙◌}
+use Prim.Native.Nat.{ℕ, ◌<◌}
+use mathlib.Core.List.{List}
+use mathlib.Core.Path.{ap, ◌∙◌}
 use native.Mathlib.Omega.{arith}
 use borrow.Author.Fill.{fill_none, fill_more}
 use borrow.Author.Rules.{rules}
-use lib.ListN.{length, drop, set, replicate}
+use lib.ListN.{length, set}
 use Rattle.solver.proofs.ClearingLaws.{cleared_at}
 use Rattle.solver.proofs.clearing.clear_work.Goals as goal
 

@@ -74,5 +74,5 @@ returns-in-System c =
     let links' = c.clear_links_of.new.links in
     let e = ap (λ (r : Listing). outcome_of r listed.new.answers work' links') c.reply.ensures
     ∙ page_left rs a.board a.bytes.now a.config a.answers.now a.work.now a.links.now _ _ _ s a.start a.last.now c.begin_at.result listed.result b.0 b.1 b.2 b.3
-        listed.new.answers listed.ensures.page work' listed.new.links links' c.clear_work.ensures listed.ensures.behind c.clear_links_of.ensures in
+    listed.new.answers listed.ensures.page work' listed.new.links links' c.clear_work.ensures listed.ensures.behind c.clear_links_of.ensures in
     record { outcome = e; meets = meets_from a.start a.last.now call _ e }

@@ -1,5 +1,5 @@
 -- `refusal_before_counting` meets its contract: the parts of the table are tested in their order, and the first that refuses decides. Assumes nothing.
-use mathlib.Core.Path.{◌≡◌, sym, ap, ◌∙◌}
+use mathlib.Core.Path.{sym, ap, ◌∙◌}
 use Rattle.placements.specs.Stages.{verdict_number}
 use Rattle.placements.proofs.CountingLaws.{refused_not, lent_decides, config_decides, slices_decide}
 use Rattle.solver.specs.Preparing.{first_rows}

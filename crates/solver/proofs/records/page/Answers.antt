@@ -2,7 +2,6 @@
 -- the outcome. Assumes nothing.
 use mathlib.Core.Path.{◌∙◌, ap}
 use mathlib.Core.List.{List}
-use Prim.Native.Nat.{ℕ}
 use Rattle.definitions.specs.Starts.{outcome_from}
 use Rattle.definitions.specs.declared.Record.{Record}
 use Rattle.theorems.proofs.StartLaws.{meets_from}

@@ -1,10 +1,8 @@
 -- `taken` meets its contract: before turn i the pieces have the first i records. Assumes nothing.
-use Prim.Native.Nat.{ℕ, ◌+◌}
 use native.Mathlib.Numerals.{add-one}
 use native.Mathlib.Omega.{arith}
 use mathlib.Core.Path.{◌≡◌, sym, ap, ◌∙◌}
 use Rattle.placements.specs.Pieces.{no_record, put_record}
-use Rattle.definitions.specs.declared.Record.{Record}
 use Rattle.placements.specs.declared.Pieces.{Pieces}
 use Rattle.placements.specs.Pieces.{empty_pieces}
 use lib.ListN.{get_or}
