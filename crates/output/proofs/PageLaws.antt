@@ -12,7 +12,7 @@ use lib.ListN.{length, take, drop, get_or, length-take, length-drop}
 use lib.Seq.{take_at, drop-append-add, get_or-take, get_or-drop}
 use Rattle.lists.specs.Lists.{joined}
 use Rattle.lists.proofs.ListLaws.{drop_in, take_in}
-use Rattle.definitions.specs.Page.{Page, page}
+use Rattle.definitions.specs.Page.{page}
 use Rattle.definitions.specs.Demands.{MeetsDemand3}
 use Rattle.definitions.specs.Outcomes.{Outcome, accepted, answers_of, answer_size, capacity, cleared, number_of, outcome, outcome_of, over_start, page_of}
 use Rattle.definitions.specs.Orders.{listed}

@@ -2,7 +2,6 @@
 use mathlib.Core.Path.{ap}
 use Rattle.files.specs.declared.reading.Asked.{Asked}
 use Rattle.output.specs.Stretches.{beginning}
-use borrow.Author.Rules.{rules}
 use Rattle.output.proofs.begin.Goals as goal
 
 pub returns : goal.returns

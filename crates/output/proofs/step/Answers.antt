@@ -1,9 +1,8 @@
 -- `output::step` meets its contract. Assumes nothing.
-use Prim.Native.Nat.{ℕ, ◌≤◌}
 use mathlib.Core.Path.{◌≡◌, sym, ap, ◌∙◌}
 use native.Mathlib.Nat.{le_trans, le_of_eq}
 use native.Mathlib.Omega.{arith}
-use lib.ListN.{length, drop}
+use lib.ListN.{drop}
 use Rattle.output.proofs.StretchLaws.{scratch_same}
 use Rattle.output.proofs.StepLaws.{packed_malformed, packed_refused, packed_listed, scratch_then, refused_step, is-file, read_is, cells-behind, still_read, later_step, first_step}
 use Rattle.output.proofs.step.Goals as goal

@@ -1,6 +1,5 @@
 -- `replay::behind` meets its contract: the measure is the number of records left, at most `n`. Assumes nothing.
 use Prim.Native.Nat.{◌≤◌}
-use borrow.Author.Rules.{rules}
 use Rattle.replay.proofs.behind.Given as goal
 
 abbrev pub invariant-loop-left : goal.invariant-loop-left

@@ -1,6 +1,5 @@
 -- `replay::digits` meets its contract. The loop's invariant: the digits read lie in the text, and the bytes stay as many. The measure is what is left of the bytes. Assumes nothing.
 use Prim.Native.Nat.{◌+◌, ◌≤◌, ◌-◌}
-use borrow.Author.Rules.{rules}
 use mathlib.Core.Path.{◌≡◌}
 use lib.ListN.{length}
 use Rattle.replay.proofs.digits.Given as goal

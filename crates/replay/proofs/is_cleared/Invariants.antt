@@ -1,7 +1,6 @@
 -- `replay::is_cleared` meets its contract: a word is read only below the slice's length. The measure is what is left of the words. Assumes nothing.
 use Prim.Native.Nat.{◌≤◌, ◌-◌}
 use lib.ListN.{length}
-use borrow.Author.Rules.{rules}
 use Rattle.replay.proofs.is_cleared.Given as goal
 
 abbrev pub invariant-loop-k : goal.invariant-loop-k

@@ -1,7 +1,6 @@
 -- `replay::is_stained` meets its contract: a byte is read only below the slice's length. The measure is what is left of the bytes. Assumes nothing.
 use Prim.Native.Nat.{◌≤◌, ◌-◌}
 use lib.ListN.{length}
-use borrow.Author.Rules.{rules}
 use Rattle.replay.proofs.is_stained.Given as goal
 
 abbrev pub invariant-loop-k : goal.invariant-loop-k

@@ -1,6 +1,5 @@
 -- `replay::show_cells` meets its contract. The loop's invariant: `c` is at most 128, the cells of a mask. Assumes nothing.
 use Prim.Native.Nat.{◌≤◌, ◌-◌}
-use borrow.Author.Rules.{rules}
 use Rattle.replay.proofs.show_cells.Given as goal
 
 abbrev pub invariant-loop-c : goal.invariant-loop-c

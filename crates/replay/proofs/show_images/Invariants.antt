@@ -1,6 +1,5 @@
 -- `replay::show_images` meets its contract: a map is shown only below 48. The measure is what is left of these. Assumes nothing.
 use Prim.Native.Nat.{◌≤◌, ◌-◌}
-use borrow.Author.Rules.{rules}
 use Rattle.replay.proofs.show_images.Given as goal
 
 abbrev pub invariant-loop-m : goal.invariant-loop-m

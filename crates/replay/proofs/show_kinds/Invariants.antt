@@ -1,6 +1,5 @@
 -- `replay::show_kinds` meets its contract: a kind is read only below 16. The measure is what is left of these. Assumes nothing.
 use Prim.Native.Nat.{◌≤◌, ◌-◌}
-use borrow.Author.Rules.{rules}
 use Rattle.replay.proofs.show_kinds.Given as goal
 
 abbrev pub invariant-loop-k : goal.invariant-loop-k

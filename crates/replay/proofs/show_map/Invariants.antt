@@ -1,6 +1,5 @@
 -- `replay::show_map` meets its contract: a cell is read only below 128, of a map below 48. The measure is what is left of these. Assumes nothing.
 use Prim.Native.Nat.{◌≤◌, ◌-◌}
-use borrow.Author.Rules.{rules}
 use Rattle.replay.proofs.show_map.Given as goal
 
 abbrev pub invariant-loop-c : goal.invariant-loop-c

@@ -1,6 +1,5 @@
 -- `replay::show_pieces` meets its contract: a piece is read only below 16. The measure is what is left of these. Assumes nothing.
 use Prim.Native.Nat.{◌≤◌, ◌-◌}
-use borrow.Author.Rules.{rules}
 use Rattle.replay.proofs.show_pieces.Given as goal
 
 abbrev pub invariant-loop-i : goal.invariant-loop-i

@@ -1,6 +1,5 @@
 -- `replay::show_scan` meets its contract: a place is read only below 512. The measure is what is left of these. Assumes nothing.
 use Prim.Native.Nat.{◌≤◌, ◌-◌}
-use borrow.Author.Rules.{rules}
 use Rattle.replay.proofs.show_scan.Given as goal
 
 abbrev pub invariant-loop-i : goal.invariant-loop-i

@@ -1,6 +1,5 @@
 -- `replay::show_walk` meets its contract: each sum is of numbers that are small. The measure is how many pages are left, at most 20. Assumes nothing.
 use Prim.Native.Nat.{◌≤◌}
-use borrow.Author.Rules.{rules}
 use Rattle.replay.proofs.show_walk.Given as goal
 
 abbrev pub invariant-loop-left : goal.invariant-loop-left

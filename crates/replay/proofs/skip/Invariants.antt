@@ -1,6 +1,5 @@
 -- `replay::skip` meets its contract. The loop's invariant: `j` is at least `i`. The measure is what is left of the text. Assumes nothing.
 use Prim.Native.Nat.{◌≤◌, ◌-◌}
-use borrow.Author.Rules.{rules}
 use lib.ListN.{length}
 use Rattle.replay.proofs.skip.Given as goal
 

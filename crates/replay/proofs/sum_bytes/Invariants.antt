@@ -1,7 +1,5 @@
 use Prim.Native.Nat.{◌≤◌, ◌<◌, ◌-◌}
 use lib.ListN.{length}
-use borrow.Author.Rules.{rules}
-use native.Mathlib.Omega.{arith}
 use Rattle.replay.proofs.sum_bytes.Given as goal
 
 abbrev pub invariant-loop-k : goal.invariant-loop-k

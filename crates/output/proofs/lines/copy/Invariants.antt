@@ -1,10 +1,7 @@
-use Prim.Native.Nat.{ℕ, suc, ◌+◌, ◌-◌, ◌≤◌}
-use borrow.Author.Rules.{rules}
-use mathlib.Core.List.{List}
-use mathlib.Core.Path.{◌≡◌, sym, ap, ◌∙◌}
-use native.Mathlib.Omega.{arith}
-use lib.ListN.{length, drop, get_or, set, length-drop}
-use lib.Seq.{paste, paste-zero, paste-suc, length-paste, get_or-drop}
+use Prim.Native.Nat.{◌-◌, ◌≤◌}
+use mathlib.Core.Path.{◌≡◌}
+use lib.ListN.{drop}
+use lib.Seq.{paste}
 use Rattle.output.proofs.lines.copy.Given as goal
 
 abbrev pub invariant-loop-i : goal.invariant-loop-i

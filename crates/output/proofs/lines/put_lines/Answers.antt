@@ -1,6 +1,6 @@
 -- `output::lines::put_lines` meets its contract: the lines of the entries passed are made, and what was to be printed is these bytes and then the rest.
 -- Assumes nothing.
-use Prim.Native.Nat.{ℕ, ◌+◌, ◌*◌, ◌≤◌}
+use Prim.Native.Nat.{◌+◌, ◌*◌, ◌≤◌}
 use mathlib.Core.Path.{refl, ◌∙◌}
 use native.Mathlib.Omega.{arith}
 use lib.ListN.{length, drop, take}

@@ -1,10 +1,8 @@
 -- `output::pages::first_page` meets its contract. Assumes nothing.
 use Prim.Native.Nat.{◌*◌}
-use mathlib.Core.Path.{refl, sym}
-use lib.Seq.{length_front, length-take-le}
+use mathlib.Core.Path.{refl}
+use lib.Seq.{length_front}
 use Rattle.output.proofs.BeginLaws.{first_listed, first_refused, first_there}
-use borrow.Author.Rules.{rules}
-use Rattle.output.proofs.pages.first_page.Reads as reads
 use Rattle.output.proofs.pages.first_page.Goals as goal
 
 pub returns-in-Refused : goal.returns-in-Refused

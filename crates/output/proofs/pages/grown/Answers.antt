@@ -3,9 +3,6 @@ use Prim.Native.Nat.{ℕ, ◌*◌, ◌/◌, ◌≤◌, ◌<◌}
 use native.Mathlib.Nat.{div-le_self, div-mul-le_self, le-div_iff_mul-le, min-eq_left, min-eq_right, mul-le-mul_right, le_trans}
 use native.Mathlib.Omega.{arith}
 use mathlib.Core.Path.{sym}
-use borrow.Author.Rules.{rules}
-use Rattle.output.proofs.pages.grown.Reads as reads
-use Rattle.output.proofs.pages.grown.Lts as lts
 use Rattle.output.proofs.pages.grown.Goals as goal
 
 -- eight times as many fit, or do not

@@ -1,19 +1,13 @@
 -- `output::pages::page_after` meets its contract: the answer copied is the one in its place, and the page is that of `solver::pages::page`. Assumes nothing.
 use Prim.Native.Nat.{ℕ, ◌*◌}
 use mathlib.Core.List.{List}
-use mathlib.Core.Path.{refl, sym, ap, ◌∙◌}
+use mathlib.Core.Path.{refl, ap, ◌∙◌}
 use lib.ListN.{take}
-use lib.Seq.{length-take-le}
 use Rattle.placements.specs.Pieces.{records_of}
 use Rattle.solver.specs.Lent.{call_with}
 use Rattle.definitions.specs.Starts.{outcome_from}
 use Rattle.definitions.specs.declared.Start.TheVariants.{Behind}
 use Rattle.output.proofs.RestLaws.{copied}
-use borrow.Author.Rules.{rules}
-use Rattle.output.proofs.pages.page_after.Reads as reads
-use Rattle.output.proofs.pages.page_after.Lts as lts
-use Rattle.output.proofs.lines.copy.Reads as copy-reads
-use Rattle.solver.proofs.pages.page.Reads as page-reads
 use Rattle.output.proofs.pages.page_after.Goals as goal
 
 pub returns : goal.returns

@@ -7,10 +7,6 @@ use Rattle.definitions.specs.Refusals.{sides_fit, sides_of}
 use Rattle.definitions.specs.declared.Record.{Record}
 use Rattle.output.specs.Standing.{places_of}
 use borrow.Author.Rules.{rules}
-use Rattle.output.proofs.pages.places_of.Reads as reads
-use Rattle.output.proofs.pages.places_of.Lts as lts
-use Rattle.placements.proofs.records.sides_fit.Reads as sides-fit-reads
-use Rattle.placements.proofs.records.volume_of.Reads as volume-of-reads
 use Rattle.output.proofs.pages.places_of.Goals as goal
 
 -- src/pages.rt:131:9

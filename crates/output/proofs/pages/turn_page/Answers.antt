@@ -1,12 +1,9 @@
 -- `output::pages::turn_page` meets its contract: the call is accepted, as the one before it was, and its page is the entries that follow. Assumes nothing.
 use Prim.Native.Nat.{◌-◌, ◌*◌}
-use mathlib.Core.Path.{sym}
 use native.Mathlib.Omega.{arith}
 use lib.ListN.{length}
-use lib.Seq.{length-take-le}
 use Rattle.theorems.proofs.EmissionLaws.{room}
 use Rattle.output.proofs.TurnLaws.{never_missing, never_refused, turned}
-use borrow.Author.Rules.{rules}
 use Rattle.output.proofs.pages.turn_page.Goals as goal
 
 pub overflow_sub-written : goal.overflow_sub-written

@@ -2,9 +2,6 @@
 use mathlib.Core.Path.{refl}
 use mathlib.Core.Logic.{inl, inr}
 use native.Mathlib.Omega.{arith}
-use borrow.Author.Rules.{rules}
-use Rattle.output.proofs.stretches.end_of.Reads as reads
-use Rattle.output.proofs.stretches.end_of.Lts as lts
 use Rattle.output.proofs.stretches.end_of.Goals as goal
 
 -- src/step.rt:24:1

@@ -4,11 +4,6 @@ use mathlib.Core.Logic.{⊎_elim}
 use native.Mathlib.Nat.{le_trans, mul-le-mul_right}
 use native.Mathlib.Omega.{arith}
 use Rattle.output.proofs.StretchLaws.{held}
-use borrow.Author.Rules.{rules}
-use Rattle.output.proofs.stretches.held_lines.Reads as reads
-use Rattle.output.proofs.stretches.held_lines.Lts as lts
-use Rattle.output.proofs.lines.put_lines.Reads as put-lines-reads
-use Rattle.output.proofs.stretches.end_of.Reads as end-of-reads
 use Rattle.output.proofs.stretches.held_lines.Goals as goal
 
 -- src/step.rt:47:9

@@ -2,12 +2,6 @@
 use mathlib.Core.Path.{◌≡◌}
 use native.Mathlib.Omega.{arith}
 use Rattle.output.proofs.StretchLaws.{turned_made, last_made, scratch_same}
-use borrow.Author.Rules.{rules}
-use Rattle.output.proofs.stretches.next_lines.Reads as reads
-use Rattle.output.proofs.stretches.next_lines.Lts as lts
-use Rattle.files.proofs.printing.put_last.Reads as put-last-reads
-use Rattle.output.proofs.pages.turn_page.Reads as turn-page-reads
-use Rattle.output.proofs.stretches.held_lines.Reads as held-lines-reads
 use Rattle.output.proofs.stretches.next_lines.Goals as goal
 
 pub returns-then-p : goal.returns-then-p
