@@ -21,7 +21,9 @@ pub record Going (text cells answers work links out : List ℕ) (p : Progress) :
 pub no_start : {A : Type 0} → false ≡ true → A
 no_start e = absurd (let z : ◌≡◌ {A = ℕ} 0 1 = cc in omega arith)
 
-pub going_first : (text cells answers work links out : List ℕ) (p : Progress) → Lent cells answers work links out → p ≡ beginning → Going text cells answers work links out p
+pub going_first
+    : (text cells answers work links out : List ℕ) (p : Progress) → Lent cells answers work links out → p ≡ beginning
+    → Going text cells answers work links out p
 unfolding rest_of
 going_first text cells answers work links out p lent e =
     subst (Going text cells answers work links out) (sym e)
@@ -40,8 +42,9 @@ going_first text cells answers work links out p lent e =
       rest = refl;
     })
 
-module _ (text cells answers work links out : List ℕ) (p : Progress) (g : Going text cells answers work links out p) (cells' answers' work' links' out' : List ℕ) (r : Stretch)
-    (s : Stepped text p cells work links out cells' answers' work' links' out' r) (same : length out' ≡ length out) where
+module _ (text cells answers work links out : List ℕ) (p : Progress) (g : Going text cells answers work links out p)
+    (cells' answers' work' links' out' : List ℕ) (r : Stretch) (s : Stepped text p cells work links out cells' answers' work' links' out' r)
+    (same : length out' ≡ length out) where
   more : (b : Bool) → r.done ≡ b → packed text ≡ (g.before ++ take r.made out') ++ cond b [] (rest_of text r.progress)
   unfolding rest_after
   more b e =

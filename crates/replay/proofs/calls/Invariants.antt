@@ -1,4 +1,5 @@
--- `replay::calls` meets its contract. The loop's invariant: there are 2048 bytes. The measure is what is left of the text, since each call ends further on, and `skip` never goes back. Assumes nothing.
+-- `replay::calls` meets its contract. The loop's invariant: there are 2048 bytes. The measure is what is left of the text, since each call ends further on, and
+-- `skip` never goes back. Assumes nothing.
 use Prim.Native.Nat.{◌-◌}
 use mathlib.Core.Path.{◌≡◌}
 use lib.ListN.{length}

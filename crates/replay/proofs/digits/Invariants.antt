@@ -1,4 +1,5 @@
--- `replay::digits` meets its contract. The loop's invariant: the digits read lie in the text, and the bytes stay as many. The measure is what is left of the bytes. Assumes nothing.
+-- `replay::digits` meets its contract. The loop's invariant: the digits read lie in the text, and the bytes stay as many. The measure is what is left of the
+-- bytes. Assumes nothing.
 use Prim.Native.Nat.{◌+◌, ◌≤◌, ◌-◌}
 use mathlib.Core.Path.{◌≡◌}
 use lib.ListN.{length}

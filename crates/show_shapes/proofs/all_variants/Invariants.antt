@@ -1,4 +1,5 @@
--- `show_shapes::all_variants` meets its contract. The loop's invariant: `i` is at most `n`, which `variants_of` keeps to at most 24, the length. Assumes nothing.
+-- `show_shapes::all_variants` meets its contract. The loop's invariant: `i` is at most `n`, which `variants_of` keeps to at most 24, the length. Assumes
+-- nothing.
 use Prim.Native.Nat.{◌≤◌, ◌-◌}
 use Rattle.show_shapes.proofs.all_variants.Given as goal
 

@@ -1,4 +1,5 @@
--- `show_shapes::turned` meets its contract. The loop's invariant: `j` is at most the volume `v`, so each byte read is one of the turned grid's. Assumes nothing.
+-- `show_shapes::turned` meets its contract. The loop's invariant: `j` is at most the volume `v`, so each byte read is one of the turned grid's. Assumes
+-- nothing.
 use Prim.Native.Nat.{◌≤◌, ◌-◌}
 use Rattle.show_shapes.proofs.turned.Given as goal
 

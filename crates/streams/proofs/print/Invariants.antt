@@ -1,4 +1,5 @@
--- `streams::print` meets its contract. The loop's invariant: `Going`, and each slice is as long as it was. The measure is how many steps can follow. Assumes nothing.
+-- `streams::print` meets its contract. The loop's invariant: `Going`, and each slice is as long as it was. The measure is how many steps can follow. Assumes
+-- nothing.
 use mathlib.Core.Path.{◌≡◌}
 use lib.ListN.{length}
 use Rattle.output.specs.Stretches.{left}

@@ -1,4 +1,5 @@
--- `streams::read_text` meets its contract. The loop's invariant: so many bytes are read, no more than fit. The measure is how much room is left. Assumes nothing.
+-- `streams::read_text` meets its contract. The loop's invariant: so many bytes are read, no more than fit. The measure is how much room is left. Assumes
+-- nothing.
 use Prim.Native.Nat.{◌-◌, ◌≤◌}
 use mathlib.Core.Path.{◌≡◌}
 use lib.ListN.{length}
