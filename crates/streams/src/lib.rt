@@ -4,7 +4,7 @@
 // that `print` has each stretch written that a step makes, is for the eye, and for the stored runs of the programs above.
 #![tactic(auto)]
 
-ghost use Rattle.std.specs.Prelude.{◌≤◌, ◌<◌, ◌≡◌, true, length, take};
+ghost use Rattle.std.specs.Prelude.{◌^◌, ◌≤◌, ◌<◌, ◌≡◌, pos, negsuc, true, length, take, IfOk, OnErr};
 ghost use Rattle.definitions.specs.Files.{packed};
 ghost use Rattle.streams.specs.Printing.{Ends, Lent};
 ghost use Rattle.streams.specs.Reading.{read_after};
@@ -22,12 +22,22 @@ fn after_read(got: isize, n: usize, text: &[u8]) -> usize
     n + io::count(got, &text[n..])
 }
 
-// What a read answers as a number: how many bytes it put at the start of a slice, or a negative number where it failed.
-fn read_once<R: Read>(input: &mut R, text: &mut [u8]) -> isize {
-    match input.read(text) {
+// What a read answered as a number: how many bytes it gave, or a negative number where it failed.
+fn got_of(answer: std::io::Result<usize>) -> isize
+    requires { IfOk answer (λ n. n < 2 ^ 63) }
+    ensures given { IfOk answer (λ n. result ≡ pos n) }
+    ensures failed { OnErr answer (result ≡ negsuc 0) }
+{
+    match answer {
         Ok(got) => got as isize,
         Err(_) => -1,
     }
+}
+
+// One read, and what it answered as a number.
+fn read_once<R: Read>(input: &mut R, text: &mut [u8]) -> isize {
+    let answer = input.read(text);
+    got_of(answer)
 }
 
 // One read behind the first n bytes of a text, which stay as they are; and how many bytes of the text are read then.
