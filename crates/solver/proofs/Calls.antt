@@ -1,6 +1,6 @@
 -- A call in a walk by hand, of a function whose contract's `ensures` states a fact of its result: one step from what the callee asks to its result, with the fact in hand.
---     calls-fact     Tok is what the callee hands back of the lifetimes' tokens, R the result's type, φ the fact
---     calls-lasts     the same of a function that takes a `&mut`: Ls is what is said of the last values zs, and φ the fact of the result and of them
+--     calls_fact     Tok is what the callee hands back of the lifetimes' tokens, R the result's type, φ the fact
+--     calls_lasts     the same of a function that takes a `&mut`: Ls is what is said of the last values zs, and φ the fact of the result and of them
 --     first_said      of a callee that says two facts, the first
 --     says_two        the end of a walk whose function's `ensures` are two facts
 --     x ▸ y           a pair, where a long tuple has a line for each of its parts

@@ -34,19 +34,13 @@ fn got_of(answer: std::io::Result<usize>) -> isize
     }
 }
 
-// One read, and what it answered as a number.
-fn read_once<R: Read>(input: &mut R, text: &mut [u8]) -> isize {
-    let answer = input.read(text);
-    got_of(answer)
-}
-
 // One read behind the first n bytes of a text, which stay as they are; and how many bytes of the text are read then.
 fn read_more<R: Read>(input: &mut R, text: &mut [u8], n: usize) -> usize
     requires { n ≤ length text.old }
     ensures { (n ≤ result) × (result ≤ length text.new) × (take n text.new ≡ take n text.old) }
 {
-    let got = read_once(input, &mut text[n..]);
-    after_read(got, n, text)
+    let answer = input.read(&mut text[n..]);
+    after_read(got_of(answer), n, text)
 }
 
 // Reads until the input ends, a read fails or the slice is full, and answers how many bytes of the text are read. The slice is longer than any file: so a text that is cut
