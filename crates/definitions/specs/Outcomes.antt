@@ -1,5 +1,5 @@
 -- Document 01, "Page" and what follows the table: what a call returns, and every slice lent to it afterwards.
-use Rattle.std.specs.Prelude.{ℕ, ◌*◌, ◌/◌, Bool, false, true, cond, List, ◌++◌, map, eqb, length, drop, replicate}
+use Rattle.std.specs.Prelude.{ℕ, ◌*◌, ◌/◌, Bool, false, true, cond, List, ◌++◌, map, eqb, length, drop, replicate, Option, Some, None, Result, Ok, Err}
 use Rattle.lists.specs.Lists.{joined}
 use Rattle.definitions.specs.Grid.{Sides, volume}
 use Rattle.definitions.specs.Kinds.{Tray}
@@ -14,8 +14,7 @@ use Rattle.definitions.specs.declared.Refusal.{Refusal}
 use Rattle.definitions.specs.declared.Refusal.TheVariants.{TooManyPieces, SideOutOfRange, CellsOutsideBytes, CellNotZeroOrOne, PieceWithoutFilledCell}
 use Rattle.definitions.specs.declared.Refusal.TheVariants.{TooManyCopies, TooManyBoardCells, MirroredWithoutTurned, EngineNotPorted, WorkTooShort}
 use Rattle.definitions.specs.declared.Refusal.TheVariants.{LinksTooShort, TooManyPlacements, TooManyLinks}
-use Rattle.definitions.specs.declared.Listing.{Listing}
-use Rattle.definitions.specs.declared.Listing.TheVariants as listing
+use Rattle.definitions.specs.declared.Page.{Page as WrittenPage}
 
 -- "The list is the answers of the listed packings in the engine's order, each once": one list for a tray, an identification and an engine.
 unfoldable pub answers_of : Tray → Identify → SolverKind → List (List ℕ)
@@ -102,11 +101,14 @@ number_of LinksTooShort = 13
 number_of TooManyPlacements = 14
 number_of TooManyLinks = 15
 
--- what an answer of the code says, with the slices that it leaves
-unfoldable pub outcome_of : Listing → List ℕ → List ℕ → List ℕ → Outcome
-outcome_of (listing.Page written further) answers work links =
-    record { number = 0; written = written; further = further; missing = false; answers = answers; work = work; links = links }
-outcome_of (listing.Refused why) answers work links =
+-- what the code of a page call hands back (`Listing`), and what it says, with the slices that it leaves
+abbrev pub Reply : Type 0
+Reply = Result (Option WrittenPage) Refusal
+
+unfoldable pub outcome_of : Reply → List ℕ → List ℕ → List ℕ → Outcome
+outcome_of (Ok (Some page)) answers work links =
+    record { number = 0; written = page.written; further = page.further; missing = false; answers = answers; work = work; links = links }
+outcome_of (Err why) answers work links =
     record { number = number_of why; written = 0; further = false; missing = false; answers = answers; work = work; links = links }
-outcome_of listing.NoEntry answers work links =
+outcome_of (Ok None) answers work links =
     record { number = 0; written = 0; further = false; missing = true; answers = answers; work = work; links = links }

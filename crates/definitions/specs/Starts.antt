@@ -1,17 +1,15 @@
 -- Where a page starts: at an entry of the list, by its number, which is document 01's skip, or behind an entry that is lent, so that a listing in pages does
 -- not search anew what it has passed. What a call for either returns and leaves; what the code of a page call shows; and the user's sentences about one call.
 -- StartLaws (theorems) shows that the outcome defined here meets the sentences.
-use Rattle.std.specs.Prelude.{ℕ, suc, ◌<◌, Bool, true, false, cond, not, ◌&&◌, List, [], ◌≡◌, ◌⊎◌, eqb, length, get_or}
+use Rattle.std.specs.Prelude.{ℕ, suc, ◌<◌, Bool, true, false, cond, not, ◌&&◌, List, [], ◌≡◌, ◌⊎◌, eqb, length, get_or, Some, None, Ok}
 use Rattle.lists.specs.Lists.{any, same, joined}
 use Rattle.definitions.specs.Refusals.{Call, tray_of, identify_of, refusal}
 use Rattle.definitions.specs.Page.{Page, page}
 use Rattle.definitions.specs.Emission.{onwards}
-use Rattle.definitions.specs.Outcomes.{Outcome, answers_of, capacity, over_start, work_after, links_after, refused, accepted, accepted_with, outcome}
+use Rattle.definitions.specs.Outcomes.{Outcome, Reply, answers_of, capacity, over_start, work_after, links_after, refused, accepted, accepted_with, outcome}
 use Rattle.definitions.specs.Demands.{Demand1, Stretch}
 use Rattle.definitions.specs.declared.Start.{Start}
 use Rattle.definitions.specs.declared.Start.TheVariants.{Entry, Behind}
-use Rattle.definitions.specs.declared.Listing.{Listing}
-use Rattle.definitions.specs.declared.Listing.TheVariants as listing
 
 -- the same call with another skip
 abbrev pub skipping : ℕ → Call → Call
@@ -98,9 +96,9 @@ pub record PageIs (last : List ℕ) (waiting : Bool) (l : Call) (still : Bool) (
   pub still_is : still ≡ (waiting && not (is_entry last l))
 
 -- what it hands back then
-abbrev pub reply_of : Bool → ℕ → Bool → Listing
-reply_of true written further = listing.NoEntry
-reply_of false written further = listing.Page written further
+abbrev pub reply_of : Bool → ℕ → Bool → Reply
+reply_of true written further = Ok None
+reply_of false written further = Ok (Some (record { written = written; further = further }))
 
 -- ---- the user's sentences about one call, whatever it lends, and what it left
 -- Behind an entry: it went on. Some entry of the list equals the one that was lent, the outcome is document 01's with the next number as skip, and so it is

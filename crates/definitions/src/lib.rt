@@ -9,7 +9,7 @@ ghost use Rattle.definitions.specs.Outcomes.{number_of};
 // cells begin in the lent bytes. A board's count and wood are not read. Sides have the width of an index, so that one of 257
 // is refused and not taken for 1. The wood lies behind the count, in bytes that were padding: size and other places stay.
 #[repr(C)]
-#[derive(Clone, Copy)]
+#[derive(Clone, Copy, PartialEq, Eq)]
 pub struct Record {
     pub a: usize,
     pub b: usize,
@@ -19,7 +19,7 @@ pub struct Record {
     pub start: usize,
 }
 
-#[derive(Clone, Copy)]
+#[derive(Clone, Copy, PartialEq, Eq)]
 pub enum SolverKind {
     Auto,
     Naive,
@@ -27,22 +27,22 @@ pub enum SolverKind {
     KnuthAlgorithm,
 }
 
-#[derive(Clone, Copy)]
+#[derive(Clone, Copy, PartialEq, Eq)]
 pub struct Config {
     pub identify_transformed_answers: bool,
     pub identify_mirrored_answers: bool,
     pub solver: SolverKind,
 }
 
-// Why a call is refused: the rows 2 to 15 of document 01's table, in its order.
-#[derive(Clone, Copy)]
+// Why a call is refused: the rows 2 to 15 of document 01's table, in its order and with its numbers.
+#[derive(Clone, Copy, PartialEq, Eq)]
 pub enum Refusal {
-    TooManyPieces,
+    TooManyPieces = 2,
     SideOutOfRange,
     CellsOutsideBytes,
     CellNotZeroOrOne,
     PieceWithoutFilledCell,
-    TooManyCopies,
+    TooManyCopies = 8,
     TooManyBoardCells,
     MirroredWithoutTurned,
     EngineNotPorted,
@@ -53,39 +53,28 @@ pub enum Refusal {
 }
 
 // Where a page starts: at an entry of the list, by its number, or behind the entry that is lent.
-#[derive(Clone, Copy)]
+#[derive(Clone, Copy, PartialEq, Eq)]
 pub enum Start {
     Entry(u64),
     Behind,
 }
 
-// What a call hands back beside the slices: how many answers were written and whether a further one follows; or the refusal; or,
-// of a call for what lies behind an entry, that no entry of the list equals the one that was lent (no refusal: the search has run
-// and found none, and nothing is written).
-#[derive(Clone, Copy)]
-pub enum Listing {
-    Page(usize, bool),
-    Refused(Refusal),
-    NoEntry,
+// What an accepted call wrote: how many answers, and whether a further one follows.
+#[derive(Clone, Copy, PartialEq, Eq)]
+pub struct Page {
+    pub written: usize,
+    pub further: bool,
 }
 
-// The number that document 01's table gives a refusal.
-pub fn refusal_number(refusal: Refusal) -> u8
-    ensures { result ≡ number_of refusal }
-{
-    match refusal {
-        Refusal::TooManyPieces => 2,
-        Refusal::SideOutOfRange => 3,
-        Refusal::CellsOutsideBytes => 4,
-        Refusal::CellNotZeroOrOne => 5,
-        Refusal::PieceWithoutFilledCell => 6,
-        Refusal::TooManyCopies => 8,
-        Refusal::TooManyBoardCells => 9,
-        Refusal::MirroredWithoutTurned => 10,
-        Refusal::EngineNotPorted => 11,
-        Refusal::WorkTooShort => 12,
-        Refusal::LinksTooShort => 13,
-        Refusal::TooManyPlacements => 14,
-        Refusal::TooManyLinks => 15,
+// What a call hands back beside the slices: its page; or the refusal; or, of a call for what lies behind an entry, `Ok(None)`, that no entry of the list equals
+// the one that was lent (no refusal: the search has run and found none, and nothing is written).
+pub type Listing = Result<Option<Page>, Refusal>;
+
+impl Refusal {
+    // The number that document 01's table gives a refusal.
+    pub fn number(self) -> u8
+        ensures { result ≡ number_of self }
+    {
+        self as u8
     }
 }

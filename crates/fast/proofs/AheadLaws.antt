@@ -29,6 +29,7 @@ use Rattle.fast.proofs.ChoiceLaws.{chosen_at, none_left, other_cell}
 use Rattle.fast.proofs.SearchingLaws.{goes_any, fits, fits_apart, fits_possible, child_state, first_uncovered, none_uncovered, some_uncovered}
 use Rattle.fast.proofs.TurnLaws.{rows_many, size_is, row_is, row-cells, row_first, range_within, start_is, start_up, start_before, start_behind, start_few}
 use Rattle.fast.proofs.TurnLaws.{start_range}
+use Rattle.rows.specs.declared.chart.Chart.{Chart}
 
 -- ---- the look at a state
 some_kept : {A : Type 0} (xs : List A) {x : A} → Memᴰ x xs → is_empty xs ≡ false
@@ -36,11 +37,11 @@ some_kept [] m = absurd (Memᴰ.not-nil m)
 some_kept (y ∷ ys) m = refl
 
 -- no row of a kind before k is a choice
-abbrev pub Unplaced : Dims → List ℕ → List ℕ → List ℕ → Mask → ℕ → Type 0
+abbrev pub Unplaced : Dims → List ℕ → Chart → List ℕ → Mask → ℕ → Type 0
 Unplaced d work chart left covered k =
     (r : ℕ) → r < d.rows → (row_at work r).kind < k → chosen_at (state_by (system_in d work chart) left covered []) (row_at work r) ≡ false
 
-module _ {d : Dims} {work chart : List ℕ} (left : List ℕ) (covered : Mask) (c : ℕ) (ready : Ready d work chart) (first : FirstOpen (has covered) 0 c) where
+module _ {d : Dims} {work : List ℕ} {chart : Chart} (left : List ℕ) (covered : Mask) (c : ℕ) (ready : Ready d work chart) (first : FirstOpen (has covered) 0 c) where
   abbrev S : System
   S = system_in d work chart
 
@@ -84,7 +85,7 @@ module _ {d : Dims} {work chart : List ℕ} (left : List ℕ) (covered : Mask) (
       pub ahead_within : (128 * k + c ≤ 2048) × (128 * k + c + 1 ≤ 2048)
       ahead_within = let b = few in range_within ready k c kind (omega arith)
 
-      module _ (start end : ℕ) (begins : start ≡ get_or chart (128 * k + c) 0) (ends : end ≡ get_or chart (128 * k + c + 1) 0) where
+      module _ (start end : ℕ) (begins : start ≡ get_or chart.starts (128 * k + c) 0) (ends : end ≡ get_or chart.starts (128 * k + c + 1) 0) where
         start-at : start ≡ start_of S.rows (128 * k + c)
         start-at = begins ∙ start_is ready (128 * k + c) ahead_within.0
 
@@ -168,7 +169,7 @@ module _ {d : Dims} {work chart : List ℕ} (left : List ℕ) (covered : Mask) (
         sym (ap₂ (λ (b f : Bool). b || not f) (some_uncovered t.free c at_first).0 (ap (λ (l : List Placement). is_empty l) e))
 
 -- ---- the state below row r is the one looked at
-pub goes_below : {d : Dims} {work chart : List ℕ} (left : List ℕ) (covered more : Mask) → Ready d work chart → (r kind : ℕ) → r < d.rows
+pub goes_below : {d : Dims} {work : List ℕ} {chart : Chart} (left : List ℕ) (covered more : Mask) → Ready d work chart → (r kind : ℕ) → r < d.rows
     → kind ≡ (row_at work r).kind
     → has more ≡ either (has covered) (has (mask_at work r))
     → goes_on (system_in d work chart) (state_by (system_in d work chart) (set left kind (get_or left kind 0 - 1)) more [])

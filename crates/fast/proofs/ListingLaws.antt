@@ -3,15 +3,16 @@
 use Prim.Native.Nat.{ℕ, ◌+◌, ◌-◌, ◌*◌, ◌≤◌, ◌<◌}
 use mathlib.Core.Bool.{Bool, true, false, cond, not, ◌&&◌}
 use mathlib.Core.List.Memᴰ
-use mathlib.Core.List.{List, [], ◌++◌, map}
+use mathlib.Core.List.{List, [], map}
 use mathlib.Core.Path.{◌≡◌, refl, sym, ap, ap₂, ◌∙◌}
 use native.Mathlib.Nat.{mul-le-mul}
 use native.Mathlib.Omega.{arith}
 use borrow.Author.Count.{below_more}
 use borrow.Author.Tests.{ne_eqb, eq-eqb}
 use lib.Dec.{eqb, eqb→eq}
-use lib.ListN.{length, get_or, take, set, length-map, length-append}
-use lib.Seq.{length-take-le, get_or-take, get_or-set_same, get_or-set_other, take_at}
+use lib.ListN.{length, get_or, take, set, length-map}
+use lib.Seq.{length-take-le, get_or-take, get_or-set_same, get_or-set_other}
+use Rattle.std.proofs.lemmas.List.{length-take}
 use Rattle.lists.specs.Lists.{below, from, keep, sum}
 use Rattle.lists.proofs.TestLaws.{and_left, and_right, holds}
 use Rattle.lists.proofs.ListLaws.{keep_all, keep_length, map_same, get_or_pos}
@@ -24,7 +25,7 @@ use Rattle.definitions.specs.Orders.{identifies_turned, sizes, all_cells, kind0_
 use Rattle.definitions.specs.Refusals.{identifies}
 use Rattle.masks.specs.Masks.{has, nothing}
 use Rattle.masks.specs.declared.Mask.{Mask}
-use Rattle.rows.specs.Charts.{Charted, kinds_part}
+use Rattle.rows.specs.Charts.{kind_copies, kind_size}
 use Rattle.rows.specs.Systems.{System, system_in, system_over, system_of}
 use Rattle.rows.specs.declared.Dims.{Dims}
 use Rattle.kept.specs.Normal.{of_kind}
@@ -33,36 +34,37 @@ use Rattle.kept.proofs.ReadyLaws.{kinds_many}
 use Rattle.fast.specs.Searching.{Searching, uncovered, state_by, fast_below}
 use Rattle.fast.specs.Pruned.{fast_first}
 use Rattle.fast.specs.Listing.{total_cells, cells_in, first_by, fast_answers}
+use Rattle.rows.specs.declared.chart.Chart.{Chart}
 
 -- ---- the numbers of kinds in a chart
-abbrev pub copies_in : List ℕ → ℕ → List ℕ
-copies_in chart n = map (λ k. get_or (kinds_part chart) (3 * k) 0) (below n)
+abbrev pub copies_in : Chart → ℕ → List ℕ
+copies_in chart n = map (kind_copies chart.kinds) (below n)
 
-abbrev sizes_in : List ℕ → ℕ → List ℕ
-sizes_in chart n = map (λ k. get_or (kinds_part chart) (3 * k + 2) 0) (below n)
+abbrev sizes_in : Chart → ℕ → List ℕ
+sizes_in chart n = map (kind_size chart.kinds) (below n)
 
-abbrev cells_at : List ℕ → ℕ → ℕ
-cells_at chart k = get_or (kinds_part chart) (3 * k) 0 * get_or (kinds_part chart) (3 * k + 2) 0
+abbrev cells_at : Chart → ℕ → ℕ
+cells_at chart k = kind_copies chart.kinds k * kind_size chart.kinds k
 
 -- ---- the copies of each kind, one after the other
-module _ (chart left : List ℕ) where
-  pub left_next : (k x : ℕ) → k < length left → x ≡ get_or (kinds_part chart) (3 * k) 0
-      → ((j : ℕ) → j < k → get_or left j 0 ≡ get_or (kinds_part chart) (3 * j) 0)
-      → (j : ℕ) → j < k + 1 → get_or (set left k x) j 0 ≡ get_or (kinds_part chart) (3 * j) 0
+module _ (chart : Chart) (left : List ℕ) where
+  pub left_next : (k x : ℕ) → k < length left → x ≡ kind_copies chart.kinds k
+      → ((j : ℕ) → j < k → get_or left j 0 ≡ kind_copies chart.kinds j)
+      → (j : ℕ) → j < k + 1 → get_or (set left k x) j 0 ≡ kind_copies chart.kinds j
   left_next k x h e f =
-      below_more (λ (j : ℕ). get_or (set left k x) j 0 ≡ get_or (kinds_part chart) (3 * j) 0) k
+      below_more (λ (j : ℕ). get_or (set left k x) j 0 ≡ kind_copies chart.kinds j) k
       (λ j l. get_or-set_other left k j x 0 (λ q. omega arith) ∙ f j l) (get_or-set_same left k x 0 h ∙ e)
 
-  pub left_end : (n : ℕ) → n ≤ length left → ((j : ℕ) → j < n → get_or left j 0 ≡ get_or (kinds_part chart) (3 * j) 0) → take n left ≡ copies_in chart n
+  pub left_end : (n : ℕ) → n ≤ length left → ((j : ℕ) → j < n → get_or left j 0 ≡ kind_copies chart.kinds j) → take n left ≡ copies_in chart n
   left_end n h f =
-      sym (map_below (λ k. get_or (kinds_part chart) (3 * k) 0) n 0 (take n left) (length-take-le n left h)
+      sym (map_below (kind_copies chart.kinds) n 0 (take n left) (length-take-le n left h)
       (λ k l. sym (f k l) ∙ sym (get_or-take n left k 0 l)))
 
 -- ---- the cells of the kinds from k on
-abbrev pub cells_from : List ℕ → ℕ → ℕ → ℕ
+abbrev pub cells_from : Chart → ℕ → ℕ → ℕ
 cells_from chart n k = sum (map (cells_at chart) (from k (n - k)))
 
-module _ (chart : List ℕ) (n : ℕ) where
+module _ (chart : Chart) (n : ℕ) where
   pub cells_start : cells_from chart n 0 ≡ cells_in chart n
   unfolding cells_in
   cells_start = let e : n - 0 ≡ n = omega arith in ap (λ (m : ℕ). sum (map (cells_at chart) (from 0 m))) e
@@ -70,22 +72,22 @@ module _ (chart : List ℕ) (n : ℕ) where
   pub cells_end : (k : ℕ) → n ≤ k → cells_from chart n k ≡ 0
   cells_end k h = ap (λ (l : List ℕ). sum (map (cells_at chart) l)) (from-end k n h)
 
-  module _ (k x y : ℕ) (e : x ≡ get_or (kinds_part chart) (3 * k) 0) (f : y ≡ get_or (kinds_part chart) (3 * k + 2) 0) where
+  module _ (k x y : ℕ) (e : x ≡ kind_copies chart.kinds k) (f : y ≡ kind_size chart.kinds k) where
     pub cells_next : k < n → cells_from chart n k ≡ x * y + cells_from chart n (k + 1)
     cells_next h =
         ap (λ (l : List ℕ). sum (map (cells_at chart) l)) (from_next k n h) ∙ ap₂ (λ (a b : ℕ). a * b + cells_from chart n (k + 1)) (sym e) (sym f)
 
-    pub cells_few : Charted chart → x * y ≤ 130560
-    cells_few ok =
-        let a : x ≤ 255 = let b = ok.copies k in omega arith in
-        let c : y ≤ 512 = let b = ok.sizes k in omega arith in
+    pub cells_few : x < 256 → y < 65536 → x * y ≤ 16711425
+    cells_few h g =
+        let a : x ≤ 255 = omega arith in
+        let c : y ≤ 65535 = omega arith in
         mul-le-mul a c
 
 -- ---- kind 0 is placed first as the code decides it
-pub copies_first : (chart : List ℕ) (n : ℕ) → 0 < n → get_or (copies_in chart n) 0 0 ≡ get_or (kinds_part chart) 0 0
-copies_first chart n h = get_or_of (λ k. get_or (kinds_part chart) (3 * k) 0) 0 0 n 0 h
+pub copies_first : (chart : Chart) (n : ℕ) → 0 < n → get_or (copies_in chart n) 0 0 ≡ kind_copies chart.kinds 0
+copies_first chart n h = get_or_of (kind_copies chart.kinds) 0 0 n 0 h
 
-pub copies_none : (chart : List ℕ) (n : ℕ) → n ≡ 0 → get_or (copies_in chart n) 0 0 ≡ 1 → ⊥
+pub copies_none : (chart : Chart) (n : ℕ) → n ≡ 0 → get_or (copies_in chart n) 0 0 ≡ 1 → ⊥
 copies_none chart n e one = let z : get_or (copies_in chart n) 0 0 ≡ 0 = ap (λ (m : ℕ). get_or (copies_in chart m) 0 0) e in omega arith
 
 module _ (turned : Bool) (copies : List ℕ) (cells size : ℕ) where
@@ -126,7 +128,7 @@ first_same t i =
     ap (λ (n : ℕ). identifies_turned i && (eqb (get_or (limits c) 0 0) 1 && eqb (cells n) (length c.cells)))
     (length-map c.kinds (λ d. length d.copies))
 
-module _ (d : Dims) (work chart : List ℕ) where
+module _ (d : Dims) (work : List ℕ) (chart : Chart) where
   abbrev S : System
   S = system_in d work chart
 
@@ -136,8 +138,8 @@ module _ (d : Dims) (work chart : List ℕ) where
       let n = d.kinds in
       ap (λ (m : ℕ). sum (map (λ k. get_or (copies_in chart n) k 0 * get_or (sizes_in chart n) k 0) (below m))) (kinds_many d work chart)
       ∙ ap sum (map_same (λ k. get_or (copies_in chart n) k 0 * get_or (sizes_in chart n) k 0) (cells_at chart) (below n)
-      (λ k m. let h = below_at n m in ap₂ (λ (a b : ℕ). a * b) (at (λ j. get_or (kinds_part chart) (3 * j) 0) k h)
-      (at (λ j. get_or (kinds_part chart) (3 * j + 2) 0) k h)))
+      (λ k m. let h = below_at n m in ap₂ (λ (a b : ℕ). a * b) (at (kind_copies chart.kinds) k h)
+      (at (kind_size chart.kinds) k h)))
     where
       at : (f : ℕ → ℕ) (k : ℕ) → k < d.kinds → get_or (map f (below d.kinds)) k 0 ≡ f k
       at f k h = get_or_of f 0 0 d.kinds k h ∙ ap f (let e : 0 + k ≡ k = omega arith in e)
@@ -150,17 +152,17 @@ module _ (d : Dims) (work chart : List ℕ) where
       (λ i. turned_is turned mirrored i && (eqb (get_or (copies_in chart d.kinds) 0 0) 1 && eqb (cells-in i) d.size)) ∙ sym e
 
   -- ---- the start of a search: all copies left, and nothing covered
-  module _ (left rest : List ℕ) (full : left ≡ copies_in chart d.kinds ++ rest) where
+  module _ (left : List ℕ) (full : take d.kinds left ≡ copies_in chart d.kinds) where
     left_in : take d.kinds left ≡ S.copies
     unfolding system_in system_over
-    left_in = ap (take d.kinds) full ∙ take_at (copies_in chart d.kinds) rest d.kinds (kinds_many d work chart)
+    left_in = full
 
     left_is : take (length S.copies) left ≡ S.copies
     left_is = ap (λ (n : ℕ). take n left) (kinds_many d work chart) ∙ left_in
 
     left_long : length S.copies ≤ length left
     unfolding system_in system_over
-    left_long = let a = ap length full ∙ length-append (copies_in chart d.kinds) rest in omega arith
+    left_long = let a = ap length full in let b = length-take d.kinds left in omega arith
 
     pub left_some : get_or (copies_in chart d.kinds) 0 0 ≡ 1 → 0 < get_or left 0 0
     unfolding system_in system_over

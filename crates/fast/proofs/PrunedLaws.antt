@@ -1,5 +1,5 @@
 -- Kind 0 first: what the loops over maps, kinds and rows find is what the definitions say. Assumes nothing.
-use Prim.Native.Nat.{ℕ, ◌+◌, ◌-◌, ◌*◌, ◌≤◌, ◌<◌}
+use Prim.Native.Nat.{ℕ, ◌+◌, ◌-◌, ◌≤◌, ◌<◌}
 use mathlib.Core.Bool.{Bool, true, false, not, ◌&&◌, ◌||◌, true≢false}
 use mathlib.Core.List.{List, [], ◌∷◌, ◌++◌, map}
 use mathlib.Core.Logic.{⊎_elim}
@@ -21,73 +21,72 @@ use Rattle.theorems.proofs.EmissionLaws.{emits_append, emits_done, emits_none}
 use Rattle.masks.specs.Masks.{has, either, nothing}
 use Rattle.masks.specs.declared.Mask.{Mask}
 use Rattle.masks.proofs.MaskLaws.{hit2_zero, apart_of}
-use Rattle.rows.specs.Charts.{scans_part, kinds_part, pieces_part, images_of}
+use Rattle.rows.specs.Charts.{images_of, kind_copies, kind_partner}
 use Rattle.rows.specs.Rows.{cells_of, mask_at, row_at, rows_in}
 use Rattle.rows.specs.Systems.{System, system_in, images_in, owned_in, kind_by, moved_by, row_with, system_over}
 use Rattle.rows.specs.Shown.{Shown, shows_row}
 use Rattle.kept.specs.Normal.{row_of, image_of}
-use Rattle.kept.specs.Ready.{Ready, OfRows}
+use Rattle.kept.specs.Ready.{AreRows, Ready}
 use Rattle.kept.specs.Entries.{entries}
 use Rattle.fast.specs.Searching.{Searching, fast_below, state_by}
 use Rattle.fast.specs.Pruned.{moved_before, always_mirrorable_by, pruned_by, first_rows, fast_first}
-use Rattle.fast.specs.States.{state_length, left_part, put_row, take_copy}
 use Rattle.rows.specs.declared.Dims.{Dims}
 use Rattle.kept.proofs.ReadyLaws.{kinds_many, rows_many, few-cells, row_is, row_in, row-cells, rows_kinds, image_is}
 use Rattle.kept.proofs.NormalRowLaws.{row_of_in}
 use Rattle.fast.proofs.SearchingLaws.{fits, fits_possible, child_state, child_searching}
 use Rattle.fast.proofs.UnmetLaws.{untried, unmet}
-use Rattle.fast.proofs.StateLaws.{placed_length, placed_left, placed_path}
 use Rattle.fast.proofs.ChoiceLaws.{entries_append}
+use Rattle.rows.specs.declared.chart.Chart.{Chart}
 
 -- ---- each kind has a mirror partner with as many copies
-unfoldable pub mirrors : List ℕ → ℕ → ℕ → Bool
+unfoldable pub mirrors : Chart → ℕ → ℕ → Bool
 mirrors chart n k =
-    let p = get_or (kinds_part chart) (3 * k + 1) 0 in
-    ltb p n && eqb (get_or (kinds_part chart) (3 * k) 0) (get_or (kinds_part chart) (3 * p) 0)
+    let p = kind_partner chart.kinds k in
+    ltb p n && eqb (kind_copies chart.kinds k) (kind_copies chart.kinds p)
 
-module _ (chart : List ℕ) (n : ℕ) where
+module _ (chart : Chart) (n : ℕ) where
   abbrev copies : List ℕ
-  copies = map (λ k. get_or (kinds_part chart) (3 * k) 0) (below n)
+  copies = map (kind_copies chart.kinds) (below n)
 
   abbrev partners : List ℕ
-  partners = map (λ k. get_or (kinds_part chart) (3 * k + 1) 0) (below n)
+  partners = map (kind_partner chart.kinds) (below n)
 
-  copies_at : (k : ℕ) → k < n → get_or copies k 0 ≡ get_or (kinds_part chart) (3 * k) 0
+  copies_at : (k : ℕ) → k < n → get_or copies k 0 ≡ kind_copies chart.kinds k
   copies_at k h =
-      get_or_of (λ k. get_or (kinds_part chart) (3 * k) 0) 0 0 n k h
-      ∙ ap (λ (i : ℕ). get_or (kinds_part chart) (3 * i) 0) (let e : 0 + k ≡ k = omega arith in e)
+      get_or_of (kind_copies chart.kinds) 0 0 n k h
+      ∙ ap (λ (i : ℕ). kind_copies chart.kinds i) (let e : 0 + k ≡ k = omega arith in e)
 
-  pub partner-at : (k : ℕ) → k < n → kind_by (map (λ k. get_or (kinds_part chart) (3 * k + 1) 0) (below n)) true k ≡ get_or (kinds_part chart) (3 * k + 1) 0
+  pub partner-at : (k : ℕ) → k < n → kind_by (map (kind_partner chart.kinds) (below n)) true k ≡ kind_partner chart.kinds k
   unfolding kind_by
   partner-at k h =
-      get_or_of (λ k. get_or (kinds_part chart) (3 * k + 1) 0) (length partners) 0 n k h
-      ∙ ap (λ (i : ℕ). get_or (kinds_part chart) (3 * i + 1) 0) (let e : 0 + k ≡ k = omega arith in e)
+      get_or_of (kind_partner chart.kinds) (length partners) 0 n k h
+      ∙ ap (λ (i : ℕ). kind_partner chart.kinds i) (let e : 0 + k ≡ k = omega arith in e)
 
   mirrors-at : (k : ℕ) → k < n → (ltb (kind_by partners true k) n && eqb (get_or copies k 0) (get_or copies (kind_by partners true k) 0)) ≡ mirrors chart n k
   unfolding mirrors
   mirrors-at k h =
-      let p = get_or (kinds_part chart) (3 * k + 1) 0 in
-      let y = get_or (kinds_part chart) (3 * k) 0 in
+      let p = kind_partner chart.kinds k in
+      let y = kind_copies chart.kinds k in
       ap (λ (x : ℕ). ltb x n && eqb (get_or copies k 0) (get_or copies x 0)) (partner-at k h)
       ∙ ap (λ (x : ℕ). ltb p n && eqb x (get_or copies p 0)) (copies_at k h)
       ∙ go p y (ltb p n) refl
     where
-      go : (p y : ℕ) (b : Bool) → ltb p n ≡ b → (b && eqb y (get_or copies p 0)) ≡ (b && eqb y (get_or (kinds_part chart) (3 * p) 0))
+      go : (p y : ℕ) (b : Bool) → ltb p n ≡ b → (b && eqb y (get_or copies p 0)) ≡ (b && eqb y (kind_copies chart.kinds p))
       go p y true e = ap (eqb y) (copies_at p (ltb-true p n e))
       go p y false e = refl
 
   -- as the code reads it: the partner p, and the copies of both
-  module _ (k p : ℕ) (partner : p ≡ get_or (kinds_part chart) (3 * k + 1) 0) where
+  module _ (k p : ℕ) (partner : p ≡ kind_partner chart.kinds k) where
     pub mirrors_not : n ≤ p → mirrors chart n k ≡ false
     unfolding mirrors
     mirrors_not h = rw (sym partner, le-ltb p n h)
 
-    pub mirrors_told : p < n → (x y : ℕ) → x ≡ get_or (kinds_part chart) (3 * k) 0 → y ≡ get_or (kinds_part chart) (3 * p) 0 → (b : Bool) → eqb x y ≡ b
+    pub mirrors_told : p < n → (x y : ℕ) → x ≡ kind_copies chart.kinds k → y ≡ kind_copies chart.kinds p → (b : Bool) → eqb x y ≡ b
         → mirrors chart n k ≡ b
     unfolding mirrors
     mirrors_told h x y e f b g = rw (sym partner, sym e, sym f, lt-ltb p n h) g
 
-pub mirrorable_start : (d : Dims) (work chart : List ℕ)
+pub mirrorable_start : (d : Dims) (work : List ℕ) (chart : Chart)
     → all (mirrors chart d.kinds) (from 0 (d.kinds - 0)) ≡ always_mirrorable_by (system_in d work chart)
 unfolding always_mirrorable_by system_in system_over
 mirrorable_start d work chart =
@@ -100,14 +99,14 @@ mirrorable_start d work chart =
     ∙ ap (λ (m : ℕ). all (test m) (below m)) (sym (kinds_many d work chart))
 
 -- ---- the maps by their numbers
-module _ (d : Dims) (work chart : List ℕ) (r : ℕ) where
+module _ (d : Dims) (work : List ℕ) (chart : Chart) (r : ℕ) where
   -- map m takes row r onto a row before it
   abbrev pub moves : ℕ → Bool
   moves m = ltb (image_of (system_in d work chart) (leb d.turns m) (images_of chart d.size m) r) r
 
   pub moves_told : r < d.rows → (m x : ℕ)
       → x ≡ row_with (rows_in work d.rows)
-      (moved_by (map (λ k. get_or (kinds_part chart) (3 * k + 1) 0) (below d.kinds)) (leb d.turns m) (images_of chart d.size m) (row_at work r))
+      (moved_by (map (kind_partner chart.kinds) (below d.kinds)) (leb d.turns m) (images_of chart d.size m) (row_at work r))
       → (b : Bool) → ltb x r ≡ b → moves m ≡ b
   moves_told h m x e b f =
       ap (λ (y : ℕ). ltb y r) (sym (e ∙ image_is d work chart r h (leb d.turns m) (images_of chart d.size m))) ∙ f
@@ -242,7 +241,7 @@ nothing_has : (p : ℕ) → has nothing_covered p ≡ false
 unfolding nothing
 nothing_has p = ap (λ (f : ℕ → Bool). f p) hit2_zero
 
-module _ (d : Dims) (work chart : List ℕ) (ready : Ready d work chart) (r : ℕ) (h : r < d.rows) where
+module _ (d : Dims) (work : List ℕ) (chart : Chart) (ready : Ready d work chart) (r : ℕ) (h : r < d.rows) where
   abbrev sys : System
   sys = system_in d work chart
 
@@ -287,62 +286,51 @@ module _ (d : Dims) (work chart : List ℕ) (ready : Ready d work chart) (r : �
       can_start : possible begun (row_of sys r) ≡ true
       can_start = sym (fits_possible sys ready.lawful left₀ nothing_covered (mask_at work r) [] r in_rows row_mask) ∙ fits_first left₀ some
 
-      module _ (last shown : List ℕ) (sh : Shown d.size (take d.places (scans_part chart)) last shown) (i : Identify) (capacity : ℕ) (x z : Emitted)
+      module _ (last shown : List ℕ) (sh : Shown d.size (take d.places chart.scans) last shown) (i : Identify) (capacity : ℕ) (x z : Emitted)
           (is : x.last ≡ last) where
-        hides : shows_row (owned_in (pieces_part chart) d.pieces) shown (row_at work r) ≡ false → x.waiting ≡ true
+        hides : shows_row (owned_in chart.pieces d.pieces) shown (row_at work r) ≡ false → x.waiting ≡ true
             → emits capacity (fast_below sys i (choose begun (row_of sys r))) x ≡ x
         unfolding system_in system_over
         hides v w =
             unmet sys ready.lawful left₀ nothing_covered [] tt all r in_rows can_start last shown sh
-            (ap (λ (q : Placement). shows_row (owned_in (pieces_part chart) d.pieces) shown q) at_row ∙ v) i capacity x w is
+            (ap (λ (q : Placement). shows_row (owned_in chart.pieces d.pieces) shown q) at_row ∙ v) i capacity x w is
 
         pub first_untried : (not (pruned_by (system_in d work chart) i r)
-            && (not x.waiting || shows_row (owned_in (pieces_part chart) d.pieces) shown (row_at work r))) ≡ false
+            && (not x.waiting || shows_row (owned_in chart.pieces d.pieces) shown (row_at work r))) ≡ false
             → emits capacity (first_from (system_in d work chart) i (state_by (system_in d work chart) left₀ nothing_covered []) d.rows r) x ≡ z
             → emits capacity (first_from (system_in d work chart) i (state_by (system_in d work chart) left₀ nothing_covered []) d.rows (r + 1)) x ≡ z
         first_untried f k =
             ⊎_elim (λ a. first_passed sys i begun d.rows r capacity x z h first_kind (not-false (pruned_by sys i r) a) k)
             (λ a. first_emitted sys i begun d.rows r capacity x z x h first_kind (not-true (pruned_by sys i r) a.0) (sym (hides a.2 a.1)) k)
-            (untried (not (pruned_by sys i r)) x.waiting (shows_row (owned_in (pieces_part chart) d.pieces) shown (row_at work r)) f)
+            (untried (not (pruned_by sys i r)) x.waiting (shows_row (owned_in chart.pieces d.pieces) shown (row_at work r)) f)
 
-    -- the state with it chosen: of a state with the copies of the first
-    module _ (state₀ state placed : List ℕ) (same : left_part state ≡ left_part state₀) (long : length state ≡ state_length)
-        (is : placed ≡ put_row (take_copy state 0) 0 r) where
-      abbrev left₀ : List ℕ
-      left₀ = left_part state₀
-
-      one_row : take 1 placed ≡ r ∷ []
-      one_row = placed_path state placed 0 0 r is long (omega arith) (omega arith)
-
-      one_fewer : left_part placed ≡ set left₀ 0 (get_or left₀ 0 0 - 1)
-      one_fewer = placed_left state placed 0 0 r is long (omega arith) (omega arith) ∙ ap (λ (l : List ℕ). set l 0 (get_or l 0 0 - 1)) same
-
-      pub first_path : OfRows d placed 1
-      first_path =
+    -- the copies and the rows with it chosen
+    module _ (left₀ placed rs : List ℕ) (left_is : placed ≡ set left₀ 0 (get_or left₀ 0 0 - 1)) (rows_are : rs ≡ r ∷ []) where
+      pub first_rows_are : AreRows d rs
+      first_rows_are =
           record {
-            within = (let e = placed_length state placed 0 0 r is long (omega arith) (omega arith) in omega arith);
-            few = omega arith;
-            are_rows = rw one_row (and_both (ltb r d.rows) true (lt→ltb r d.rows h) tt);
+            few = let e = ap length rows_are in omega arith;
+            are_rows = rw rows_are (and_both (ltb r d.rows) true (lt→ltb r d.rows h) tt);
           }
 
       module _ (mask : Mask) (m : mask ≡ mask_at work r) where
-        pub first_state : state_by (system_in d work chart) (left_part placed) mask (take 1 placed)
-            ≡ choose (state_by (system_in d work chart) (left_part state₀) nothing_covered []) (row_of (system_in d work chart) r)
+        pub first_state : state_by (system_in d work chart) placed mask rs
+            ≡ choose (state_by (system_in d work chart) left₀ nothing_covered []) (row_of (system_in d work chart) r)
         first_state =
-            ap (λ (l : List ℕ). state_by sys l mask (take 1 placed)) one_fewer
-            ∙ ap (λ (x : Mask). state_by sys (set left₀ 0 (get_or left₀ 0 0 - 1)) x (take 1 placed)) m
-            ∙ ap (state_by sys (set left₀ 0 (get_or left₀ 0 0 - 1)) (mask_at work r)) one_row
+            ap (λ (l : List ℕ). state_by sys l mask rs) left_is
+            ∙ ap (λ (x : Mask). state_by sys (set left₀ 0 (get_or left₀ 0 0 - 1)) x rs) m
+            ∙ ap (state_by sys (set left₀ 0 (get_or left₀ 0 0 - 1)) (mask_at work r)) rows_are
             ∙ ap (λ (k : ℕ). state_by sys (set left₀ k (get_or left₀ k 0 - 1)) (mask_at work r) (r ∷ [])) (sym first_kind)
             ∙ child_state sys ready.lawful left₀ nothing_covered (mask_at work r) [] r in_rows row_mask (mask_at work r) (with_nothing (mask_at work r))
 
-        pub first_searching : Searching (system_in d work chart) (left_part state₀) nothing_covered [] → 0 < get_or (left_part state₀) 0 0
-            → Searching (system_in d work chart) (left_part placed) mask (take 1 placed)
+        pub first_searching : Searching (system_in d work chart) left₀ nothing_covered [] → 0 < get_or left₀ 0 0
+            → Searching (system_in d work chart) placed mask rs
         first_searching all some =
             let law = ready.lawful.row (row_of sys r) (row_of_in sys r in_rows) in
             let p = (row_of sys r).p in
-            subst (λ (l : List ℕ). Searching sys l mask (take 1 placed)) (sym one_fewer)
-            (subst (λ (x : Mask). Searching sys (set left₀ 0 (get_or left₀ 0 0 - 1)) x (take 1 placed)) (sym m)
-            (subst (Searching sys (set left₀ 0 (get_or left₀ 0 0 - 1)) (mask_at work r)) (sym one_row)
+            subst (λ (l : List ℕ). Searching sys l mask rs) (sym left_is)
+            (subst (λ (x : Mask). Searching sys (set left₀ 0 (get_or left₀ 0 0 - 1)) x rs) (sym m)
+            (subst (Searching sys (set left₀ 0 (get_or left₀ 0 0 - 1)) (mask_at work r)) (sym rows_are)
             (subst (λ (k : ℕ). Searching sys (set left₀ k (get_or left₀ k 0 - 1)) (mask_at work r) (r ∷ [])) first_kind
             (child_searching sys ready.lawful left₀ nothing_covered (mask_at work r) [] r in_rows row_mask (mask_at work r) (with_nothing (mask_at work r))
             p refl (nothing_has p) (law.on_board p law.covers_p) all (fits_first left₀ some)))))

@@ -25,7 +25,6 @@ use Rattle.rows.specs.Systems.{System}
 use Rattle.rows.specs.Lawful.{Lawful, LawfulRow}
 use Rattle.rows.specs.Rows.{cells_of}
 use Rattle.kept.specs.Normal.{row_of, of_kind}
-use Rattle.kept.specs.Ready.{Fillable}
 use Rattle.kept.specs.Entries.{put_all}
 use Rattle.fast.specs.Searching.{uncovered, state_by, Searching, goes_on}
 use Rattle.kept.proofs.LeafLaws.{put_all_last}
@@ -260,7 +259,3 @@ module _ (s : System) (law : Lawful s) (left : List ℕ) (covered mask : Mask) (
               covers = covers_more;
               room = (let e = length-append rs (r ∷ []) in let l = child_less in let w = h.room in omega arith);
             }
-
--- ---- where a packing is found
-pub fillable : (s : System) (left : List ℕ) (covered : Mask) (rs : List ℕ) → Searching s left covered rs → Fillable s rs
-fillable s left covered rs h = record { apart = h.apart; enough = λ k l. (let e = h.taken k l in omega arith) }

@@ -3,12 +3,13 @@ use Prim.Native.Nat.{ℕ, ◌+◌, ◌-◌, ◌*◌, ◌≤◌, ◌<◌}
 use mathlib.Core.Bool.{Bool, true, false, not, ◌&&◌, ◌||◌}
 use mathlib.Core.List.{List, [], ◌∷◌, ◌++◌}
 use mathlib.Core.Logic.{◌⊎◌, inl, inr, ⊎_elim}
-use mathlib.Core.Path.{◌≡◌, refl, sym, ap, ap₂, ◌∙◌, subst}
+use mathlib.Core.Path.{◌≡◌, refl, sym, ap, ◌∙◌, subst}
 use native.Mathlib.Omega.{arith}
 use lib.Dec.{T, ltb, lt→ltb}
-use lib.ListN.{length, get_or, take, set}
-use lib.Seq.{length-take-le, get_or-take}
+use lib.ListN.{length, get_or, take, set, length-append}
+use lib.Seq.{get_or-take}
 use Rattle.lists.specs.Lists.{all, is_empty}
+use Rattle.lists.proofs.CountLaws.{at_most_sum}
 use Rattle.lists.proofs.TestLaws.{and_left, and_right, and_both, by_eq}
 use Rattle.definitions.specs.Placements.{Placement}
 use Rattle.definitions.specs.Kept.{Identify}
@@ -17,16 +18,14 @@ use Rattle.definitions.specs.Emission.{Emitted, Listed, emits}
 use Rattle.theorems.proofs.EmissionLaws.{emits_append, emits_none}
 use Rattle.masks.specs.Masks.{has, either, apart, FirstOpen}
 use Rattle.masks.specs.declared.Mask.{Mask}
-use Rattle.rows.specs.Charts.{scans_part, pieces_part}
 use Rattle.rows.specs.Systems.{System, system_in, owned_in, system_over}
 use Rattle.rows.specs.Rows.{mask_at, row_at, cells_of}
 use Rattle.rows.specs.Ranges.{start_of}
 use Rattle.rows.specs.Shown.{Shown, shows_row}
 use Rattle.kept.specs.Normal.{row_of}
-use Rattle.kept.specs.Ready.{Ready, OfRows, Fillable}
+use Rattle.kept.specs.Ready.{AreRows, Ready}
 use Rattle.kept.specs.Emission.{emit_kept}
 use Rattle.fast.specs.Searching.{fast_below, uncovered, state_by, Searching, goes_on}
-use Rattle.fast.specs.States.{state_length, left_part, put_row, take_copy}
 use Rattle.rows.specs.declared.Dims.{Dims}
 use Rattle.fast.proofs.ChoiceLaws.{chosen_at, choices_from, dead_lists, leaf_lists, all_choices, choices_end, choices_skip, choices_take, choices_pass}
 use Rattle.fast.proofs.ChoiceLaws.{none_left, other_cell}
@@ -34,9 +33,9 @@ use Rattle.rows.proofs.RowRangeLaws.{range_of, start_most, before_start, starts_
 use Rattle.kept.proofs.LeafLaws.{packing_emits}
 use Rattle.kept.proofs.ReadyLaws as laws
 use Rattle.fast.proofs.SearchingLaws.{goes_same, fits, fits_apart, first_uncovered, none_uncovered, some_uncovered, fits_possible, child_state, child_less}
-use Rattle.fast.proofs.SearchingLaws.{child_searching, fillable}
+use Rattle.fast.proofs.SearchingLaws.{child_searching}
 use Rattle.fast.proofs.UnmetLaws.{untried, unmet}
-use Rattle.fast.proofs.StateLaws.{placed_length, placed_left, placed_path}
+use Rattle.rows.specs.declared.chart.Chart.{Chart}
 
 -- of three tests one fails: one of the first two, or the third
 not_tried : (a b c : Bool) → (a && (b && c)) ≡ false → ((a && b) ≡ false) ⊎ ((a ≡ true) × (c ≡ false))
@@ -44,7 +43,7 @@ not_tried false b c e = inl refl
 not_tried true false c e = inl refl
 not_tried true true c e = inr (refl, e)
 
-module _ {d : Dims} {work chart : List ℕ} (ready : Ready d work chart) where
+module _ {d : Dims} {work : List ℕ} {chart : Chart} (ready : Ready d work chart) where
   abbrev S : System
   S = system_in d work chart
 
@@ -59,7 +58,7 @@ module _ {d : Dims} {work chart : List ℕ} (ready : Ready d work chart) where
   row_is = laws.row_is d work chart
 
   -- where the ranges of rows begin
-  pub start_is : (i : ℕ) → i ≤ 2048 → get_or chart i 0 ≡ start_of S.rows i
+  pub start_is : (i : ℕ) → i ≤ 2048 → get_or chart.starts i 0 ≡ start_of S.rows i
   unfolding system_in system_over
   start_is i h = ready.ranged.begins i h
 
@@ -98,44 +97,41 @@ module _ {d : Dims} {work chart : List ℕ} (ready : Ready d work chart) where
   pub range_within : (k c : ℕ) → k < d.kinds → c < 128 → (128 * k + c ≤ 2048) × (128 * k + c + 1 ≤ 2048)
   range_within k c h g = let a = laws.few-kinds d work chart ready.lawful in (omega arith, omega arith)
 
-  module _ {left path : List ℕ} {n : ℕ} {covered : Mask} (of-rows : OfRows d path n) (h : Searching S left covered (take n path)) where
+  module _ {left rs : List ℕ} {covered : Mask} (of-rows : AreRows d rs) (h : Searching S left covered rs) where
     abbrev t : State
-    t = state_by S left covered (take n path)
+    t = state_by S left covered rs
 
-    all_rows : T (all (λ r. ltb r (length S.rows)) (take n path))
-    all_rows = subst (λ (m : ℕ). T (all (λ r. ltb r m) (take n path))) (sym rows_many) of-rows.are_rows
+    all_rows : T (all (λ r. ltb r (length S.rows)) rs)
+    all_rows = subst (λ (m : ℕ). T (all (λ r. ltb r m) rs)) (sym rows_many) of-rows.are_rows
 
     free_is : t.free ≡ uncovered S.size covered
     unfolding state_by
     free_is = refl
 
     -- ---- no cell is left
-    pub leaf_fillable : Fillable S (take n path)
-    leaf_fillable = fillable S left covered (take n path) h
-
     pub leaf_emits : (i : Identify) (capacity c : ℕ) (e : Emitted) → FirstOpen (has covered) 0 c → d.size ≤ c
-        → emit_kept S i capacity (take n path) e ≡ emits capacity (fast_below S i t) e
+        → emit_kept S i capacity rs e ≡ emits capacity (fast_below S i t) e
     unfolding state_by
     leaf_emits i capacity c e o l =
         let z = size_is in
-        packing_emits S ready.lawful (take n path) all_rows h.apart i capacity e
+        packing_emits S ready.lawful rs all_rows h.apart i capacity e
         ∙ sym (ap (λ (L : List Listed). emits capacity L e)
         (leaf_lists S i t (ap (λ (l : List ℕ). is_empty l) (none_uncovered S.size covered c o (omega arith)))))
 
 -- ---- cell c is the first that is left
-pub record Opened (d : Dims) (work chart left path : List ℕ) (n : ℕ) (covered : Mask) (c : ℕ) : Type 0 where
+pub record Opened (d : Dims) (work : List ℕ) (chart : Chart) (left rs : List ℕ) (covered : Mask) (c : ℕ) : Type 0 where
   pub ready : Ready d work chart
-  pub of_rows : OfRows d path n
-  pub searching : Searching (system_in d work chart) left covered (take n path)
+  pub of_rows : AreRows d rs
+  pub searching : Searching (system_in d work chart) left covered rs
   pub first : FirstOpen (has covered) 0 c
   pub inside : c < d.size
 
-module _ {d : Dims} {work chart left path : List ℕ} {n : ℕ} {covered : Mask} {c : ℕ} (x : Opened d work chart left path n covered c) where
+module _ {d : Dims} {work : List ℕ} {chart : Chart} {left rs : List ℕ} {covered : Mask} {c : ℕ} (x : Opened d work chart left rs covered c) where
   abbrev the_system : System
   the_system = system_in d work chart
 
   abbrev the_state : State
-  the_state = state_by the_system left covered (take n path)
+  the_state = state_by the_system left covered rs
 
   few : d.size ≤ 128
   few = let z = size_is x.ready in let w = x.ready.lawful.few_cells in omega arith
@@ -156,12 +152,11 @@ module _ {d : Dims} {work chart left path : List ℕ} {n : ℕ} {covered : Mask}
       ap (λ (l : List ℕ). take 1 l) (free_is x.ready x.of_rows x.searching)
       ∙ first_uncovered the_system.size covered c x.first (omega arith) (omega arith)
 
-  pub room_left : n < 128
+  pub room_left : length rs < 128
   room_left =
       let a = (some_uncovered the_state.free c first).1 in
       let f = ap (λ (l : List ℕ). length l) (free_is x.ready x.of_rows x.searching) in
       let b = x.searching.room in
-      let z = length-take-le n path x.of_rows.within in
       let w = x.ready.lawful.few_cells in
       omega arith
 
@@ -241,10 +236,19 @@ module _ {d : Dims} {work chart left path : List ℕ} {n : ℕ} {covered : Mask}
     pub kind_few : k < 16
     kind_few = let a = laws.few-kinds d work chart x.ready.lawful in omega arith
 
+    -- no more than 128 copies are left
+    pub left_few : get_or left k 0 ≤ 128
+    left_few =
+        let m = laws.kinds_many d work chart in
+        let t = x.searching.taken k (omega arith) in
+        let s = at_most_sum the_system.copies k in
+        let f = x.ready.lawful.few_copies in
+        omega arith
+
     pub starts_within : (128 * k + c ≤ 2048) × (128 * k + c + 1 ≤ 2048)
     starts_within = range_within x.ready k c kind cell_below
 
-    module _ (first end : ℕ) (begins : first ≡ get_or chart (128 * k + c) 0) (ends : end ≡ get_or chart (128 * k + c + 1) 0) where
+    module _ (first end : ℕ) (begins : first ≡ get_or chart.starts (128 * k + c) 0) (ends : end ≡ get_or chart.starts (128 * k + c + 1) 0) where
       pub begins_is : first ≡ start_of the_system.rows (128 * k + c)
       begins_is = begins ∙ start_is x.ready (128 * k + c) starts_within.0
 
@@ -285,7 +289,7 @@ module _ {d : Dims} {work chart left path : List ℕ} {n : ℕ} {covered : Mask}
     test_is : fits left covered (mask_at work r) (row_at work r).kind ≡ possible the_state (row_of the_system r)
     test_is =
         ap (fits left covered (mask_at work r)) (sym kind_is)
-        ∙ fits_possible the_system x.ready.lawful left covered (mask_at work r) (take n path) r row_in_rows (row-cells x.ready r row)
+        ∙ fits_possible the_system x.ready.lawful left covered (mask_at work r) rs r row_in_rows (row-cells x.ready r row)
 
     -- ---- it does not fit, or the entry that is waited for does not show it
     misses : fits left covered (mask_at work r) (row_at work r).kind ≡ false → (i : Identify) (capacity : ℕ) (e : Emitted)
@@ -298,8 +302,8 @@ module _ {d : Dims} {work chart left path : List ℕ} {n : ℕ} {covered : Mask}
         ≡ fast_below the_system i (choose the_state (row_of the_system r)) ++ choices_from the_system i the_state (r + 1)
     takes f i = choices_take the_system i the_state c first r row_in_rows at_row (sym test_is ∙ f)
 
-    module _ (last shown : List ℕ) (sh : Shown d.size (take d.places (scans_part chart)) last shown) where
-      hides : fits left covered (mask_at work r) (row_at work r).kind ≡ true → shows_row (owned_in (pieces_part chart) d.pieces) shown (row_at work r) ≡ false
+    module _ (last shown : List ℕ) (sh : Shown d.size (take d.places chart.scans) last shown) where
+      hides : fits left covered (mask_at work r) (row_at work r).kind ≡ true → shows_row (owned_in chart.pieces d.pieces) shown (row_at work r) ≡ false
           → (i : Identify) (capacity : ℕ) (e : Emitted) → e.waiting ≡ true → e.last ≡ last
           → emits capacity (choices_from the_system i the_state (r + 1)) e ≡ emits capacity (choices_from the_system i the_state r) e
       unfolding system_in system_over
@@ -307,9 +311,9 @@ module _ {d : Dims} {work chart left path : List ℕ} {n : ℕ} {covered : Mask}
           let rest = choices_from the_system i the_state (r + 1) in
           let here = fast_below the_system i (choose the_state (row_of the_system r)) in
           ap (emits capacity rest)
-          (sym (unmet the_system x.ready.lawful left covered (take n path) (all_rows x.ready x.of_rows x.searching) x.searching r row_in_rows
+          (sym (unmet the_system x.ready.lawful left covered rs (all_rows x.ready x.of_rows x.searching) x.searching r row_in_rows
           (sym test_is ∙ f) last shown sh
-          (ap (λ (q : Placement). shows_row (owned_in (pieces_part chart) d.pieces) shown q) (row_is x.ready r row) ∙ v) i capacity e w is))
+          (ap (λ (q : Placement). shows_row (owned_in chart.pieces d.pieces) shown q) (row_is x.ready r row) ∙ v) i capacity e w is))
           ∙ sym (emits_append capacity here rest e) ∙ ap (λ (L : List Listed). emits capacity L e) (sym (takes f i))
 
       -- or the search does not go on below it
@@ -320,18 +324,18 @@ module _ {d : Dims} {work chart left path : List ℕ} {n : ℕ} {covered : Mask}
       dead f g i capacity e =
           let none = dead_lists the_system i (choose the_state (row_of the_system r))
           (ap (λ (q : Placement). goes_on the_system (choose the_state q)) (row_is x.ready r row)
-          ∙ goes_same the_system left covered (take n path) (row_at work r) ∙ g) in
+          ∙ goes_same the_system left covered rs (row_at work r) ∙ g) in
           sym (ap (λ (L : List Listed). emits capacity L e) (takes f i ∙ ap (λ (L : List Listed). L ++ choices_from the_system i the_state (r + 1)) none))
 
       pub turn_passes : 0 < get_or left (row_at work r).kind 0 → (i : Identify) (capacity : ℕ) (e whole : Emitted) → e.last ≡ last
           → (apart 128 (has (mask_at work r)) (has covered)
-          && ((not e.waiting || shows_row (owned_in (pieces_part chart) d.pieces) shown (row_at work r))
+          && ((not e.waiting || shows_row (owned_in chart.pieces d.pieces) shown (row_at work r))
           && goes_on the_system (choose (state_by the_system left covered []) (row_at work r)))) ≡ false
           → emits capacity (choices_from the_system i the_state r) e ≡ whole → emits capacity (choices_from the_system i the_state (r + 1)) e ≡ whole
       turn_passes some i capacity e whole is f g =
           let fit = fits_apart left covered (mask_at work r) (row_at work r).kind some in
           let clear = apart 128 (has (mask_at work r)) (has covered) in
-          let shows = shows_row (owned_in (pieces_part chart) d.pieces) shown (row_at work r) in
+          let shows = shows_row (owned_in chart.pieces d.pieces) shown (row_at work r) in
           ⊎_elim
           (λ h. ⊎_elim (λ a. misses (fit ∙ a) i capacity e) (λ a. hides (fit ∙ a.0) a.2 i capacity e a.1 is) (untried clear e.waiting shows h))
           (λ h. dead (fit ∙ h.0) h.1 i capacity e)
@@ -353,28 +357,27 @@ module _ {d : Dims} {work chart left path : List ℕ} {n : ℕ} {covered : Mask}
         call_less : length (uncovered d.size more) < length (uncovered d.size covered)
         call_less =
             subst (λ (m : ℕ). length (uncovered m more) < length (uncovered m covered)) (size_is x.ready)
-            (child_less the_system x.ready.lawful left covered (mask_at work r) (take n path) r row_in_rows
+            (child_less the_system x.ready.lawful left covered (mask_at work r) rs r row_in_rows
             (row-cells x.ready r row) more union c at_row is_open in_size)
 
-        module _ (left' path' : List ℕ) (l : left' ≡ set left (row_at work r).kind (get_or left (row_at work r).kind 0 - 1))
-            (p : take (n + 1) path' ≡ take n path ++ (r ∷ [])) where
+        module _ (left' rs' : List ℕ) (l : left' ≡ set left (row_at work r).kind (get_or left (row_at work r).kind 0 - 1)) (p : rs' ≡ rs ++ (r ∷ [])) where
           left_row : left' ≡ set left (row_of the_system r).kind (get_or left (row_of the_system r).kind 0 - 1)
           left_row = l ∙ ap (λ (k : ℕ). set left k (get_or left k 0 - 1)) (sym kind_is)
 
-          call_searching : Searching the_system left' more (take (n + 1) path')
+          call_searching : Searching the_system left' more rs'
           call_searching =
-              subst (λ (y : List ℕ). Searching the_system y more (take (n + 1) path')) (sym left_row)
+              subst (λ (y : List ℕ). Searching the_system y more rs') (sym left_row)
               (subst (λ (y : List ℕ). Searching the_system (set left (row_of the_system r).kind (get_or left (row_of the_system r).kind 0 - 1)) more y) (sym p)
-              (child_searching the_system x.ready.lawful left covered (mask_at work r) (take n path) r row_in_rows
+              (child_searching the_system x.ready.lawful left covered (mask_at work r) rs r row_in_rows
               (row-cells x.ready r row) more union c at_row is_open in_size x.searching fit_row))
 
-          call_rows : n + 1 ≤ length path' → OfRows d path' (n + 1)
-          call_rows e =
+          call_rows : AreRows d rs'
+          call_rows =
               let a = room_left in
+              let b = ap length p ∙ length-append rs (r ∷ []) in
               record {
-                within = omega arith;
                 few = omega arith;
-                are_rows = subst (λ (y : List ℕ). T (all (λ j. ltb j d.rows) y)) (sym p) (all_last (take n path) x.of_rows.are_rows);
+                are_rows = subst (λ (y : List ℕ). T (all (λ j. ltb j d.rows) y)) (sym p) (all_last rs x.of_rows.are_rows);
               }
             where
               all_last : (xs : List ℕ) → T (all (λ j. ltb j d.rows) xs) → T (all (λ j. ltb j d.rows) (xs ++ (r ∷ [])))
@@ -384,42 +387,33 @@ module _ {d : Dims} {work chart left path : List ℕ} {n : ℕ} {covered : Mask}
                   (all_last xs (and_right (ltb z d.rows) (all (λ j. ltb j d.rows) xs) u))
 
           turn : (i : Identify) (capacity : ℕ) (e e' whole : Emitted)
-              → e' ≡ emits capacity (fast_below the_system i (state_by the_system left' more (take (n + 1) path'))) e
+              → e' ≡ emits capacity (fast_below the_system i (state_by the_system left' more rs')) e
               → emits capacity (choices_from the_system i the_state r) e ≡ whole → emits capacity (choices_from the_system i the_state (r + 1)) e' ≡ whole
           turn i capacity e e' whole g w =
-              let s : state_by the_system left' more (take (n + 1) path') ≡ choose the_state (row_of the_system r) =
-              ap (λ (y : List ℕ). state_by the_system y more (take (n + 1) path')) left_row
+              let s : state_by the_system left' more rs' ≡ choose the_state (row_of the_system r) =
+              ap (λ (y : List ℕ). state_by the_system y more rs') left_row
               ∙ ap (λ (y : List ℕ). state_by the_system (set left (row_of the_system r).kind (get_or left (row_of the_system r).kind 0 - 1)) more y) p
-              ∙ child_state the_system x.ready.lawful left covered (mask_at work r) (take n path) r row_in_rows (row-cells x.ready r row) more union in
+              ∙ child_state the_system x.ready.lawful left covered (mask_at work r) rs r row_in_rows (row-cells x.ready r row) more union in
               ap (emits capacity (choices_from the_system i the_state (r + 1))) (g ∙ ap (λ (y : State). emits capacity (fast_below the_system i y) e) s)
               ∙ sym (emits_append capacity (fast_below the_system i (choose the_state (row_of the_system r))) (choices_from the_system i the_state (r + 1)) e)
               ∙ ap (λ (L : List Listed). emits capacity L e) (sym (takes fit i))
               ∙ w
 
--- ---- a row of the cell that fits, with the copies and the path of the state as the loop has them
-pub record Placing (d : Dims) (work state₀ state : List ℕ) (n : ℕ) (covered : Mask) (c r k : ℕ) : Type 0 where
-  pub same_left : left_part state ≡ left_part state₀
-  pub same_path : take n state ≡ take n state₀
-  pub long : length state ≡ state_length
+-- ---- a row of kind k at the cell, which has copies left and fits
+pub record Placing (d : Dims) (work left : List ℕ) (covered : Mask) (c r k : ℕ) : Type 0 where
   pub row : r < d.rows
   pub at : (row_at work r).p ≡ c
-  pub some : 0 < get_or (left_part state₀) k 0
+  pub some : 0 < get_or left k 0
   pub clear : apart 128 (has (mask_at work r)) (has covered) ≡ true
   pub kind : k ≡ (row_at work r).kind
 
-module _ {d : Dims} {work chart state₀ state : List ℕ} {n : ℕ} {covered : Mask} {c r k : ℕ}
-    (x : Opened d work chart (left_part state₀) state₀ n covered c) (y : Placing d work state₀ state n covered c r k) where
-  abbrev left₀ : List ℕ
-  left₀ = left_part state₀
-
+module _ {d : Dims} {work : List ℕ} {chart : Chart} {left rs : List ℕ} {covered : Mask} {c r k : ℕ}
+    (x : Opened d work chart left rs covered c) (y : Placing d work left covered c r k) where
   pub place_kind : k < 16
   place_kind = let a = row_kind_few x r y.row y.at in let f = y.kind in omega arith
 
-  pub place_left : 0 < get_or (left_part state) k 0
-  place_left = subst (λ (l : List ℕ). 0 < get_or l k 0) (sym y.same_left) y.some
-
-  fit₀ : fits left₀ covered (mask_at work r) (row_at work r).kind ≡ true
-  fit₀ = fits_apart left₀ covered (mask_at work r) (row_at work r).kind (subst (λ (j : ℕ). 0 < get_or left₀ j 0) y.kind y.some) ∙ y.clear
+  fit₀ : fits left covered (mask_at work r) (row_at work r).kind ≡ true
+  fit₀ = fits_apart left covered (mask_at work r) (row_at work r).kind (subst (λ (j : ℕ). 0 < get_or left j 0) y.kind y.some) ∙ y.clear
 
   module _ (more m : Mask) (is-mask : m ≡ mask_at work r) (union : has more ≡ either (has covered) (has m)) where
     union_is : has more ≡ either (has covered) (has (mask_at work r))
@@ -428,26 +422,19 @@ module _ {d : Dims} {work chart state₀ state : List ℕ} {n : ℕ} {covered : 
     pub place_falls : length (uncovered d.size more) < length (uncovered d.size covered)
     place_falls = call_less x r y.row y.at fit₀ more union_is
 
-    -- the state with the row chosen
-    module _ (placed : List ℕ) (is : placed ≡ put_row (take_copy state k) n r) where
-      left_is : left_part placed ≡ set left₀ (row_at work r).kind (get_or left₀ (row_at work r).kind 0 - 1)
-      left_is =
-          placed_left state placed k n r is y.long place_kind (room_left x) ∙ ap₂ (λ (l : List ℕ) (j : ℕ). set l j (get_or l j 0 - 1)) y.same_left y.kind
+    -- the copies and the rows with it chosen
+    module _ (left' rs' : List ℕ) (l : left' ≡ set left k (get_or left k 0 - 1)) (p : rs' ≡ rs ++ (r ∷ [])) where
+      left_is : left' ≡ set left (row_at work r).kind (get_or left (row_at work r).kind 0 - 1)
+      left_is = l ∙ ap (λ (j : ℕ). set left j (get_or left j 0 - 1)) y.kind
 
-      path_is : take (n + 1) placed ≡ take n state₀ ++ (r ∷ [])
-      path_is = placed_path state placed k n r is y.long place_kind (room_left x) ∙ ap (λ (l : List ℕ). l ++ (r ∷ [])) y.same_path
+      pub place_searching : Searching (system_in d work chart) left' more rs'
+      place_searching = call_searching x r y.row y.at fit₀ more union_is left' rs' left_is p
 
-      pub place_searching : Searching (system_in d work chart) (left_part placed) more (take (n + 1) placed)
-      place_searching = call_searching x r y.row y.at fit₀ more union_is (left_part placed) placed left_is path_is
-
-      pub place_rows : OfRows d placed (n + 1)
-      place_rows =
-          call_rows x r y.row y.at fit₀ more union_is (left_part placed) placed left_is path_is
-          (let a = placed_length state placed k n r is y.long place_kind (room_left x) in let b = room_left x in omega arith)
+      pub place_rows : AreRows d rs'
+      place_rows = call_rows x r y.row y.at fit₀ more union_is left' rs' left_is p
 
       pub place_turns : (i : Identify) (capacity : ℕ) (e e' whole : Emitted)
-          → e' ≡ emits capacity (fast_below (system_in d work chart) i (state_by (system_in d work chart) (left_part placed) more (take (n + 1) placed))) e
-          → emits capacity (choices_from (system_in d work chart) i (state_by (system_in d work chart) (left_part state₀) covered (take n state₀)) r) e ≡ whole
-          → emits capacity (choices_from (system_in d work chart) i (state_by (system_in d work chart) (left_part state₀) covered (take n state₀)) (r + 1)) e'
-          ≡ whole
-      place_turns = turn x r y.row y.at fit₀ more union_is (left_part placed) placed left_is path_is
+          → e' ≡ emits capacity (fast_below (system_in d work chart) i (state_by (system_in d work chart) left' more rs')) e
+          → emits capacity (choices_from (system_in d work chart) i (state_by (system_in d work chart) left covered rs) r) e ≡ whole
+          → emits capacity (choices_from (system_in d work chart) i (state_by (system_in d work chart) left covered rs) (r + 1)) e' ≡ whole
+      place_turns = turn x r y.row y.at fit₀ more union_is left' rs' left_is p

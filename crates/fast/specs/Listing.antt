@@ -1,11 +1,12 @@
 -- What Fast lists over a row system. proofs/FastListLaws: over the system of an accepted tray its answers are document 01's list.
-use Rattle.std.specs.Prelude.{ℕ, ◌+◌, ◌*◌, Bool, ◌&&◌, cond, List, map, eqb, length, get_or}
+use Rattle.std.specs.Prelude.{ℕ, ◌*◌, Bool, ◌&&◌, cond, List, map, eqb, length, get_or}
 use Rattle.lists.specs.Lists.{below, sum}
 use Rattle.definitions.specs.Kept.{Identify}
 use Rattle.definitions.specs.Emission.{Listed}
 use Rattle.definitions.specs.Orders.{identifies_turned}
-use Rattle.rows.specs.Charts.{kinds_part}
+use Rattle.rows.specs.Charts.{kind_copies, kind_size}
 use Rattle.rows.specs.Systems.{System}
+use Rattle.rows.specs.declared.chart.Chart.{Chart}
 use Rattle.kept.specs.Entries.{start_by}
 use Rattle.fast.specs.Searching.{fast_below}
 use Rattle.fast.specs.Pruned.{fast_first}
@@ -14,8 +15,8 @@ use Rattle.fast.specs.Pruned.{fast_first}
 unfoldable pub total_cells : System → ℕ
 total_cells s = sum (map (λ k. get_or s.copies k 0 * get_or s.sizes k 0) (below (length s.copies)))
 
-unfoldable pub cells_in : List ℕ → ℕ → ℕ
-cells_in chart n = sum (map (λ k. get_or (kinds_part chart) (3 * k) 0 * get_or (kinds_part chart) (3 * k + 2) 0) (below n))
+unfoldable pub cells_in : Chart → ℕ → ℕ
+cells_in chart n = sum (map (λ k. kind_copies chart.kinds k * kind_size chart.kinds k) (below n))
 
 -- "The piece of merged kind 0 is placed first exactly if turned packings are identified, that kind has one copy, and all copies together have as many
 -- cells as the board."

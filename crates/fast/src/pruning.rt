@@ -3,59 +3,59 @@ ghost use Rattle.std.specs.Prelude.{◌&&◌, ◌||◌, not, [], ◌≡◌, ◌+
 ghost use Rattle.lists.specs.Lists.{any, from};
 ghost use Rattle.definitions.specs.Refusals.{identifies};
 ghost use Rattle.definitions.specs.Emission.{emits};
-ghost use Rattle.rows.specs.Charts.{images_of, pieces_part, scans_part};
+ghost use Rattle.rows.specs.Charts.{images_of};
 ghost use Rattle.rows.specs.Rows.{row_at};
 ghost use Rattle.rows.specs.Shown.{Shown, shows_row};
 ghost use Rattle.rows.specs.Systems.{owned_in, system_in};
 ghost use Rattle.kept.specs.Emission.{emitted_of, identified};
 ghost use Rattle.kept.specs.Normal.{image_of};
-ghost use Rattle.kept.specs.Ready.{Ready, Restored};
+ghost use Rattle.kept.specs.Ready.{Ready};
 ghost use Rattle.fast.specs.Searching.{Searching, state_by};
 ghost use Rattle.fast.specs.Pruned.{always_mirrorable_by, fast_first, pruned_by};
-ghost use Rattle.fast.specs.States.{left_part, state_length};
+ghost use Rattle.fast.specs.States.{chosen};
 
-use super::{search, state};
+use super::search;
+use super::state::State;
 use kept::emission::{Emission, Wanted};
-use rows::{Dims, chart, images, row, shown};
+use rows::chart::Chart;
+use rows::{Dims, images, row, shown};
 
 // Whether one of the maps numbered from `start` to below `end` takes row r onto a row before it.
-fn moves_before(d: Dims, work: &[u64], chart: &[u16], start: usize, end: usize, r: usize) -> bool
+fn moves_before(d: Dims, work: &[u64], chart: &Chart, start: usize, end: usize, r: usize) -> bool
     requires { Ready d work.now chart.now × (start ≤ end) × (end ≤ d.turns + d.mirrorings) × (r < d.rows) }
     ensures { let S = system_in d work.now chart.now in
         result ≡ any (λ m. ltb (image_of S (leb d.turns m) (images_of chart.now d.size m) r) r) (from start (end - start)) }
 {
-    let mut m = start;
-    while m < end {
+    // no map before m does
+    for m in start..end {
         let odd = d.turns <= m;
         if images::image_row(d, work, chart, m, odd, r) < r {
             return true;
         }
-        m += 1;
     }
     false
 }
 
 // Whether each kind has a mirror partner with as many copies.
-fn always_mirrorable(d: Dims, work: &[u64], chart: &[u16]) -> bool
+fn always_mirrorable(d: Dims, work: &[u64], chart: &Chart) -> bool
     requires { Ready d work.now chart.now }
     ensures { result ≡ always_mirrorable_by (system_in d work.now chart.now) }
 {
-    let mut k = 0;
-    while k < d.kinds {
-        let p = chart::partner_of(chart, k);
+    // each kind before k has
+    for k in 0..d.kinds {
+        let p = chart.partner_of(k);
         if d.kinds <= p {
             return false;
         }
-        if chart::copies_of(chart, k) != chart::copies_of(chart, p) {
+        if chart.copies_of(k) != chart.copies_of(p) {
             return false;
         }
-        k += 1;
     }
     true
 }
 
 // Whether row r, of kind 0, starts no packing that is kept.
-fn is_pruned(d: Dims, work: &[u64], chart: &[u16], turned: bool, mirrored: bool, r: usize) -> bool
+fn is_pruned(d: Dims, work: &[u64], chart: &Chart, turned: bool, mirrored: bool, r: usize) -> bool
     requires { Ready d work.now chart.now × (r < d.rows) }
     ensures { result ≡ pruned_by (system_in d work.now chart.now) (identifies turned mirrored) r }
 {
@@ -81,7 +81,7 @@ fn is_pruned(d: Dims, work: &[u64], chart: &[u16], turned: bool, mirrored: bool,
 fn is_first(
     d: Dims,
     work: &[u64],
-    chart: &[u16],
+    chart: &Chart,
     wanted: Wanted,
     shown: &[u8],
     waiting: bool,
@@ -89,56 +89,50 @@ fn is_first(
 ) -> bool
     requires { Ready d work.now chart.now × (r < d.rows) × (length shown.now ≡ 256) }
     ensures { let S = system_in d work.now chart.now in
-        let shows = shows_row (owned_in (pieces_part chart.now) d.pieces) shown.now (row_at work.now r) in
+        let shows = shows_row (owned_in chart.now.pieces d.pieces) shown.now (row_at work.now r) in
         result ≡ not (pruned_by S (identified wanted) r) && (not waiting || shows) }
 {
-    if is_pruned(d, work, chart, wanted.turned, wanted.mirrored, r) {
-        return false;
-    }
-    shown::leads(d, work, chart, shown, waiting, r)
+    !is_pruned(d, work, chart, wanted.turned, wanted.mirrored, r)
+        && shown::leads(d, work, chart, shown, waiting, r)
 }
 
 // The packings that start with a row of kind 0, row by row, from the state with nothing chosen.
 pub fn search_first(
     d: Dims,
     work: &[u64],
-    chart: &[u16],
+    chart: &Chart,
     wanted: Wanted,
-    state: &mut [u16],
+    state: &mut State,
     last: &[u8],
     shown: &[u8],
     answers: &mut [u8],
     e: Emission,
 ) -> Emission
-    requires ready { Ready d work.now chart.now × (length state.old ≡ state_length) × (length shown.now ≡ 256)
-        × Shown d.size (take d.places (scans_part chart.now)) last.now shown.now × (wanted.capacity * (2 * d.places) ≤ length answers.old)
-        × (0 < get_or (left_part state.old) 0 0) }
-    requires searching { Searching (system_in d work.now chart.now) (left_part state.old) (record { low = 0; high = 0 }) [] }
+    requires ready { Ready d work.now chart.now × (length shown.now ≡ 256)
+        × Shown d.size (take d.places chart.now.scans) last.now shown.now × (wanted.capacity * (2 * d.places) ≤ length answers.old)
+        × (0 < get_or state.old.left 0 0) × (chosen state.old ≡ []) }
+    requires searching { Searching (system_in d work.now chart.now) state.old.left (record { low = 0; high = 0 }) [] }
     ensures page { let S = system_in d work.now chart.now in
-        let t = state_by S (left_part state.old) (record { low = 0; high = 0 }) [] in
+        let t = state_by S state.old.left (record { low = 0; high = 0 }) [] in
         let old = emitted_of e last.now answers.old in
         emitted_of result last.now answers.new ≡ emits wanted.capacity (fast_first S (identified wanted) t) old }
-    ensures restored { (left_part state.new ≡ left_part state.old) × Restored 0 state.old state.new }
+    ensures restored { (state.new.left ≡ state.old.left) × (chosen state.new ≡ []) }
 {
     let mut s = e;
     // The rows of kind 0, which come first: s is what those passed have left, and the copies are as they were.
-    let mut r = 0;
-    while r < d.rows {
+    for r in 0..d.rows {
         if 0 < row::kind_at(work, r) {
             return s;
         }
-        if is_first(d, work, chart, wanted, shown, s.waiting, r) {
-            state::place_row(state, 0, 0, r);
+        if is_first(d, work, chart, wanted, shown, s.is_waiting(), r) {
+            state.place_row(0, r);
             let mask = row::mask_at(work, r);
-            s = search::search(
-                d, work, chart, wanted, state, 1, mask, last, shown, answers, s,
-            );
-            state::put_back(state, 0);
+            s = search::search(d, work, chart, wanted, state, mask, last, shown, answers, s);
+            state.put_back(0);
             if s.further {
                 return s;
             }
         }
-        r += 1;
     }
     s
 }

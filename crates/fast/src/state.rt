@@ -1,57 +1,83 @@
-// The state of a search: the rows chosen and the copies left, in one slice with named places (specs/States.antt says what stands where).
-ghost use Rattle.std.specs.Prelude.{◌≡◌, ◌<◌, get_or, length};
-ghost use Rattle.fast.specs.States.{left_part, put_back, put_row, set_left, state_length, take_copy};
+// The state of a search: the rows chosen, and how many copies of each kind are left.
+ghost use Rattle.std.specs.Prelude.{[], ◌∷◌, ◌++◌, map, ◌≡◌, ◌+◌, ◌-◌, ◌≤◌, ◌<◌, get_or, length, set, take};
+ghost use Rattle.lists.specs.Lists.{below};
+ghost use Rattle.rows.specs.Charts.{kind_copies};
 
-// Where the copies left begin, behind the path.
-const LEFT: usize = 128;
+use rows::chart::Chart;
 
-// How many copies of a kind are left.
-pub fn left_of(state: &[u16], kind: usize) -> u16
-    requires { (kind < 16) × (length state.now ≡ state_length) }
-    ensures { result ≡ get_or (left_part state.now) kind 0 }
-{
-    state[LEFT + kind]
+// The first n numbers of the path are the rows chosen, one after the other.
+#[derive(Drop)]
+pub struct State {
+    path: [u16; 128],
+    n: usize,
+    left: [u16; 16],
+    ghost room: { n ≤ 128 },
 }
 
-// So many copies of a kind are left.
-pub fn set_left(state: &mut [u16], kind: usize, copies: u16)
-    requires { (kind < 16) × (length state.old ≡ state_length) }
-    ensures { state.new ≡ set_left state.old kind copies }
-{
-    state[LEFT + kind] = copies;
-}
+impl State {
+    ghost use Rattle.fast.specs.States.{chosen};
 
-// A copy of a kind is taken.
-fn take_copy(state: &mut [u16], kind: usize)
-    requires { (kind < 16) × (length state.old ≡ state_length) × (0 < get_or (left_part state.old) kind 0) }
-    ensures { state.new ≡ take_copy state.old kind }
-{
-    let copies = left_of(state, kind);
-    set_left(state, kind, copies - 1);
-}
+    // Nothing is chosen, and all copies of so many kinds are left.
+    pub fn begin(chart: &Chart, kinds: usize) -> State
+        requires { (kinds ≤ 16) }
+        ensures { let copies = map (kind_copies chart.now.kinds) (below kinds) in
+            (chosen result ≡ []) × (take kinds result.left ≡ copies) }
+    {
+        let mut left = [0u16; 16];
+        // the copies of the kinds before k stand in `left`
+        for k in 0..kinds {
+            left[k] = chart.copies_of(k) as u16;
+        }
+        State {
+            path: [0; 128],
+            n: 0,
+            left,
+        }
+    }
 
-// A copy of a kind is put back.
-pub fn put_back(state: &mut [u16], kind: usize)
-    requires { (kind < 16) × (length state.old ≡ state_length) × (get_or (left_part state.old) kind 0 < 65535) }
-    ensures { state.new ≡ put_back state.old kind }
-{
-    let copies = left_of(state, kind);
-    set_left(state, kind, copies + 1);
-}
+    // The rows chosen.
+    pub fn rows(&self) -> &[u16]
+        ensures { result.now ≡ chosen self.now }
+    {
+        &self.path[..self.n]
+    }
 
-// Row r stands at place n of the path.
-fn put_row(state: &mut [u16], n: usize, r: usize)
-    requires { (n < 128) × (length state.old ≡ state_length) × (r < 65536) }
-    ensures { state.new ≡ put_row state.old n r }
-{
-    state[n] = r as u16;
-}
+    // How many copies of a kind are left.
+    pub fn left_of(&self, kind: usize) -> u16
+        requires { kind < 16 }
+        ensures { result ≡ get_or self.now.left kind 0 }
+    {
+        self.left[kind]
+    }
 
-// Row r, of a kind, is chosen behind n others.
-pub fn place_row(state: &mut [u16], kind: usize, n: usize, r: usize)
-    requires { (kind < 16) × (length state.old ≡ state_length) × (0 < get_or (left_part state.old) kind 0) × (n < 128) × (r < 65536) }
-    ensures { state.new ≡ put_row (take_copy state.old kind) n r }
-{
-    take_copy(state, kind);
-    put_row(state, n, r);
+    // How many copies of kind k are left when one of a kind is placed.
+    pub fn left_after(&self, kind: usize, k: usize) -> u16
+        requires { (k < 16) × (0 < get_or self.now.left kind 0) }
+        ensures { let left = self.now.left in
+            result ≡ get_or (set left kind (get_or left kind 0 - 1)) k 0 }
+    {
+        let copies = self.left[k];
+        if k == kind { copies - 1 } else { copies }
+    }
+
+    // Row r, of a kind, is chosen behind the others.
+    pub fn place_row(&mut self, kind: usize, r: usize)
+        requires { (kind < 16) × (0 < get_or self.old.left kind 0) × (length (chosen self.old) < 128) × (r < 65536) }
+        ensures { let left = self.old.left in
+            (chosen self.new ≡ chosen self.old ++ (r ∷ [])) × (self.new.left ≡ set left kind (get_or left kind 0 - 1)) }
+    {
+        self.left[kind] -= 1;
+        self.path[self.n] = r as u16;
+        self.n += 1;
+    }
+
+    // The last row chosen, of a kind, is put back.
+    pub fn put_back(&mut self, kind: usize)
+        requires { (kind < 16) × (get_or self.old.left kind 0 < 65535) × (0 < length (chosen self.old)) }
+        ensures { let left = self.old.left in
+            (chosen self.new ≡ take (length (chosen self.old) - 1) (chosen self.old)) × (self.new.left ≡ set left kind (get_or left kind 0 + 1)) }
+    {
+        self.n -= 1;
+        self.left[kind] += 1;
+    }
 }

@@ -20,43 +20,44 @@ pub struct Answer {
     pub missing: bool,
 }
 
-fn in_numbers(r: Listing) -> Answer
-    ensures { result ≡ numbers_of r }
-{
-    match r {
-        Listing::Refused(why) => Answer {
-            number: definitions::refusal_number(why) as u32,
-            written: 0,
-            further: false,
-            missing: false,
-        },
-        Listing::Page(written, further) => Answer {
-            number: 0,
-            written,
-            further,
-            missing: false,
-        },
-        Listing::NoEntry => Answer {
-            number: 0,
-            written: 0,
-            further: false,
-            missing: true,
-        },
+impl From<Listing> for Answer {
+    ghost from_gives = { λ r a. a ≡ numbers_of r };
+
+    fn from(r: Listing) -> Answer
+        ensures { result ≡ numbers_of r }
+    {
+        match r {
+            Err(why) => Answer {
+                number: u32::from(why.number()),
+                written: 0,
+                further: false,
+                missing: false,
+            },
+            Ok(Some(page)) => Answer {
+                number: 0,
+                written: page.written,
+                further: page.further,
+                missing: false,
+            },
+            Ok(None) => Answer {
+                number: 0,
+                written: 0,
+                further: false,
+                missing: true,
+            },
+        }
     }
 }
 
-// The engine that a number stands for: 2 Fast, 3 KnuthAlgorithm; the others are refused.
+// The engine that a number stands for: 2 Fast, 3 KnuthAlgorithm; the others are refused. (A number, as C hands it over.)
 fn engine_of(engine: u8) -> SolverKind
     ensures { result ≡ engine_of engine }
 {
-    if engine == 0 {
-        SolverKind::Auto
-    } else if engine == 2 {
-        SolverKind::Fast
-    } else if engine == 3 {
-        SolverKind::KnuthAlgorithm
-    } else {
-        SolverKind::Naive
+    match engine {
+        0 => SolverKind::Auto,
+        2 => SolverKind::Fast,
+        3 => SolverKind::KnuthAlgorithm,
+        _ => SolverKind::Naive,
     }
 }
 
@@ -106,7 +107,8 @@ pub extern "C" fn ferghuul_page(
 {
     let config = config_of(engine, turned, mirrored);
     let start = start_of(behind, skip);
-    in_numbers(records::page(
+    records::page(
         pieces, board, bytes, config, start, last, answers, work, links,
-    ))
+    )
+    .into()
 }

@@ -1,5 +1,8 @@
-pub mod SpanLaws
+pub mod PartLaws
+pub mod FieldLaws
 pub mod LineLaws
-pub mod ListingLaws
+pub mod CellLaws
+pub mod PieceLaws
 pub mod ReadingLaws
-pub mod ReadingLineLaws
+pub mod FileLaws
+pub mod ListingLaws

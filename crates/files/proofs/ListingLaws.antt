@@ -2,12 +2,12 @@
 use Prim.Native.Nat.{ℕ, zero, suc, ◌+◌, ◌*◌, ◌≤◌, ◌<◌}
 use mathlib.Core.Bool.{Bool, true, false, cond, ◌&&◌}
 use mathlib.Core.List.{List, [], ◌∷◌, ◌++◌, append_assoc}
-use mathlib.Core.Path.{◌≡◌, refl, sym, ap, ap₂, ◌∙◌, subst}
+use mathlib.Core.Path.{◌≡◌, refl, sym, ap, ◌∙◌, subst}
 use native.Mathlib.Omega.{arith}
 use borrow.Author.Tests.{eq-eqb, ne_eqb, eqb-true}
 use lib.Dec.{eqb}
-use lib.ListN.{length, get_or, take, drop, set, length-drop}
-use lib.Seq.{take-add, drop-cons, get_or-drop, length-take-le}
+use lib.ListN.{length, get_or, take, drop, set}
+use lib.Seq.{take-add, drop-cons, length-take-le}
 use Rattle.definitions.specs.Files.{cell_shown, cells_shown, decimal}
 use Rattle.texts.specs.Put.{Put}
 use Rattle.texts.proofs.PutLaws.{put_one, put_then, put_parted}
@@ -40,35 +40,31 @@ cells-behind (a ∷ b ∷ d ∷ rest) zero x y e h = absurd (omega arith)
 cells-behind (a ∷ b ∷ d ∷ rest) (suc k) x y e h = ap (λ (l : List ℕ). cell_shown a b ++ 32 ∷ l) (cells-behind (d ∷ rest) k x y (omega arith) (omega arith)) ∙ sym (append_assoc (cell_shown a b) (32 ∷ cells_shown (d ∷ rest)) (32 ∷ cell_shown x y))
 
 -- the next cell of an answer
-module _ (answers : List ℕ) (start i : ℕ) (h : start + 2 * i + 1 < length answers) where
-  next_two : take (2 * (i + 1)) (drop start answers) ≡ take (2 * i) (drop start answers) ++ (get_or answers (start + 2 * i) 0 ∷ get_or answers (start + 2 * i + 1) 0 ∷ [])
+module _ (answer : List ℕ) (i : ℕ) (h : 2 * i + 1 < length answer) where
+  next_two : take (2 * (i + 1)) answer ≡ take (2 * i) answer ++ (get_or answer (2 * i) 0 ∷ get_or answer (2 * i + 1) 0 ∷ [])
   next_two =
-      let xs = drop start answers in
-      let long = length-drop start answers in
       let e : 2 * (i + 1) ≡ 2 * i + 2 = omega arith in
-      let f : start + suc (2 * i) ≡ start + 2 * i + 1 = omega arith in
-      let two : take 2 (drop (2 * i) xs) ≡ get_or xs (2 * i) 0 ∷ get_or xs (suc (2 * i)) 0 ∷ []
-      = ap (take 2) (drop-cons xs (2 * i) 0 (omega arith) ∙ ap (λ (l : List ℕ). get_or xs (2 * i) 0 ∷ l) (drop-cons xs (suc (2 * i)) 0 (omega arith))) in
-      ap (λ (k : ℕ). take k xs) e ∙ take-add (2 * i) 2 xs
-      ∙ ap (λ (l : List ℕ). take (2 * i) xs ++ l) (two ∙ ap₂ (λ (x y : ℕ). x ∷ y ∷ []) (get_or-drop start answers (2 * i) 0) (get_or-drop start answers (suc (2 * i)) 0 ∙ ap (λ (k : ℕ). get_or answers k 0) f))
+      let f : suc (2 * i) ≡ 2 * i + 1 = omega arith in
+      let two : take 2 (drop (2 * i) answer) ≡ get_or answer (2 * i) 0 ∷ get_or answer (suc (2 * i)) 0 ∷ []
+      = ap (take 2) (drop-cons answer (2 * i) 0 (omega arith) ∙ ap (λ (l : List ℕ). get_or answer (2 * i) 0 ∷ l) (drop-cons answer (suc (2 * i)) 0 (omega arith))) in
+      ap (λ (k : ℕ). take k answer) e ∙ take-add (2 * i) 2 answer
+      ∙ ap (λ (l : List ℕ). take (2 * i) answer ++ l) (two ∙ ap (λ (k : ℕ). get_or answer (2 * i) 0 ∷ get_or answer k 0 ∷ []) f)
 
   abbrev pub here : List ℕ
-  here = cell_shown (get_or answers (start + 2 * i) 0) (get_or answers (start + 2 * i + 1) 0)
+  here = cell_shown (get_or answer (2 * i) 0) (get_or answer (2 * i + 1) 0)
 
-  first_shown : i ≡ 0 → cells_shown (take (2 * (i + 1)) (drop start answers)) ≡ cells_shown (take (2 * i) (drop start answers)) ++ here
+  first_shown : i ≡ 0 → cells_shown (take (2 * (i + 1)) answer) ≡ cells_shown (take (2 * i) answer) ++ here
   first_shown e =
       let two : 2 * i ≡ 0 = omega arith in
-      let none : take (2 * i) (drop start answers) ≡ [] = ap (λ (k : ℕ). take k (drop start answers)) two in
-      ap cells_shown next_two ∙ ap (λ (l : List ℕ). cells_shown (l ++ (get_or answers (start + 2 * i) 0 ∷ get_or answers (start + 2 * i + 1) 0 ∷ []))) none ∙ ap (λ (l : List ℕ). cells_shown l ++ here) (sym none)
+      let none : take (2 * i) answer ≡ [] = ap (λ (k : ℕ). take k answer) two in
+      ap cells_shown next_two ∙ ap (λ (l : List ℕ). cells_shown (l ++ (get_or answer (2 * i) 0 ∷ get_or answer (2 * i + 1) 0 ∷ []))) none ∙ ap (λ (l : List ℕ). cells_shown l ++ here) (sym none)
 
-  next_shown : 0 < i → cells_shown (take (2 * (i + 1)) (drop start answers)) ≡ cells_shown (take (2 * i) (drop start answers)) ++ 32 ∷ here
-  next_shown l =
-      let long = length-drop start answers in
-      ap cells_shown next_two ∙ cells-behind (take (2 * i) (drop start answers)) i _ _ (length-take-le (2 * i) (drop start answers) (omega arith)) l
+  next_shown : 0 < i → cells_shown (take (2 * (i + 1)) answer) ≡ cells_shown (take (2 * i) answer) ++ 32 ∷ here
+  next_shown l = ap cells_shown next_two ∙ cells-behind (take (2 * i) answer) i _ _ (length-take-le (2 * i) answer (omega arith)) l
 
-  module _ {old mid new : List ℕ} {at m r : ℕ} (p : Put old at (cells_shown (take (2 * i) (drop start answers))) mid m) where
-    pub put_first_cell : i ≡ 0 → Put mid m here new r → r ≤ length old → Put old at (cells_shown (take (2 * (i + 1)) (drop start answers))) new r
+  module _ {old mid new : List ℕ} {at m r : ℕ} (p : Put old at (cells_shown (take (2 * i) answer)) mid m) where
+    pub put_first_cell : i ≡ 0 → Put mid m here new r → r ≤ length old → Put old at (cells_shown (take (2 * (i + 1)) answer)) new r
     put_first_cell e q k = subst (λ (l : List ℕ). Put old at l new r) (sym (first_shown e)) (put_then p q k)
 
-    pub put_next_cell : 0 < i → Put (set mid m 32) (m + 1) here new r → r ≤ length old → Put old at (cells_shown (take (2 * (i + 1)) (drop start answers))) new r
+    pub put_next_cell : 0 < i → Put (set mid m 32) (m + 1) here new r → r ≤ length old → Put old at (cells_shown (take (2 * (i + 1)) answer)) new r
     put_next_cell l q k = subst (λ (z : List ℕ). Put old at z new r) (sym (next_shown l)) (put_parted 32 p q k)

@@ -1,2 +1,2 @@
-pub mod Stretches
+pub mod Lines
 pub mod Reading

@@ -4,7 +4,8 @@
 // functions of `printing` ask for room in their buffer.
 #![tactic(auto)]
 
+mod fields;
+mod grids;
 mod lines;
 pub mod printing;
 pub mod reading;
-mod spans;

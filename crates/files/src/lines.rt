@@ -1,156 +1,181 @@
-// The lines of a file.
-ghost use Rattle.std.specs.Prelude.{◌≡◌, ◌+◌, ◌≤◌, length};
-ghost use Rattle.definitions.specs.Files.{field, fields_of, has_piece_fields, is_board, is_config, is_file, is_grid_in, is_piece, is_wood};
-ghost use Rattle.files.specs.Stretches.{Within, is_line, stretch};
+// The lines of a file: a configuration, a board, then pieces.
+ghost use Rattle.std.specs.Prelude.{◌≡◌, ◌||◌, ◌≤◌, cond, length, MatchOption};
+ghost use Rattle.lists.specs.Lists.{same};
+ghost use Rattle.definitions.specs.Texts.{text};
+ghost use Rattle.definitions.specs.Files.{grid_in, has_piece_fields, is_board, is_config, is_grid_in, is_piece, piece_in, wood_in};
+ghost use Rattle.definitions.specs.declared.SolverKind.TheVariants.{Fast, KnuthAlgorithm};
+ghost use Rattle.files.specs.Lines.{FirstLine, HeadIs, NoLine, Read, all_pieces, config_in, has_head, of_piece, word_of, written};
 
-use super::spans;
-use super::spans::Span;
+use super::fields;
+use super::grids::GridText;
+use definitions::{Config, SolverKind};
 
-// Whether three sides and as many cells stand from field n on.
-fn is_grid_in(text: &[u8], line: Span, n: usize) -> bool
-    requires { Within line text.now × (n + 4 ≤ length (fields_of (stretch line text.now))) }
-    ensures { result ≡ is_grid_in n (stretch line text.now) }
-{
-    let a = spans::field_of(text, line, n);
-    let b = spans::field_of(text, line, n + 1);
-    let c = spans::field_of(text, line, n + 2);
-    let cells = spans::field_of(text, line, n + 3);
-    if !spans::is_number(text, a, 3) {
-        return false;
-    }
-    if !spans::is_number(text, b, 3) {
-        return false;
-    }
-    if !spans::is_number(text, c, 3) {
-        return false;
-    }
-    if !spans::are_cells(text, cells) {
-        return false;
-    }
-    let volume = spans::number_in(text, a) * spans::number_in(text, b) * spans::number_in(text, c);
-    cells.to - cells.from == volume
+// What a configuration has identified.
+#[derive(Clone, Copy, PartialEq, Eq)]
+pub enum Identified {
+    Nothing,
+    Turned,
+    Mirrored,
 }
 
-// Whether a line is the configuration: the word, an engine, and what is identified.
-fn is_config(text: &[u8], line: Span) -> bool
-    requires { Within line text.now }
-    ensures { result ≡ is_config (stretch line text.now) }
-{
-    if spans::count_fields(text, line) != 3 {
-        return false;
-    }
-    if !spans::is_word(text, spans::field_of(text, line, 0), b"config") {
-        return false;
-    }
-    let engine = spans::field_of(text, line, 1);
-    if !spans::is_word(text, engine, b"fast") {
-        if !spans::is_word(text, engine, b"knuth") {
-            return false;
-        }
-    }
-    let identified = spans::field_of(text, line, 2);
-    if spans::is_word(text, identified, b"none") {
-        return true;
-    }
-    if spans::is_word(text, identified, b"turned") {
-        return true;
-    }
-    spans::is_word(text, identified, b"mirrored")
+// A piece as it is written: its count, its wood and its grid.
+#[derive(Clone, Copy)]
+pub struct PieceText<'a> {
+    pub count: u32,
+    pub wood: u8,
+    pub grid: GridText<'a>,
 }
 
-// Whether a line is the board: the word and a grid.
-fn is_board(text: &[u8], line: Span) -> bool
-    requires { Within line text.now }
-    ensures { result ≡ is_board (stretch line text.now) }
-{
-    if spans::count_fields(text, line) != 5 {
-        return false;
-    }
-    if !spans::is_word(text, spans::field_of(text, line, 0), b"board") {
-        return false;
-    }
-    is_grid_in(text, line, 1)
+// A file's first two lines, and what stands behind them.
+#[derive(Clone, Copy)]
+pub struct Head<'a> {
+    pub config: Config,
+    pub board: GridText<'a>,
+    pub pieces: &'a [u8],
 }
 
-// Whether field 6 of a line is a wood.
-fn is_wood(text: &[u8], line: Span) -> bool
-    requires { Within line text.now × (7 ≤ length (fields_of (stretch line text.now))) }
-    ensures { result ≡ is_wood (field (stretch line text.now) 6) }
+// The first line of a text, without its line feed, and what stands behind it; none where no line is ended.
+pub fn split_line(text: &[u8]) -> Option<(&[u8], &[u8])>
+    ensures { MatchOption result (NoLine text.now) (λ parts. FirstLine text.now parts.0.now parts.1.now) }
 {
-    let wood = spans::field_of(text, line, 6);
-    if !spans::is_number(text, wood, 3) {
-        return false;
-    }
-    spans::number_in(text, wood) <= 255
+    let end = text.iter().position(|&byte| byte == b'\n')?;
+    Some((&text[..end], &text[end + 1..]))
 }
 
-// Whether a line has as many fields as a piece's: six, or seven and a wood at the end.
-fn has_piece_fields(text: &[u8], line: Span) -> bool
-    requires { Within line text.now }
-    ensures { result ≡ has_piece_fields (stretch line text.now) }
+// The engine that a word names. (Compared by `==`: tried as a `match` on byte strings, whose last arm was not proved for words of the
+// right length.)
+#[tactic(auto, using(crate::proofs::PartLaws::same_are))]
+fn engine_of(word: &[u8]) -> Option<SolverKind>
+    ensures { let knuth = same word.now (text "knuth") in
+        Read result (same word.now (text "fast") || knuth) (λ engine. engine ≡ cond knuth KnuthAlgorithm Fast) }
 {
-    let n = spans::count_fields(text, line);
-    if n == 6 {
-        return true;
-    }
-    if n != 7 {
-        return false;
-    }
-    is_wood(text, line)
-}
-
-// Whether a line is a piece: the word, a count, a grid, and a wood or none.
-fn is_piece(text: &[u8], line: Span) -> bool
-    requires { Within line text.now }
-    ensures { result ≡ is_piece (stretch line text.now) }
-{
-    if !has_piece_fields(text, line) {
-        return false;
-    }
-    if !spans::is_word(text, spans::field_of(text, line, 0), b"piece") {
-        return false;
-    }
-    if !spans::is_number(text, spans::field_of(text, line, 1), 9) {
-        return false;
-    }
-    is_grid_in(text, line, 2)
-}
-
-// The line with a number: `config`, `board`, then pieces.
-fn is_line(text: &[u8], line: Span, number: usize) -> bool
-    requires { Within line text.now }
-    ensures { result ≡ is_line number (stretch line text.now) }
-{
-    if number == 0 {
-        is_config(text, line)
-    } else if number == 1 {
-        is_board(text, line)
+    if word == b"fast".as_slice() {
+        Some(SolverKind::Fast)
+    } else if word == b"knuth".as_slice() {
+        Some(SolverKind::KnuthAlgorithm)
     } else {
-        is_piece(text, line)
+        None
     }
 }
 
-// Whether a text is a file of `pack`.
-pub fn is_file(text: &[u8]) -> bool
-    ensures { result ≡ is_file text.now }
+// What a word has identified. (Compared by `==` as in `engine_of`.)
+#[tactic(auto, using(crate::proofs::PartLaws::same_are))]
+fn identified_of(word: &[u8]) -> Option<Identified>
+    ensures { Read result (same word.now (text "none") || (same word.now (text "turned") || same word.now (text "mirrored")))
+        (λ identified. word.now ≡ word_of identified) }
 {
-    let to = text.len();
-    if 16384 < to {
-        return false;
+    if word == b"none".as_slice() {
+        Some(Identified::Nothing)
+    } else if word == b"turned".as_slice() {
+        Some(Identified::Turned)
+    } else if word == b"mirrored".as_slice() {
+        Some(Identified::Mirrored)
+    } else {
+        None
     }
-    let mut number = 0;
-    let mut from = 0;
-    // the lines before `from`, `number` of them, are as they should be
-    while from < to {
-        let end = spans::find(text, Span { from, to }, 10);
-        if end == to {
+}
+
+// The configuration that a line gives: the word, an engine, and what is identified.
+#[tactic(auto, using(crate::proofs::PartLaws::same_are), unfolding(definitions::specs::Files::is_config, crate::specs::Lines::config_in))]
+fn config_of(line: &[u8]) -> Option<Config>
+    ensures { Read result (is_config line.now) (λ config. config ≡ config_in line.now) }
+{
+    if fields::count_fields(line) != 3 || fields::field(line, 0) != b"config".as_slice() {
+        return None;
+    }
+    let solver = engine_of(fields::field(line, 1))?;
+    let identified = identified_of(fields::field(line, 2))?;
+    Some(Config {
+        identify_transformed_answers: identified != Identified::Nothing,
+        identify_mirrored_answers: identified == Identified::Mirrored,
+        solver,
+    })
+}
+
+// The grid that stands from field n of a line on: three sides and as many cells.
+#[tactic(auto, using(crate::proofs::FieldLaws::field_short), unfolding(definitions::specs::Files::is_grid_in, definitions::specs::Files::grid_in))]
+fn grid_of(line: &[u8], n: usize) -> Option<GridText<'_>>
+    requires { n ≤ 2 }
+    ensures { Read result (is_grid_in n line.now)
+        (λ grid. (written 0 0 grid ≡ grid_in 0 0 n line.now) × (length grid.cells.now ≤ length line.now)) }
+{
+    let a = fields::number_in(fields::field(line, n), 3)?;
+    let b = fields::number_in(fields::field(line, n + 1), 3)?;
+    let c = fields::number_in(fields::field(line, n + 2), 3)?;
+    let cells = fields::field(line, n + 3);
+    if !fields::are_cells(cells) || cells.len() != a * b * c {
+        return None;
+    }
+    Some(GridText { a, b, c, cells })
+}
+
+// The board that a line gives: the word and a grid.
+#[tactic(auto, using(crate::proofs::PartLaws::same_are), unfolding(definitions::specs::Files::is_board))]
+fn board_of(line: &[u8]) -> Option<GridText<'_>>
+    ensures { Read result (is_board line.now)
+        (λ grid. (written 0 0 grid ≡ grid_in 0 0 1 line.now) × (length grid.cells.now ≤ length line.now)) }
+{
+    if fields::count_fields(line) != 5 || fields::field(line, 0) != b"board".as_slice() {
+        return None;
+    }
+    grid_of(line, 1)
+}
+
+// The wood of a line with as many fields as a piece's: 0 where it has six, the last field where it has seven.
+fn wood_of(line: &[u8]) -> Option<u8>
+    ensures { Read result (has_piece_fields line.now) (λ wood. wood ≡ wood_in line.now) }
+{
+    match fields::count_fields(line) {
+        6 => Some(0),
+        7 => {
+            let wood = fields::number_in(fields::field(line, 6), 3)?;
+            u8::try_from(wood).ok()
+        }
+        _ => None,
+    }
+}
+
+// The piece that a line gives: the word, a count, a grid, and a wood or none.
+pub fn piece_of(line: &[u8]) -> Option<PieceText<'_>>
+    ensures { Read result (is_piece line.now)
+        (λ piece. (of_piece piece ≡ piece_in line.now) × (length piece.grid.cells.now ≤ length line.now)) }
+{
+    let wood = wood_of(line)?;
+    if fields::field(line, 0) != b"piece".as_slice() {
+        return None;
+    }
+    let count = fields::number_in(fields::field(line, 1), 9)? as u32;
+    let grid = grid_of(line, 2)?;
+    Some(PieceText { count, wood, grid })
+}
+
+// The first two lines of a text: the configuration and the board.
+#[tactic(auto, unfolding(crate::specs::Lines::has_head))]
+pub fn head_of(text: &[u8]) -> Option<Head<'_>>
+    ensures { Read result (has_head text.now) (λ head. HeadIs text.now head) }
+{
+    let (first, rest) = split_line(text)?;
+    let config = config_of(first)?;
+    let (second, pieces) = split_line(rest)?;
+    let board = board_of(second)?;
+    Some(Head {
+        config,
+        board,
+        pieces,
+    })
+}
+
+// Whether each line of a text is ended and is a piece.
+pub fn are_pieces(text: &[u8]) -> bool
+    ensures { result ≡ all_pieces text.now }
+{
+    let mut rest = text;
+    // the lines before `rest` are pieces
+    while let Some((line, next)) = split_line(rest) {
+        if piece_of(line).is_none() {
             return false;
         }
-        if !is_line(text, Span { from, to: end }, number) {
-            return false;
-        }
-        from = end + 1;
-        number += 1;
+        rest = next;
     }
-    2 <= number
+    rest.is_empty()
 }

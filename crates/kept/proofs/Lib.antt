@@ -5,7 +5,7 @@ pub mod NormalLaws
 pub mod EmitLaws
 pub mod NormalFormLaws
 pub mod StartLaws
-pub mod LevelLaws
+pub mod CompareLaws
 pub mod IdentityLaws
 pub mod LeafLaws
 pub mod LeastLaws

@@ -9,14 +9,14 @@ use native.Mathlib.Nat.{le_of_eq}
 use native.Mathlib.Omega.{arith}
 use borrow.Author.Tests.{leb-true, leb-false}
 use lib.Dec.{T, ltb, leb, eqb, lt→ltb, eqb→eq}
-use lib.ListN.{length, get_or, length-map}
+use lib.ListN.{length, length-map}
 use Rattle.lists.specs.Lists.{all, ascending, below}
 use Rattle.lists.proofs.TestLaws.{decide, clash, eqb_of}
 use Rattle.lists.proofs.ListLaws.{all_of}
 use Rattle.lists.proofs.RangeLaws.{from-of, below_of, length_below, map_from_ahead, get_or_of}
 use Rattle.definitions.specs.Placements.{Placement}
 use Rattle.definitions.specs.Packing.{ahead}
-use Rattle.rows.specs.Charts.{chart_length, kinds_part, images_of}
+use Rattle.rows.specs.Charts.{images_of, kind_copies, kind_partner}
 use Rattle.rows.specs.Rows.{row_at, rows_in}
 use Rattle.rows.specs.Ranges.{Ranged, FirstCells}
 use Rattle.rows.specs.Systems.{system_in, images_in, moved_by, row_with, system_over}
@@ -25,15 +25,16 @@ use Rattle.kept.specs.Ready.{Ready}
 use Rattle.kept.specs.Normal.{no_row, row_of, image_of}
 use Rattle.rows.specs.declared.Dims.{Dims}
 use Rattle.rows.proofs.AnsweringLaws.{ahead_kind}
+use Rattle.rows.specs.declared.chart.Chart.{Chart}
 
-module _ (d : Dims) (work chart : List ℕ) where
+module _ (d : Dims) (work : List ℕ) (chart : Chart) where
   pub rows_many : length (system_in d work chart).rows ≡ d.rows
   unfolding system_in system_over rows_in
   rows_many = length-map (below d.rows) (row_at work) ∙ length_below d.rows
 
   pub kinds_many : length (system_in d work chart).copies ≡ d.kinds
   unfolding system_in system_over
-  kinds_many = length-map (below d.kinds) (λ k. get_or (kinds_part chart) (3 * k) 0) ∙ length_below d.kinds
+  kinds_many = length-map (below d.kinds) (kind_copies chart.kinds) ∙ length_below d.kinds
 
   pub row_is : (r : ℕ) → r < d.rows → row_of (system_in d work chart) r ≡ row_at work r
   unfolding system_in system_over rows_in row_of
@@ -45,11 +46,11 @@ module _ (d : Dims) (work chart : List ℕ) where
 
   -- what the code finds as the image of row r
   pub image_is : (r : ℕ) → r < d.rows → (odd : Bool) (to : List ℕ)
-      → row_with (rows_in work d.rows) (moved_by (map (λ k. get_or (kinds_part chart) (3 * k + 1) 0) (below d.kinds)) odd to (row_at work r))
+      → row_with (rows_in work d.rows) (moved_by (map (kind_partner chart.kinds) (below d.kinds)) odd to (row_at work r))
       ≡ image_of (system_in d work chart) odd to r
   unfolding system_in system_over image_of
   image_is r h odd to =
-      ap (λ (q : Placement). row_with (rows_in work d.rows) (moved_by (map (λ k. get_or (kinds_part chart) (3 * k + 1) 0) (below d.kinds)) odd to q)) (sym (row_is r h))
+      ap (λ (q : Placement). row_with (rows_in work d.rows) (moved_by (map (kind_partner chart.kinds) (below d.kinds)) odd to q)) (sym (row_is r h))
 
   -- map m: a turn below the number of turns, else a mirroring
   pub map_in : (m : ℕ) → m < d.turns + d.mirrorings
@@ -109,7 +110,7 @@ module _ (d : Dims) (work chart : List ℕ) where
 
   -- what `image_row` asks of row r and map m
   pub image_asked : Ready d work chart → (m r : ℕ) → m < d.turns + d.mirrorings → r < d.rows
-      → ((8 * d.rows ≤ length work) × (d.rows ≤ 1024) × (length chart ≡ chart_length) × Ranged work chart d.rows × FirstCells (rows_in work d.rows)
+      → ((8 * d.rows ≤ length work) × (d.rows ≤ 1024) × Ranged work chart.starts d.rows × FirstCells (rows_in work d.rows)
       × T (ascending ahead (rows_in work d.rows)))
       × (((r < d.rows) × (d.kinds ≤ 16) × ((row_at work r).kind < d.kinds) × T (all (λ n. ltb n d.size) (row_at work r).cells))
       × ((d.size ≤ 128) × (m < 48) × Permutes d.size (images_of chart d.size m)))
@@ -117,6 +118,6 @@ module _ (d : Dims) (work chart : List ℕ) where
       let ok = ready.lawful in
       let few = few-cells ok in
       let maps = ready.few_maps in (
-        (ready.rows_fit, few-rows ok, ready.charted.long, ready.ranged, first_cells ok, in-order ok),
+        (ready.rows_fit, few-rows ok, ready.ranged, first_cells ok, in-order ok),
         ((k, few-kinds ok, row_kind ok r k, row_on_board ok r k), (few, omega arith, map_permutes ok m h)),
       )

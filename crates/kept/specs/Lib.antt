@@ -1,4 +1,6 @@
 pub mod Normal
+pub mod Orders
+pub mod Starts
 pub mod Ready
 pub mod Emission
 pub mod Entries

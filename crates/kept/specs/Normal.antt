@@ -1,14 +1,14 @@
 -- Which packing is kept, by row numbers. A packing is the ascending list of its rows' numbers; within a kind, ascending numbers are ascending (p, j).
 -- Proved in proofs/NormalLaws: of a packing's rows, `normal` says what `kept` of document 01's definitions says of the packing.
-use Rattle.std.specs.Prelude.{ℕ, ◌+◌, ◌-◌, ◌≤◌, ◌<◌, Bool, true, false, cond, not, ◌&&◌, ◌||◌, List, [], ◌∷◌, map, ◌≡◌, ltb, leb, eqb, length, get_or}
+use Rattle.std.specs.Prelude.{ℕ, ◌+◌, ◌≤◌, ◌<◌, Bool, true, false, cond, not, ◌&&◌, ◌||◌, List, [], ◌∷◌, map, ◌≡◌, ltb, leb, eqb, length, get_or}
 use Rattle.lists.specs.Lists.{all, keep, each, how_many, below, less}
 use Rattle.definitions.specs.Placements.{Placement}
 use Rattle.definitions.specs.Kept.{Identify}
 use Rattle.definitions.specs.Kept.Identify.{None, Turned, Mirrored}
-use Rattle.shape.specs.declared.Ordering.{Ordering}
-use Rattle.shape.specs.declared.Ordering.TheVariants.{Less, Equal, Greater}
+use Rattle.std.specs.declared.cmp.Ordering.{Ordering}
+use Rattle.std.specs.declared.cmp.Ordering.TheVariants.{Less, Equal, Greater}
 use Rattle.rows.specs.Systems.{System, kind_by, moved_by, row_with}
-use Rattle.rows.specs.Answering.{path_in}
+use Rattle.rows.specs.Rows.{row_at}
 
 -- a number put into an ascending list, behind those that are smaller; and a list in ascending order
 abbrev pub insert_row : ℕ → List ℕ → List ℕ
@@ -28,10 +28,6 @@ row_of s r = get_or s.rows r no_row
 
 unfoldable pub of_kind : System → ℕ → List ℕ → List ℕ
 of_kind s k rs = keep (λ r. eqb (row_of s r).kind k) rs
-
--- the kind of the row at number i of a path
-abbrev pub kind_at : System → List ℕ → ℕ → ℕ
-kind_at s path i = (row_of s (get_or path i 0)).kind
 
 -- the number of a row's image, and the images that are of kind k: those of the rows whose kind becomes k
 unfoldable pub image_of : System → Bool → List ℕ → ℕ → ℕ
@@ -63,21 +59,13 @@ normal s Turned rs = all (λ to. not (image_smaller s false rs to)) s.turned
 normal s Mirrored rs =
     all (λ to. not (image_smaller s false rs to)) s.turned && (not (mirrorable s rs) || all (λ to. not (image_smaller s true rs to)) s.mirrored)
 
--- how many rows of a path are of kinds before k: where those of kind k begin, in a path that goes kind by kind
-unfoldable pub start_of : List ℕ → List ℕ → ℕ → ℕ → ℕ
-start_of work rows n k = how_many (λ q. ltb q.kind k) (path_in work rows n)
+-- how many rows of a packing are of kinds before k: where those of kind k begin, if it goes kind by kind
+unfoldable pub start_of : List ℕ → List ℕ → ℕ → ℕ
+start_of work rows k = how_many (λ q. ltb q.kind k) (map (row_at work) rows)
 
--- these stand in a slice, for each kind, and behind them where the last one ends
-pub record KindStarts (work rows : List ℕ) (n kinds : ℕ) (starts : List ℕ) : Type 0 where
-  pub long : length starts ≡ 17
-  pub at : (k : ℕ) → k ≤ kinds → get_or starts k 0 ≡ start_of work rows n k
-
--- where the rows of a kind begin, and how many they are, by such a slice; 0 of what is no kind
-unfoldable pub start_in : List ℕ → ℕ → ℕ → ℕ
-start_in starts kinds k = cond (ltb k kinds) (get_or starts k 0) 0
-
-unfoldable pub used_in : List ℕ → ℕ → ℕ → ℕ
-used_in starts kinds k = cond (ltb k kinds) (get_or starts (k + 1) 0 - get_or starts k 0) 0
+-- these are so many numbers, for each kind, and behind them where the last one ends
+abbrev pub KindStarts : List ℕ → List ℕ → ℕ → List ℕ → Type 0
+KindStarts work rows kinds starts = (k : ℕ) → k ≤ kinds → get_or starts k 0 ≡ start_of work rows k
 
 -- the rows stand kind by kind
 abbrev pub InKinds : System → List ℕ → Type 0

@@ -6,3 +6,4 @@
 pub mod emission;
 mod normal_form;
 mod sorting;
+mod starts;

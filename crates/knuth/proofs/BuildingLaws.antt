@@ -1,5 +1,5 @@
 -- The links of a row system as they are built: the nodes of the rows one after the other, and what `link_all` asks of them. Assumes nothing.
-use Prim.Native.Nat.{ℕ, suc, ◌+◌, ◌-◌, ◌*◌, ◌≤◌, ◌<◌}
+use Prim.Native.Nat.{ℕ, suc, ◌+◌, ◌-◌, ◌≤◌, ◌<◌}
 use mathlib.Core.Bool.{Bool, true, false, not}
 use mathlib.Core.List.{List, [], ◌∷◌, ◌++◌, append-nil, append_assoc}
 use mathlib.Core.Logic.{◌⊎◌, inl, inr}
@@ -16,7 +16,7 @@ use Rattle.lists.proofs.RangeLaws.{keep_below, length_from, below_split, get_or_
 use Rattle.lists.proofs.CountLaws.{at_most_sum, how_many_length}
 use Rattle.definitions.specs.Placements.{Placement}
 use Rattle.masks.specs.Masks.{has}
-use Rattle.rows.specs.Charts.{kinds_part}
+use Rattle.rows.specs.Charts.{kind_copies}
 use Rattle.rows.specs.declared.Dims.{Dims}
 use Rattle.rows.specs.Rows.{cells_of, mask_at, row_at}
 use Rattle.rows.specs.Systems.{System, system_in, system_over}
@@ -24,20 +24,21 @@ use Rattle.rows.specs.Lawful.{Lawful}
 use Rattle.kept.specs.Normal.{row_of}
 use Rattle.kept.specs.Ready.{Ready}
 use Rattle.kept.proofs.NormalFormLaws.{copies_at}
-use Rattle.links.specs.Links.{copies_of, at_column, at_first, at_end, at_copies, at_row, Still, Matrix, LawfulMatrix, Fields}
+use Rattle.links.specs.Links.{copies_of, at_column, at_first, at_end, at_copies, at_row, Matrix, LawfulMatrix}
 use Rattle.links.specs.Search.{Shape, Seek}
-use Rattle.links.specs.Build.{Posed, Stocked, whole, every_column}
-use Rattle.links.proofs.Places.{still_behind}
-use Rattle.knuth.specs.Matrix.{Node, node_at, nodes_in, head_nodes, row_nodes, nodes_from, stocked_rows, columns, link_nodes, matrix_of, Laid, StockLaid}
+use Rattle.links.specs.Build.{Posed, Stocked, Written, whole, every_column}
+use Rattle.knuth.specs.declared.node.Node.{Node}
+use Rattle.knuth.specs.Matrix.{node_at, nodes_in, head_nodes, row_nodes, nodes_from, stocked_rows, columns, link_nodes, matrix_of, Laid, StockLaid}
 use Rattle.knuth.specs.Listing.{Begun}
-use Rattle.knuth.proofs.LaidLaws.{keep_hit, keep_miss, heads_length, same_node, same_nodes, beside_copies, beside_behind, laid_more, laid_none}
+use Rattle.knuth.proofs.LaidLaws.{keep_hit, keep_miss, heads_length, same_node, same_nodes, beside_copies, laid_more, laid_none}
 use Rattle.knuth.proofs.MatrixLaws.{no_node, matrix_lawful, matrix_shape, matrix_rows, row_lawful}
 use Rattle.kept.proofs.ReadyLaws.{few-cells, few-kinds, row_kind, kinds_many, rows_many, row_is, row_in}
+use Rattle.rows.specs.declared.chart.Chart.{Chart}
 
 -- ---- the nodes of rows
 pub row_length : (size x r kind : ℕ) (cells : List ℕ) → length (row_nodes size x r kind cells) ≡ suc (length cells)
 unfolding row_nodes
-row_length size x r kind cells = ap suc (length-map cells (λ c. record { col = c; lo = x; hi = x + suc (length cells); row = r }))
+row_length size x r kind cells = ap suc (length-map cells (λ c. record { column = c; first = x; end = x + suc (length cells); row = r }))
 
 module _ (s : System) where
   abbrev row_at_node : ℕ → ℕ → List Node
@@ -100,7 +101,7 @@ module _ (s : System) where
       omega arith
 
 -- ---- the rows as they stand in slices
-module _ (d : Dims) (work chart : List ℕ) where
+module _ (d : Dims) (work : List ℕ) (chart : Chart) where
   abbrev S : System
   S = system_in d work chart
 
@@ -122,19 +123,19 @@ module _ (d : Dims) (work chart : List ℕ) where
         ∙ keep_below in_mask d.size 128 (few-cells d work chart ready.lawful)
         (λ c m. (ready.lawful.row (row_at work r) (row_in d work chart r h)).on_board c m)
 
-    stock_is : get_or (kinds_part chart) (3 * (row_at work r).kind) 0 ≡ get_or S.copies (row_of S r).kind 0
+    stock_is : kind_copies chart.kinds (row_at work r).kind ≡ get_or S.copies (row_of S r).kind 0
     stock_is =
         copies_at d work chart (row_at work r).kind (row_kind d work chart ready.lawful r h)
         ∙ ap (λ (k : ℕ). get_or S.copies k 0) (sym kind_is)
 
     module _ (kind : ℕ) (k-is : kind ≡ (row_at work r).kind) where
-      stock_at : get_or (kinds_part chart) (3 * kind) 0 ≡ get_or S.copies (row_of S r).kind 0
-      stock_at = ap (λ (k : ℕ). get_or (kinds_part chart) (3 * k) 0) k-is ∙ stock_is
+      stock_at : kind_copies chart.kinds kind ≡ get_or S.copies (row_of S r).kind 0
+      stock_at = ap (λ (k : ℕ). kind_copies chart.kinds k) k-is ∙ stock_is
 
-      pub stocked_yes : 0 < get_or (kinds_part chart) (3 * kind) 0 → has_stock S r ≡ true
+      pub stocked_yes : 0 < kind_copies chart.kinds kind → has_stock S r ≡ true
       stocked_yes l = let e = stock_at in lt-ltb 0 (get_or S.copies (row_of S r).kind 0) (omega arith)
 
-      pub stocked_no : get_or (kinds_part chart) (3 * kind) 0 ≤ 0 → has_stock S r ≡ false
+      pub stocked_no : kind_copies chart.kinds kind ≤ 0 → has_stock S r ≡ false
       stocked_no l = let e = stock_at in le-ltb 0 (get_or S.copies (row_of S r).kind 0) (omega arith)
 
     node_list : (x : ℕ) → row_at_node S x r ≡ row_nodes d.size x r (row_at work r).kind (keep in_mask (below d.size))
@@ -191,7 +192,7 @@ module _ (d : Dims) (work chart : List ℕ) where
   -- ---- what `link_all` asks, and what it makes
   module _ (ready : Ready d work chart) (fits : length (link_nodes S) ≤ 4096) (m0 m1 m2 m3 : List ℕ)
       (one : Laid m0 0 m1 (head_nodes (d.size + d.kinds))) (two : StockLaid m1 m2 d.size d.kinds chart)
-      (three : Laid m2 (columns S) m3 (nodes_from S (columns S) (stocked_rows S))) (long : 32768 ≤ length m3) where
+      (three : Laid m2 (columns S) m3 (nodes_from S (columns S) (stocked_rows S))) where
     law : Lawful S
     law = ready.lawful
 
@@ -232,14 +233,13 @@ module _ (d : Dims) (work chart : List ℕ) where
         ap (node_at m3) e ∙ sym (get_or_map 0 no_node (node_at m3) (from 0 (length (link_nodes S))) x (omega arith))
         ∙ ap (λ (l : List Node). get_or l x no_node) all_laid.nodes
 
-    fields : Fields (matrix_of S) m3
+    written : Written (matrix_of S) m3
     unfolding matrix_of node_at
-    fields =
+    written =
         record {
-          long = long;
-          col = λ x h. ap (λ (n : Node). n.col) (node_is x h) ∙ sym (ListN.get_or-map (λ (n : Node). n.col) (link_nodes S) x no_node);
-          lo = λ x h. ap (λ (n : Node). n.lo) (node_is x h) ∙ sym (ListN.get_or-map (λ (n : Node). n.lo) (link_nodes S) x no_node);
-          hi = λ x h. ap (λ (n : Node). n.hi) (node_is x h) ∙ sym (ListN.get_or-map (λ (n : Node). n.hi) (link_nodes S) x no_node);
+          col = λ x h. ap (λ (n : Node). n.column) (node_is x h) ∙ sym (ListN.get_or-map (λ (n : Node). n.column) (link_nodes S) x no_node);
+          lo = λ x h. ap (λ (n : Node). n.first) (node_is x h) ∙ sym (ListN.get_or-map (λ (n : Node). n.first) (link_nodes S) x no_node);
+          hi = λ x h. ap (λ (n : Node). n.end) (node_is x h) ∙ sym (ListN.get_or-map (λ (n : Node). n.end) (link_nodes S) x no_node);
           row = λ x h. ap (λ (n : Node). n.row) (node_is x h) ∙ sym (ListN.get_or-map (λ (n : Node). n.row) (link_nodes S) x no_node);
         }
 
@@ -287,13 +287,13 @@ module _ (d : Dims) (work chart : List ℕ) where
       unfolding matrix_of
       posed =
           record {
-            stored = record { t = matrix_of S; law = matrix_lawful S law fits; fields = fields; c_is = sym columns_are; n_is = n_is };
+            stored = record { t = matrix_of S; law = matrix_lawful S law fits; written = written; c_is = sym columns_are; n_is = n_is };
             shape = shape;
             stocked = stocked;
           }
 
       pub begun : (m4 : List ℕ)
-          → ((t : Matrix) (l : LawfulMatrix t) → Fields t m3 → Shape t d.size → Stocked t m3 → d.size + d.kinds ≡ t.cols → nodes ≡ t.nodes
+          → ((t : Matrix) (l : LawfulMatrix t) → Written t m3 → Shape t d.size → Stocked t m3 → d.size + d.kinds ≡ t.cols → nodes ≡ t.nodes
           → Seek (whole t l) every_column (copies_of m3) d.size d.size m4)
           → Begun S m4
       unfolding matrix_of system_in system_over
@@ -301,14 +301,6 @@ module _ (d : Dims) (work chart : List ℕ) where
           record {
             law = matrix_lawful S law fits;
             copies = copies_of m3;
-            seek = f (matrix_of S) (matrix_lawful S law fits) fields shape stocked (sym columns_are) n_is;
+            seek = f (matrix_of S) (matrix_lawful S law fits) written shape stocked (sym columns_are) n_is;
             stock = λ k h. copy_kind k (let e = kinds_many d work chart in omega arith);
           }
-
-    pub built_behind : (m4 : List ℕ) → ((i : ℕ) → Still i → get_or m4 i 0 ≡ get_or m3 i 0) → (i : ℕ) → 32768 ≤ i → get_or m4 i 0 ≡ get_or m0 i 0
-    built_behind m4 f i h =
-        let l = few in
-        let n = links-length S in
-        let k = heads_length (d.size + d.kinds) in
-        f i (still_behind i h) ∙ three.others i (beside_behind _ _ i (omega arith) h)
-        ∙ two.others i (λ j g e. omega arith) ∙ one.others i (beside_behind _ _ i (omega arith) h)

@@ -1,20 +1,17 @@
 -- A column's rows, tried one after the other, leave on the page what the list of their packings leaves; nothing changes once a further packing is known. Assumes nothing.
-use Prim.Native.Nat.{ℕ, suc, ◌+◌, ◌-◌, ◌≤◌, ◌<◌}
+use Prim.Native.Nat.{ℕ, suc, ◌-◌, ◌≤◌, ◌<◌}
 use mathlib.Core.Bool.{Bool, true, false, cond}
 use mathlib.Core.List.{List, [], ◌∷◌, ◌++◌, map, append-nil, append_assoc}
 use mathlib.Core.Path.{◌≡◌, refl, sym, ap, ◌∙◌}
 use native.Mathlib.Omega.{arith}
 use borrow.Author.Tests.{ne_eqb}
 use lib.Dec.{eqb}
-use lib.ListN.{take, set, length-set}
-use lib.Seq.{take-set-le, take-take}
 use Rattle.definitions.specs.Kept.{Identify}
 use Rattle.definitions.specs.Emission.{Emitted}
 use Rattle.theorems.proofs.EmissionLaws.{emit_done}
 use Rattle.rows.specs.Systems.{System}
 use Rattle.kept.specs.Normal.{normal, sort_rows}
 use Rattle.kept.specs.Emission.{emit_kept, entry_of}
-use Rattle.kept.specs.Ready.{Restored}
 use Rattle.links.specs.Links.{down, first_of, end_of, size_of}
 use Rattle.links.specs.Cover.{tally, Reduced, reduced_to, alive_run}
 use Rattle.links.specs.Search.{Seek, At, select, selected, spend, first_covered, has_row, pivot}
@@ -22,24 +19,6 @@ use Rattle.links.specs.Packings.{exact_covers, rows_from}
 use Rattle.links.proofs.Search.{choose_zero, choose_none, choose_rows, few_open, sel_uncovered, try_live, try_sub, try_seek, try_packings, try_rows_next, try_head}
 use Rattle.knuth.specs.Matrix.{matrix_of}
 use Rattle.knuth.specs.Listing.{emit_all, found_rows, knuth_below, knuth_rows}
-
--- ---- lists
-pub same_twice : (a b c : List ℕ) → a ≡ b → b ≡ c → a ≡ c
-same_twice a b c e f = e ∙ f
-
--- the first n are as before, where the first n + 1 are as they were with it
-pub path_kept : (path : List ℕ) (n r : ℕ) (after : List ℕ) → Restored (n + 1) (set path n r) after → Restored n path after
-path_kept path n r after e =
-    record {
-      rows = sym (take-take n (n + 1) after (omega arith)) ∙ ap (take n) e.rows ∙ take-take n (n + 1) (set path n r) (omega arith) ∙ take-set-le n path n r (omega arith);
-      long = e.long ∙ length-set path n r;
-    }
-
-pub path_still : (n : ℕ) (path : List ℕ) → Restored n path path
-path_still n path = record { rows = refl; long = refl }
-
-pub path_twice : (n : ℕ) (a b c : List ℕ) → Restored n b c → Restored n a b → Restored n a c
-path_twice n a b c e f = record { rows = e.rows ∙ f.rows; long = e.long ∙ f.long }
 
 -- ---- packings on the page
 module _ (s : System) (i : Identify) (capacity : ℕ) where

@@ -6,12 +6,10 @@ use mathlib.Core.Path.{◌≡◌, refl, sym, ap, ◌∙◌, subst}
 use mathlib.Core.Logic.{⊎_elim}
 use native.Mathlib.Omega.{arith}
 use lib.Dec.{T, ltb, lt→ltb}
-use lib.ListN.{length, take, set, length-take, length-set}
-use Rattle.lists.specs.Lists.{all}
-use Rattle.lists.proofs.ListLaws.{all_at, all_of, take_set_next}
+use lib.ListN.{length, take, length-append}
+use Rattle.lists.proofs.ListLaws.{all_at, all_of}
 use Rattle.definitions.specs.Kept.{Identify}
 use Rattle.definitions.specs.Emission.{Emitted}
-use Rattle.rows.specs.Charts.{scans_part, pieces_part}
 use Rattle.rows.specs.Rows.{row_at}
 use Rattle.rows.specs.Systems.{System, system_in, owned_in, system_over}
 use Rattle.rows.specs.Shown.{Shown, shows_row}
@@ -19,7 +17,7 @@ use Rattle.rows.specs.Lawful.{Lawful}
 use Rattle.rows.specs.declared.Dims.{Dims}
 use Rattle.kept.specs.Emission.{emit_kept}
 use Rattle.kept.specs.Normal.{row_of}
-use Rattle.kept.specs.Ready.{Fillable, OfRows, Restored}
+use Rattle.kept.specs.Ready.{AreRows, Fillable}
 use Rattle.kept.proofs.ReadyLaws.{rows_many, row_is as row-stands, row_in as row_here, row-cells, few-cells}
 use Rattle.links.specs.Links.{down, first_of, end_of, size_of, row_number}
 use Rattle.links.specs.Cover.{tally, Reduced, reduced_to}
@@ -30,8 +28,9 @@ use Rattle.knuth.specs.Listing.{Chosen, Choosable, Tryable, emit_all, knuth_belo
 use Rattle.knuth.proofs.ChosenLaws.{all_fill, row-number, row_small, chosen_next, room_next}
 use Rattle.knuth.proofs.CycleLaws.{leaf, few, none, below_rows, no_rows, stops, goes_on}
 use Rattle.knuth.proofs.UnmetLaws.{passed_over}
+use Rattle.rows.specs.declared.chart.Chart.{Chart}
 
-module _ (d : Dims) (work chart : List ℕ) where
+module _ (d : Dims) (work : List ℕ) (chart : Chart) where
   abbrev S : System
   S = system_in d work chart
 
@@ -51,7 +50,7 @@ module _ (d : Dims) (work chart : List ℕ) where
   unfolding system_in system_over
   to_at q = q
 
-  to_shown : {last shown : List ℕ} → Shown d.size (take d.places (scans_part chart)) last shown → Shown S.size S.scans last shown
+  to_shown : {last shown : List ℕ} → Shown d.size (take d.places chart.scans) last shown → Shown S.size S.scans last shown
   unfolding system_in system_over
   to_shown q = q
 
@@ -94,15 +93,7 @@ module _ (d : Dims) (work chart : List ℕ) where
   found_head i capacity q rs before c k kc g = no_rows S i capacity (to_seek q) rs c k kc g before
 
   -- ---- trying the row of k
-  pub path_same : {path : List ℕ} {n : ℕ} → OfRows d path n → (after : List ℕ) → Restored n path after → OfRows d after n
-  path_same is_rows after e =
-      record {
-        within = (let a = is_rows.within in let b = e.long in omega arith);
-        few = is_rows.few;
-        are_rows = subst (λ (l : List ℕ). T (all (λ r. ltb r d.rows) l)) (sym e.rows) is_rows.are_rows;
-      }
-
-  module _ (law : Lawful S) (path : List ℕ) (n : ℕ) (long : length path ≡ 128) (is_rows : OfRows d path n) {m : List ℕ} {left c k : ℕ} (p : Tryable S m left c k (take n path)) (kc : k ≡ c → ⊥) where
+  module _ (law : Lawful S) {rs : List ℕ} (are : AreRows d rs) {m : List ℕ} {left c k : ℕ} (p : Tryable S m left c k rs) (kc : k ≡ c → ⊥) where
     abbrev live : p.w.alive k ≡ true
     live = try_live p.seek p.stand kc
 
@@ -130,10 +121,10 @@ module _ (d : Dims) (work chart : List ℕ) where
           omega arith
 
       -- the row is passed over: the rest of the column from the next node on
-      module _ (shown : List ℕ) (before : Emitted) (sh : Shown d.size (take d.places (scans_part chart)) before.last shown) (b : Bool)
-          (is : b ≡ not before.waiting || shows_row (owned_in (pieces_part chart) d.pieces) shown (row_at work r)) (passed : b ≡ false) where
+      module _ (shown : List ℕ) (before : Emitted) (sh : Shown d.size (take d.places chart.scans) before.last shown) (b : Bool)
+          (is : b ≡ not before.waiting || shows_row (owned_in chart.pieces d.pieces) shown (row_at work r)) (passed : b ≡ false) where
         waits : before.waiting ≡ true
-        waits = go before.waiting (shows_row (owned_in (pieces_part chart) d.pieces) shown (row_at work r)) (sym is ∙ passed)
+        waits = go before.waiting (shows_row (owned_in chart.pieces d.pieces) shown (row_at work r)) (sym is ∙ passed)
           where
             go : (a o : Bool) → not a || o ≡ false → a ≡ true
             go true o e = refl
@@ -142,53 +133,47 @@ module _ (d : Dims) (work chart : List ℕ) where
         hidden : shows_row S.pieces shown (row_of S ((matrix_of S).row k)) ≡ false
         unfolding system_in system_over
         hidden =
-            ap (λ (i : ℕ). shows_row (owned_in (pieces_part chart) d.pieces) shown (row_of S i)) (sym row_is)
-            ∙ ap (shows_row (owned_in (pieces_part chart) d.pieces) shown) (row-stands d work chart r row_below)
-            ∙ sym (ap (λ (a : Bool). not a || shows_row (owned_in (pieces_part chart) d.pieces) shown (row_at work r)) waits) ∙ sym is ∙ passed
+            ap (λ (i : ℕ). shows_row (owned_in chart.pieces d.pieces) shown (row_of S i)) (sym row_is)
+            ∙ ap (shows_row (owned_in chart.pieces d.pieces) shown) (row-stands d work chart r row_below)
+            ∙ sym (ap (λ (a : Bool). not a || shows_row (owned_in chart.pieces d.pieces) shown (row_at work r)) waits) ∙ sym is ∙ passed
 
         pub found_passed : (i : Identify) (capacity : ℕ) {w : Reduced} {uncovered : ℕ → Bool} {copies : ℕ → ℕ} → Seek w uncovered copies d.size left m
             → At w d.size c k → w.t ≡ matrix_of S → (k' : ℕ) → k' ≡ down m k → (end : Emitted)
             → ((w : Reduced) (uncovered : ℕ → Bool) (copies : ℕ → ℕ) (g : ℕ) → Seek w uncovered copies d.size left m → At w d.size c k' → w.t ≡ matrix_of S
-            → left ≤ g → end ≡ emit_all S i capacity (knuth_rows S (take n path) g w copies left c k') before)
-            → (g : ℕ) → left ≤ g → end ≡ emit_all S i capacity (knuth_rows S (take n path) g w copies left c k) before
+            → left ≤ g → end ≡ emit_all S i capacity (knuth_rows S rs g w copies left c k') before)
+            → (g : ℕ) → left ≤ g → end ≡ emit_all S i capacity (knuth_rows S rs g w copies left c k) before
         found_passed i capacity {w} {uncovered} {copies} q st is_t k' ek end rest g h =
             rest w uncovered copies g q (try_at q st kc m refl k' ek) is_t h
             ∙ sym (passed_over S law (to_seek q) is_t (to_at st) p.seek p.stand p.chosen kc i capacity before waits shown (to_shown sh) hidden m refl k' ek g)
 
     module _ (cells : ℕ) (en : cells ≡ end_of m k - first_of m k - 1) where
-      pub path_room : n + 1 ≤ 128
+      pub path_room : length rs < 128
       path_room =
           let a = room_next S p.seek p.chosen live cells (try_sub p.seek p.stand kc cells en) in
-          let b = length-take n path in
-          let e = is_rows.within in
           let f = law.few_cells in
           omega arith
 
-      module _ (r : ℕ) (er : r ≡ row_number m k) where
-        longer : take (n + 1) (set path n r) ≡ take n path ++ (r ∷ [])
-        longer = let a = path_room in take_set_next path n r (omega arith)
+      -- the rows chosen with it
+      module _ (r : ℕ) (er : r ≡ row_number m k) (longer : List ℕ) (is : longer ≡ rs ++ (r ∷ [])) where
+        is_longer : longer ≡ rs ++ ((matrix_of S).row k ∷ [])
+        is_longer = is ∙ ap (λ (i : ℕ). rs ++ (i ∷ [])) (row_is r er)
 
-        is_longer : take (n + 1) (set path n r) ≡ take n path ++ ((matrix_of S).row k ∷ [])
-        is_longer = longer ∙ ap (λ (i : ℕ). take n path ++ (i ∷ [])) (row_is r er)
-
-        pub path_rows : OfRows d (set path n r) (n + 1)
-        path_rows =
-            let a = path_room in
-            record {
-              within = (let b = length-set path n r in omega arith);
-              few = a;
-              are_rows = subst (λ (l : List ℕ). T (all (λ r. ltb r d.rows) l)) (sym longer) (all_of (λ r. ltb r d.rows) (take n path ++ (r ∷ [])) (λ x i. one x i));
-            }
+        pub longer_rows : AreRows d longer
+        longer_rows =
+            rw is (record {
+              few = let a = path_room in let e = length-append rs (r ∷ []) in omega arith;
+              are_rows = all_of (λ r. ltb r d.rows) (rs ++ (r ∷ [])) (λ x i. one x i);
+            })
           where
-            one : (x : ℕ) → Memᴰ x (take n path ++ (r ∷ [])) → T (ltb x d.rows)
+            one : (x : ℕ) → Memᴰ x (rs ++ (r ∷ [])) → T (ltb x d.rows)
             one x i =
-                ⊎_elim (λ (j : Memᴰ x (take n path)). all_at (λ r. ltb r d.rows) (take n path) is_rows.are_rows j)
+                ⊎_elim (λ (j : Memᴰ x rs). all_at (λ r. ltb r d.rows) rs are.are_rows j)
                 (λ (j : Memᴰ x (r ∷ [])). let e = mathlib.Core.List.Memᴰ.eq_of_singleton j in let a = row_below r er in lt→ltb x d.rows (omega arith))
-                (mathlib.Core.List.Memᴰ.append_cases (take n path) i)
+                (mathlib.Core.List.Memᴰ.append_cases rs i)
 
         module _ (m₁ : List ℕ) (g₁ : (w : Reduced) (uncovered : ℕ → Bool) (copies : ℕ → ℕ) (cells left : ℕ) → Seek w uncovered copies cells left m
             → w.alive k ≡ true → m₁ ≡ selected w copies k m) where
-          pub row_choosable : Choosable S m₁ (left - cells) (take (n + 1) (set path n r))
+          pub row_choosable : Choosable S m₁ (left - cells) longer
           row_choosable =
               record {
                 w = reduced_to p.w (first_covered p.w.t p.copies k) (p.w.t.hi k - first_covered p.w.t p.copies k);
@@ -204,24 +189,24 @@ module _ (d : Dims) (work chart : List ℕ) where
           module _ (i : Identify) (capacity : ℕ) {w : Reduced} {uncovered : ℕ → Bool} {copies : ℕ → ℕ} (q : Seek w uncovered copies d.size left m)
               (st : At w d.size c k) (is_t : w.t ≡ matrix_of S) (before after : Emitted)
               (f : (w : Reduced) (uncovered : ℕ → Bool) (copies : ℕ → ℕ) (g : ℕ) → Seek w uncovered copies d.size (left - cells) m₁ → w.t ≡ matrix_of S → left - cells < g
-              → after ≡ emit_all S i capacity (knuth_below S (take (n + 1) (set path n r)) g w copies (left - cells)) before) (g : ℕ) (h : left ≤ g) where
-            pub found_stop : after.further ≡ true → after ≡ emit_all S i capacity (knuth_rows S (take n path) g w copies left c k) before
+              → after ≡ emit_all S i capacity (knuth_below S longer g w copies (left - cells)) before) (g : ℕ) (h : left ≤ g) where
+            pub found_stop : after.further ≡ true → after ≡ emit_all S i capacity (knuth_rows S rs g w copies left c k) before
             found_stop done =
-                stops S i capacity (to_seek q) (take n path) (to_at st) kc cells en m₁ g₁ (take (n + 1) (set path n r)) is_longer is_t before after
+                stops S i capacity (to_seek q) rs (to_at st) kc cells en m₁ g₁ longer is_longer is_t before after
                 (λ w uncovered copies g u. f w uncovered copies g (of_seek u)) done g h
 
-            pub found_on : (m₃ : List ℕ) → m₃ ≡ m → (k' : ℕ) → k' ≡ down m₃ k → (rs : List ℕ) → rs ≡ take n path → (end : Emitted)
+            pub found_on : (m₃ : List ℕ) → m₃ ≡ m → (k' : ℕ) → k' ≡ down m₃ k → (rows : List ℕ) → rows ≡ rs → (end : Emitted)
                 → ((w : Reduced) (uncovered : ℕ → Bool) (copies : ℕ → ℕ) (g : ℕ) → Seek w uncovered copies d.size left m₃ → At w d.size c k'
-                → w.t ≡ matrix_of S → left ≤ g → end ≡ emit_all S i capacity (knuth_rows S rs g w copies left c k') after)
-                → end ≡ emit_all S i capacity (knuth_rows S (take n path) g w copies left c k) before
-            found_on m₃ back k' ek rs same end rest =
-                goes_on S i capacity (to_seek q) (take n path) (to_at st) kc cells en m₁ g₁ (take (n + 1) (set path n r)) is_longer is_t before after
+                → w.t ≡ matrix_of S → left ≤ g → end ≡ emit_all S i capacity (knuth_rows S rows g w copies left c k') after)
+                → end ≡ emit_all S i capacity (knuth_rows S rs g w copies left c k) before
+            found_on m₃ back k' ek rows same end rest =
+                goes_on S i capacity (to_seek q) rs (to_at st) kc cells en m₁ g₁ longer is_longer is_t before after
                 (λ w uncovered copies g u. f w uncovered copies g (of_seek u)) m₃ back k' ek end g h
                 (rest w uncovered copies g (subst (λ (l : List ℕ). Seek w uncovered copies d.size left l) (sym back) q) (try_at q st kc m₃ back k' ek) is_t h
                 ∙ ap (λ (l : List ℕ). emit_all S i capacity (knuth_rows S l g w copies left c k') after) same)
 
-    pub next_tryable : (m₃ : List ℕ) → m₃ ≡ m → (k' : ℕ) → k' ≡ down m₃ k → (rs : List ℕ) → rs ≡ take n path → Tryable S m₃ left c k' rs
-    next_tryable m₃ back k' ek rs same =
+    pub next_tryable : (m₃ : List ℕ) → m₃ ≡ m → (k' : ℕ) → k' ≡ down m₃ k → (rows : List ℕ) → rows ≡ rs → Tryable S m₃ left c k' rows
+    next_tryable m₃ back k' ek rows same =
         record {
           w = p.w;
           uncovered = p.uncovered;

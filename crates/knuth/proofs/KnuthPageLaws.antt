@@ -28,6 +28,7 @@ use Rattle.links.specs.Build.{whole, every_column}
 use Rattle.knuth.specs.Matrix.{link_nodes, matrix_of}
 use Rattle.knuth.specs.Listing.{Choosable, Begun, emit_all, knuth_below, knuth_answers}
 use Rattle.knuth.proofs.KnuthFoundLaws.{nodes_many, found_emits}
+use Rattle.rows.specs.declared.chart.Chart.{Chart}
 
 -- ---- over the system of a tray: how many links there are, and what is listed
 pub links_many : (t : Tray) → length (link_nodes (system_of t)) ≡ link_count (compile t)
@@ -40,7 +41,7 @@ unfolding knuth_answers answers_of listed packings knuth_list start start_by sys
 knuth-answers l ok i = entries_same l ok i (knuth_list (compile (tray_of l))) (knuth_exact (compile (tray_of l)) (W l ok)).only
 
 -- ---- over a system in slices
-module _ (d : Dims) (work chart links : List ℕ) (b : Begun (system_in d work chart) links) where
+module _ (d : Dims) (work : List ℕ) (chart : Chart) (links : List ℕ) (b : Begun (system_in d work chart) links) where
   abbrev S : System
   S = system_in d work chart
 

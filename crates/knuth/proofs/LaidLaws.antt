@@ -1,5 +1,5 @@
 -- Nodes laid behind nodes are laid as one list: each keeps what lies elsewhere. Assumes nothing.
-use Prim.Native.Nat.{ℕ, zero, suc, ◌+◌, ◌-◌, ◌*◌, ◌≤◌, ◌<◌}
+use Prim.Native.Nat.{ℕ, zero, suc, ◌+◌, ◌-◌, ◌≤◌, ◌<◌}
 use mathlib.Core.Bool.{Bool, true, false, not}
 use mathlib.Core.List.{List, [], ◌∷◌, ◌++◌, map, append-nil, map-append}
 use mathlib.Core.Logic.{◌⊎◌, inl, inr}
@@ -10,15 +10,21 @@ use lib.Dec.{T, ltb, ltb→lt, nltb→le}
 use lib.ListN.{length, get_or, set, length-append, length-map, length-set}
 use lib.Seq.{get_or-set_same, get_or-set_other}
 use Rattle.lists.specs.Lists.{cons_if, keep, how_many, below, from}
-use Rattle.lists.proofs.TestLaws.{decide}
+use Rattle.std.specs.Prelude.{count_by}
+use Rattle.std.specs.List.{range_with_len}
+use Rattle.lists.proofs.TestLaws.{decide, by_bool}
 use Rattle.lists.proofs.ListLaws.{keep_append}
 use Rattle.lists.proofs.RangeLaws.{below_next, length_below, from_append}
 use Rattle.lists.proofs.CountLaws.{how_many_length}
 use Rattle.masks.specs.Masks.{has}
 use Rattle.masks.specs.declared.Mask.{Mask}
-use Rattle.rows.specs.Charts.{kinds_part}
+use Rattle.rows.specs.Charts.{kind_copies}
+use Rattle.links.specs.Cover.{bit}
+use Rattle.links.proofs.Tally.{counted_next}
 use Rattle.links.specs.Links.{column_of, first_of, end_of, copies_of, row_number, at_column, at_first, at_end, at_copies, at_row}
-use Rattle.knuth.specs.Matrix.{Node, node_at, nodes_in, head_nodes, row_nodes, Beside, Laid, StockLaid}
+use Rattle.knuth.specs.declared.node.Node.{Node}
+use Rattle.knuth.specs.Matrix.{node_at, nodes_in, head_nodes, row_nodes, Beside, Laid, StockLaid}
+use Rattle.rows.specs.declared.chart.Chart.{Chart}
 
 -- ---- lists
 -- the entries kept below n, and one more
@@ -43,8 +49,18 @@ module _ (p : ℕ → Bool) (n : ℕ) where
   pub count_miss : p n ≡ false → how_many p (below (n + 1)) ≡ how_many p (below n)
   count_miss e = how_many_length p (below (n + 1)) ∙ ap length (keep_miss e) ∙ sym (how_many_length p (below n))
 
+-- a count over a range, as a chain of iterators counts
+counted_step : (p : ℕ → Bool) (n : ℕ) → count_by p (range_with_len 0 n) ≡ how_many p (below n) → count_by p (range_with_len 0 (n + 1)) ≡ how_many p (below (n + 1))
+counted_step p n h =
+    counted_next p n
+    ∙ by_bool (p n) (λ e. omega (arith, h, ap bit e, count_hit p n e)) (λ e. omega (arith, h, ap bit e, count_miss p n e))
+
+pub counted : (p : ℕ → Bool) (n : ℕ) → count_by p (range_with_len 0 n) ≡ how_many p (below n)
+counted p zero = refl
+counted p (suc n) = rw (add-one n) at (counted_step p n (counted p n))
+
 -- ---- one node
-node_same : {a b c d e f g h : ℕ} → a ≡ e → b ≡ f → c ≡ g → d ≡ h → ◌≡◌ {A = Node} (record { col = a; lo = b; hi = c; row = d }) (record { col = e; lo = f; hi = g; row = h })
+node_same : {a b c d e f g h : ℕ} → a ≡ e → b ≡ f → c ≡ g → d ≡ h → ◌≡◌ {A = Node} (record { column = a; first = b; end = c; row = d }) (record { column = e; first = f; end = g; row = h })
 node_same p q r s = cc
 
 -- a node is as it was where its four fields are
@@ -91,7 +107,7 @@ module _ (m : List ℕ) (x col lo hi row : ℕ) where
         get_or-set_same m3 (at_row x) row 0
         (let a = length-set m (at_column x) col in let b = length-set m1 (at_first x) lo in let c = length-set m2 (at_end x) hi in omega arith)
 
-    pub laid_one : Laid m x put_node (record { col = col; lo = lo; hi = hi; row = row } ∷ [])
+    pub laid_one : Laid m x put_node (record { column = col; first = lo; end = hi; row = row } ∷ [])
     unfolding nodes_in node_at
     laid_one =
         record {
@@ -130,9 +146,6 @@ beside_part x n z k i g h s =
 pub beside_copies : (x n j : ℕ) → Beside x n (at_copies j)
 beside_copies x n j = record { column = λ y a b e. omega arith; first = λ y a b e. omega arith; end = λ y a b e. omega arith; row = λ y a b e. omega arith }
 
-pub beside_behind : (x n i : ℕ) → x + n ≤ 4096 → 32768 ≤ i → Beside x n i
-beside_behind x n i g h = record { column = λ y a b e. omega arith; first = λ y a b e. omega arith; end = λ y a b e. omega arith; row = λ y a b e. omega arith }
-
 -- a node before those that are laid stays
 before_stays : (b c : List ℕ) (z : ℕ) (ms : List Node) → Laid b z c ms → (y : ℕ) → y < z → node_at c y ≡ node_at b y
 before_stays b c z ms q y h =
@@ -161,7 +174,7 @@ module _ (a b c : List ℕ) (x z : ℕ) (ns ms : List Node) (at : z ≡ x + leng
 
 -- ---- heads
 abbrev head_node : ℕ → Node
-head_node j = record { col = j; lo = j; hi = suc j; row = 0 }
+head_node j = record { column = j; first = j; end = suc j; row = 0 }
 
 pub heads_length : (n : ℕ) → length (head_nodes n) ≡ n
 unfolding head_nodes
@@ -175,17 +188,17 @@ pub heads_none : (m : List ℕ) (j : ℕ) → j ≡ 0 → Laid m 0 m (head_nodes
 unfolding head_nodes
 heads_none m j e = subst (λ (k : ℕ). Laid m 0 m (map head_node (below k))) (sym e) (laid_none m 0)
 
-pub heads_more : (a b c : List ℕ) (j : ℕ) → Laid a 0 b (head_nodes j) → Laid b j c (record { col = j; lo = j; hi = j + 1; row = 0 } ∷ []) → Laid a 0 c (head_nodes (j + 1))
+pub heads_more : (a b c : List ℕ) (j : ℕ) → Laid a 0 b (head_nodes j) → Laid b j c (record { column = j; first = j; end = j + 1; row = 0 } ∷ []) → Laid a 0 c (head_nodes (j + 1))
 heads_more a b c j p q =
     let l = heads_length j in
-    let e : head_nodes j ++ (record { col = j; lo = j; hi = j + 1; row = 0 } ∷ []) ≡ head_nodes (j + 1) =
-    ap (λ (k : ℕ). head_nodes j ++ (record { col = j; lo = j; hi = k; row = 0 } ∷ [])) (add-one j) ∙ sym (heads_next j) in
-    subst (Laid a 0 c) e (laid_more a b c 0 j (head_nodes j) (record { col = j; lo = j; hi = j + 1; row = 0 } ∷ []) (omega arith) p q)
+    let e : head_nodes j ++ (record { column = j; first = j; end = j + 1; row = 0 } ∷ []) ≡ head_nodes (j + 1) =
+    ap (λ (k : ℕ). head_nodes j ++ (record { column = j; first = j; end = k; row = 0 } ∷ [])) (add-one j) ∙ sym (heads_next j) in
+    subst (Laid a 0 c) e (laid_more a b c 0 j (head_nodes j) (record { column = j; first = j; end = j + 1; row = 0 } ∷ []) (omega arith) p q)
 
 -- ---- cells
 module _ (p : ℕ → Bool) (first end row : ℕ) where
   abbrev cell_node : ℕ → Node
-  cell_node c = record { col = c; lo = first; hi = end; row = row }
+  cell_node c = record { column = c; first = first; end = end; row = row }
 
   abbrev pub cell_nodes : ℕ → List Node
   cell_nodes n = map cell_node (keep p (below n))
@@ -212,27 +225,27 @@ module _ (n x r : ℕ) (mask here : Mask) (m-is : here ≡ mask) (kind k count e
   row_size = let e = size_is in omega arith
 
   abbrev nodes_with : ℕ → Mask → ℕ → List Node
-  nodes_with j m z = map (λ c. record { col = c; lo = x; hi = z; row = r }) ((n + j) ∷ keep (has m) (below n))
+  nodes_with j m z = map (λ c. record { column = c; first = x; end = z; row = r }) ((n + j) ∷ keep (has m) (below n))
 
-  pub row_laid : (a b c : List ℕ) → Laid a x b (record { col = n + k; lo = x; hi = end; row = r } ∷ []) → Laid b (x + 1) c (cell_nodes (has here) x end r n)
+  pub row_laid : (a b c : List ℕ) → Laid a x b (record { column = n + k; first = x; end = end; row = r } ∷ []) → Laid b (x + 1) c (cell_nodes (has here) x end r n)
       → Laid a x c (row_nodes n x r kind (keep (has mask) (below n)))
   unfolding row_nodes
   row_laid a b c q s =
       let z : end ≡ x + suc (length (keep (has mask) (below n))) = let e = size_is in let l = how_many_length (has mask) (below n) in omega arith in
       subst (Laid a x c) (ap (λ (j : ℕ). nodes_with j here end) k-is ∙ ap (λ (m : Mask). nodes_with kind m end) m-is ∙ ap (nodes_with kind mask) z)
-      (laid_more a b c x (x + 1) (record { col = n + k; lo = x; hi = end; row = r } ∷ []) (cell_nodes (has here) x end r n) refl q s)
+      (laid_more a b c x (x + 1) (record { column = n + k; first = x; end = end; row = r } ∷ []) (cell_nodes (has here) x end r n) refl q s)
 
 -- ---- copies
 -- those of the columns below j
-pub record StockTo (old new : List ℕ) (size j : ℕ) (chart : List ℕ) : Type 0 where
+pub record StockTo (old new : List ℕ) (size j : ℕ) (chart : Chart) : Type 0 where
   pub cells : (i : ℕ) → i < size → i < j → copies_of new i ≡ 0
-  pub copies : (k : ℕ) → size + k < j → copies_of new (size + k) ≡ get_or (kinds_part chart) (3 * k) 0
+  pub copies : (k : ℕ) → size + k < j → copies_of new (size + k) ≡ kind_copies chart.kinds k
   pub others : (i : ℕ) → ((k : ℕ) → k < j → i ≡ at_copies k → ⊥) → get_or new i 0 ≡ get_or old i 0
 
-pub stock_none : (m : List ℕ) (size j : ℕ) (chart : List ℕ) → j ≡ 0 → StockTo m m size j chart
+pub stock_none : (m : List ℕ) (size j : ℕ) (chart : Chart) → j ≡ 0 → StockTo m m size j chart
 stock_none m size j chart e = record { cells = λ i h k. absurd (omega arith); copies = λ k h. absurd (omega arith); others = λ i h. refl }
 
-module _ (old m : List ℕ) (size j v : ℕ) (chart : List ℕ) (st : StockTo old m size j chart) (long : at_copies j < length m) where
+module _ (old m : List ℕ) (size j v : ℕ) (chart : Chart) (st : StockTo old m size j chart) (long : at_copies j < length m) where
   abbrev new : List ℕ
   new = set m (at_copies j) v
 
@@ -245,7 +258,7 @@ module _ (old m : List ℕ) (size j v : ℕ) (chart : List ℕ) (st : StockTo ol
   rest : (i : ℕ) → ((k : ℕ) → k < j + 1 → i ≡ at_copies k → ⊥) → get_or new i 0 ≡ get_or old i 0
   rest i h = get_or-set_other m (at_copies j) i v 0 (h j (omega arith)) ∙ st.others i (λ k l. h k (omega arith))
 
-  module _ (is-cell : j < size → v ≡ 0) (is-kind : (k : ℕ) → size + k ≡ j → v ≡ get_or (kinds_part chart) (3 * k) 0) where
+  module _ (is-cell : j < size → v ≡ 0) (is-kind : (k : ℕ) → size + k ≡ j → v ≡ kind_copies chart.kinds k) where
     cell_now : (i : ℕ) → i < size → i < j + 1 → copies_of new i ≡ 0
     cell_now i h k = go (decide (ltb i j))
       where
@@ -253,10 +266,10 @@ module _ (old m : List ℕ) (size j v : ℕ) (chart : List ℕ) (st : StockTo ol
         go (inl t) = let l = ltb→lt i j t in there i (λ e. omega arith) ∙ st.cells i h l
         go (inr t) = let l = nltb→le i j t in let e : i ≡ j = omega arith in here i e ∙ is-cell (omega arith)
 
-    kind_now : (k : ℕ) → size + k < j + 1 → copies_of new (size + k) ≡ get_or (kinds_part chart) (3 * k) 0
+    kind_now : (k : ℕ) → size + k < j + 1 → copies_of new (size + k) ≡ kind_copies chart.kinds k
     kind_now k h = go (decide (ltb (size + k) j))
       where
-        go : T (ltb (size + k) j) ⊎ T (not (ltb (size + k) j)) → copies_of new (size + k) ≡ get_or (kinds_part chart) (3 * k) 0
+        go : T (ltb (size + k) j) ⊎ T (not (ltb (size + k) j)) → copies_of new (size + k) ≡ kind_copies chart.kinds k
         go (inl t) = let l = ltb→lt (size + k) j t in there (size + k) (λ e. omega arith) ∙ st.copies k l
         go (inr t) = let l = nltb→le (size + k) j t in let e : size + k ≡ j = omega arith in here (size + k) e ∙ is-kind k e
 
@@ -266,11 +279,11 @@ module _ (old m : List ℕ) (size j v : ℕ) (chart : List ℕ) (st : StockTo ol
   pub stock_cell : j < size → v ≡ 0 → StockTo old new size (j + 1) chart
   stock_cell h e = stock_more (λ k. e) (λ k q. absurd (omega arith))
 
-  pub stock_kind : size ≤ j → v ≡ get_or (kinds_part chart) (3 * (j - size)) 0 → StockTo old new size (j + 1) chart
+  pub stock_kind : size ≤ j → v ≡ kind_copies chart.kinds (j - size) → StockTo old new size (j + 1) chart
   stock_kind h e =
-      stock_more (λ k. absurd (omega arith)) (λ k q. let z : j - size ≡ k = omega arith in e ∙ ap (λ (i : ℕ). get_or (kinds_part chart) (3 * i) 0) z)
+      stock_more (λ k. absurd (omega arith)) (λ k q. let z : j - size ≡ k = omega arith in e ∙ ap (λ (i : ℕ). kind_copies chart.kinds i) z)
 
-pub stock_all : (old new : List ℕ) (size n j : ℕ) (chart : List ℕ) → j ≡ size + n → StockTo old new size j chart → StockLaid old new size n chart
+pub stock_all : (old new : List ℕ) (size n j : ℕ) (chart : Chart) → j ≡ size + n → StockTo old new size j chart → StockLaid old new size n chart
 stock_all old new size n j chart e st =
     record {
       cells = λ i h. st.cells i h (omega arith);

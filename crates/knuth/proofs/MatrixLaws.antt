@@ -21,19 +21,20 @@ use Rattle.rows.specs.Lawful.{Lawful, LawfulRow}
 use Rattle.kept.specs.Normal.{row_of}
 use Rattle.links.specs.Links.{LawfulMatrix}
 use Rattle.links.specs.Search.{Shape}
-use Rattle.knuth.specs.Matrix.{Node, head_nodes, row_nodes, nodes_from, stocked_rows, columns, link_nodes, matrix_of}
+use Rattle.knuth.specs.declared.node.Node.{Node}
+use Rattle.knuth.specs.Matrix.{head_nodes, row_nodes, nodes_from, stocked_rows, columns, link_nodes, matrix_of}
 use Rattle.kept.proofs.NormalRowLaws.{row_of_in}
 
 -- ---- the nodes of rows, one row behind the other
 abbrev pub no_node : Node
-no_node = record { col = 0; lo = 0; hi = 0; row = 0 }
+no_node = record { column = 0; first = 0; end = 0; row = 0 }
 
 abbrev pub cells_at : System → ℕ → List ℕ
 cells_at s r = (row_of s r).cells
 
 -- node k of row r, whose first node is b
 abbrev node_in : System → ℕ → ℕ → ℕ → Node
-node_in s b r k = record { col = get_or ((s.size + (row_of s r).kind) ∷ cells_at s r) k 0; lo = b; hi = b + suc (length (cells_at s r)); row = r }
+node_in s b r k = record { column = get_or ((s.size + (row_of s r).kind) ∷ cells_at s r) k 0; first = b; end = b + suc (length (cells_at s r)); row = r }
 
 -- the row of node x, among rows that stand from `first` to `end`
 record Block (s : System) (at : ℕ → Node) (rs : List ℕ) (first end x : ℕ) : Type 0 where
@@ -56,12 +57,12 @@ module _ (s : System) (at : ℕ → Node) where
 
   first_row_length : (x r : ℕ) → length (first_row x r) ≡ suc (length (cells_at s r))
   unfolding row_nodes
-  first_row_length x r = ap suc (length-map (cells_at s r) (λ c. record { col = c; lo = x; hi = x + suc (length (cells_at s r)); row = r }))
+  first_row_length x r = ap suc (length-map (cells_at s r) (λ c. record { column = c; first = x; end = x + suc (length (cells_at s r)); row = r }))
 
   first_row_at : (x r k : ℕ) → k < suc (length (cells_at s r)) → get_or (first_row x r) k no_node ≡ node_in s x r k
   unfolding row_nodes
   first_row_at x r k h =
-      get_or_map 0 no_node (λ c. record { col = c; lo = x; hi = x + suc (length (cells_at s r)); row = r }) ((s.size + (row_of s r).kind) ∷ cells_at s r) k h
+      get_or_map 0 no_node (λ c. record { column = c; first = x; end = x + suc (length (cells_at s r)); row = r }) ((s.size + (row_of s r).kind) ∷ cells_at s r) k h
 
   abbrev after : ℕ → ℕ → ℕ
   after x r = x + suc (length (cells_at s r))
@@ -119,7 +120,7 @@ module _ (s : System) (at : ℕ → Node) where
 
   -- a later node is of the same row or of a later one
   rises : (x : ℕ) (rs : List ℕ) → Holds x (nodes_from s x rs) → T (ascending ltb rs)
-      → (y z : ℕ) → x ≤ y → y < z → z < x + length (nodes_from s x rs) → ((at y).lo ≡ (at z).lo) ⊎ ((at y).row < (at z).row)
+      → (y z : ℕ) → x ≤ y → y < z → z < x + length (nodes_from s x rs) → ((at y).first ≡ (at z).first) ⊎ ((at y).row < (at z).row)
   rises x [] h t y z a b d = absurd (omega arith)
   rises x (r ∷ rs) h t y z a b d =
       go (decide (ltb y (after x r))) (decide (ltb z (after x r))) (rises (after x r) rs (rest_holds x r rs h) (and_right (all (ltb r) rs) (ascending ltb rs) t) y z)
@@ -137,9 +138,9 @@ module _ (s : System) (at : ℕ → Node) where
           omega arith
 
       go : T (ltb y (after x r)) ⊎ T (not (ltb y (after x r))) → T (ltb z (after x r)) ⊎ T (not (ltb z (after x r)))
-          → (after x r ≤ y → y < z → z < after x r + length (nodes_from s (after x r) rs) → ((at y).lo ≡ (at z).lo) ⊎ ((at y).row < (at z).row))
-          → ((at y).lo ≡ (at z).lo) ⊎ ((at y).row < (at z).row)
-      go (inl u) (inl v) f = inl (ap (λ (n : Node). n.lo) (mine y a u) ∙ sym (ap (λ (n : Node). n.lo) (mine z (omega arith) v)))
+          → (after x r ≤ y → y < z → z < after x r + length (nodes_from s (after x r) rs) → ((at y).first ≡ (at z).first) ⊎ ((at y).row < (at z).row))
+          → ((at y).first ≡ (at z).first) ⊎ ((at y).row < (at z).row)
+      go (inl u) (inl v) f = inl (ap (λ (n : Node). n.first) (mine y a u) ∙ sym (ap (λ (n : Node). n.first) (mine z (omega arith) v)))
       go (inl u) (inr v) f =
           let e = end_is in
           inr (ahead y z (ap (λ (n : Node). n.row) (mine y a u)) (blocks (after x r) rs (rest_holds x r rs h) z (nltb→le z (after x r) v) (omega arith)))
@@ -147,18 +148,18 @@ module _ (s : System) (at : ℕ → Node) where
 
   -- each row has a first node
   first_of : (x : ℕ) (rs : List ℕ) → Holds x (nodes_from s x rs) → {r : ℕ} → Memᴰ r rs
-      → (y : ℕ) × (x ≤ y) × (y < x + length (nodes_from s x rs)) × ((at y).lo ≡ y) × ((at y).row ≡ r)
+      → (y : ℕ) × (x ≤ y) × (y < x + length (nodes_from s x rs)) × ((at y).first ≡ y) × ((at y).row ≡ r)
   first_of x [] h m = absurd (Memᴰ.not-nil m)
   first_of x (q ∷ rs) h {r} m = go (Memᴰ.cases_cons m) (λ (k : Memᴰ r rs). first_of (after x q) rs (rest_holds x q rs h) k)
     where
       go : (r ≡ q) ⊎ Memᴰ r rs
-          → (Memᴰ r rs → (y : ℕ) × (after x q ≤ y) × (y < after x q + length (nodes_from s (after x q) rs)) × ((at y).lo ≡ y) × ((at y).row ≡ r))
-          → (y : ℕ) × (x ≤ y) × (y < x + length (first_row x q ++ nodes_from s (after x q) rs)) × ((at y).lo ≡ y) × ((at y).row ≡ r)
+          → (Memᴰ r rs → (y : ℕ) × (after x q ≤ y) × (y < after x q + length (nodes_from s (after x q) rs)) × ((at y).first ≡ y) × ((at y).row ≡ r))
+          → (y : ℕ) × (x ≤ y) × (y < x + length (first_row x q ++ nodes_from s (after x q) rs)) × ((at y).first ≡ y) × ((at y).row ≡ r)
       go (inl e) f =
           let l = all_length x q rs h in
           let z : x ≡ x + 0 = omega arith in
           let n : at x ≡ node_in s x q 0 = ap at z ∙ first_node x q rs h 0 (omega arith) in
-          (x, omega arith, omega arith, ap (λ (i : Node). i.lo) n, ap (λ (i : Node). i.row) n ∙ sym e)
+          (x, omega arith, omega arith, ap (λ (i : Node). i.first) n, ap (λ (i : Node). i.row) n ∙ sym e)
       go (inr k) f =
           let l = all_length x q rs h in
           let g = f k in
@@ -183,17 +184,17 @@ module _ (s : System) where
   abbrev node_at : ℕ → Node
   node_at x = get_or (link_nodes s) x no_node
 
-  col_is : (x : ℕ) → (matrix_of s).col x ≡ (node_at x).col
+  col_is : (x : ℕ) → (matrix_of s).col x ≡ (node_at x).column
   unfolding matrix_of
-  col_is x = ListN.get_or-map (λ (n : Node). n.col) (link_nodes s) x no_node
+  col_is x = ListN.get_or-map (λ (n : Node). n.column) (link_nodes s) x no_node
 
-  lo_is : (x : ℕ) → (matrix_of s).lo x ≡ (node_at x).lo
+  lo_is : (x : ℕ) → (matrix_of s).lo x ≡ (node_at x).first
   unfolding matrix_of
-  lo_is x = ListN.get_or-map (λ (n : Node). n.lo) (link_nodes s) x no_node
+  lo_is x = ListN.get_or-map (λ (n : Node). n.first) (link_nodes s) x no_node
 
-  hi_is : (x : ℕ) → (matrix_of s).hi x ≡ (node_at x).hi
+  hi_is : (x : ℕ) → (matrix_of s).hi x ≡ (node_at x).end
   unfolding matrix_of
-  hi_is x = ListN.get_or-map (λ (n : Node). n.hi) (link_nodes s) x no_node
+  hi_is x = ListN.get_or-map (λ (n : Node). n.end) (link_nodes s) x no_node
 
   row_is : (x : ℕ) → (matrix_of s).row x ≡ (node_at x).row
   unfolding matrix_of
@@ -201,7 +202,7 @@ module _ (s : System) where
 
   heads_length : length (head_nodes (columns s)) ≡ columns s
   unfolding head_nodes
-  heads_length = length-map (below (columns s)) (λ j. record { col = j; lo = j; hi = suc j; row = 0 }) ∙ length_below (columns s)
+  heads_length = length-map (below (columns s)) (λ j. record { column = j; first = j; end = suc j; row = 0 }) ∙ length_below (columns s)
 
   abbrev body : List Node
   body = nodes_from s (columns s) (stocked_rows s)
@@ -220,8 +221,8 @@ module _ (s : System) where
       let l = heads_length in
       let b = length_below (columns s) in
       let e : get_or (below (columns s)) x 0 ≡ 0 + x = get_or_number 0 (columns s) x 0 h in
-      col_is x ∙ ap (λ (n : Node). n.col) (get_or-append (head_nodes (columns s)) body no_node x (omega arith)
-      ∙ get_or_map 0 no_node (λ j. record { col = j; lo = j; hi = suc j; row = 0 }) (below (columns s)) x (omega arith))
+      col_is x ∙ ap (λ (n : Node). n.column) (get_or-append (head_nodes (columns s)) body no_node x (omega arith)
+      ∙ get_or_map 0 no_node (λ j. record { column = j; first = j; end = suc j; row = 0 }) (below (columns s)) x (omega arith))
       ∙ (let z : get_or (below (columns s)) x 0 ≡ x = omega arith in z)
 
   body_holds : Holds s node_at (columns s) body
@@ -246,16 +247,16 @@ module _ (s : System) where
     in_block y u v = let e : y ≡ b + (y - b) = omega arith in ap node_at e ∙ node (y - b) (omega arith)
 
     lo_y : (y : ℕ) → b ≤ y → y < b + suc (length (cells_at s r)) → (matrix_of s).lo y ≡ b
-    lo_y y u v = lo_is y ∙ ap (λ (n : Node). n.lo) (in_block y u v)
+    lo_y y u v = lo_is y ∙ ap (λ (n : Node). n.first) (in_block y u v)
 
     hi_y : (y : ℕ) → b ≤ y → y < b + suc (length (cells_at s r)) → (matrix_of s).hi y ≡ b + suc (length (cells_at s r))
-    hi_y y u v = hi_is y ∙ ap (λ (n : Node). n.hi) (in_block y u v)
+    hi_y y u v = hi_is y ∙ ap (λ (n : Node). n.end) (in_block y u v)
 
     row_y : (y : ℕ) → b ≤ y → y < b + suc (length (cells_at s r)) → (matrix_of s).row y ≡ r
     row_y y u v = row_is y ∙ ap (λ (n : Node). n.row) (in_block y u v)
 
     col_k : (k : ℕ) → k < suc (length (cells_at s r)) → (matrix_of s).col (b + k) ≡ get_or ((s.size + (row_of s r).kind) ∷ cells_at s r) k 0
-    col_k k h = col_is (b + k) ∙ ap (λ (n : Node). n.col) (node k h)
+    col_k k h = col_is (b + k) ∙ ap (λ (n : Node). n.column) (node k h)
 
     first_col : (matrix_of s).col b ≡ s.size + (row_of s r).kind
     first_col = let e : b ≡ b + 0 = omega arith in ap (matrix_of s).col e ∙ col_k 0 (omega arith)
@@ -285,7 +286,7 @@ module _ (s : System) where
   pub row_later : (x y : ℕ) → columns s ≤ x → x < y → y < (matrix_of s).nodes → ((matrix_of s).lo x ≡ (matrix_of s).lo y) ⊎ ((matrix_of s).row x < (matrix_of s).row y)
   row_later x y a h d = go (rises s node_at (columns s) (stocked_rows s) body_holds stocked_up x y a h (let e = nodes_are in omega arith))
     where
-      go : ((node_at x).lo ≡ (node_at y).lo) ⊎ ((node_at x).row < (node_at y).row) → ((matrix_of s).lo x ≡ (matrix_of s).lo y) ⊎ ((matrix_of s).row x < (matrix_of s).row y)
+      go : ((node_at x).first ≡ (node_at y).first) ⊎ ((node_at x).row < (node_at y).row) → ((matrix_of s).lo x ≡ (matrix_of s).lo y) ⊎ ((matrix_of s).row x < (matrix_of s).row y)
       go (inl e) = inl (lo_is x ∙ e ∙ sym (lo_is y))
       go (inr l) = let f = row_is x in let g = row_is y in inr (omega arith)
 

@@ -1,25 +1,20 @@
 -- The links of a row system as a matrix of nodes.
-use Rattle.std.specs.Prelude.{ℕ, suc, ◌+◌, ◌*◌, ◌≤◌, ◌<◌, List, [], ◌∷◌, ◌++◌, map, ◌≡◌, ltb, length, get_or}
+use Rattle.std.specs.Prelude.{ℕ, suc, ◌+◌, ◌≤◌, ◌<◌, List, [], ◌∷◌, ◌++◌, map, ◌≡◌, ltb, length, get_or}
 use Rattle.lists.specs.Lists.{keep, below, from}
-use Rattle.rows.specs.Charts.{kinds_part}
+use Rattle.rows.specs.Charts.{kind_copies}
 use Rattle.rows.specs.Systems.{System}
 use Rattle.kept.specs.Normal.{row_of}
+use Rattle.knuth.specs.declared.node.Node.{Node}
 use Rattle.links.specs.Links.{column_of, first_of, end_of, copies_of, row_number, at_column, at_first, at_end, at_copies, at_row, Matrix}
-
--- what of a node never changes: its column, the first node of its row and the one behind the row's last, and the row's number
-pub record Node : Type 0 where
-  pub col : ℕ
-  pub lo : ℕ
-  pub hi : ℕ
-  pub row : ℕ
+use Rattle.rows.specs.declared.chart.Chart.{Chart}
 
 -- the heads of columns: cells, then kinds
 unfoldable pub head_nodes : ℕ → List Node
-head_nodes n = map (λ j. record { col = j; lo = j; hi = suc j; row = 0 }) (below n)
+head_nodes n = map (λ j. record { column = j; first = j; end = suc j; row = 0 }) (below n)
 
 -- the nodes of row r from node x on: one for its kind, one for each cell
 unfoldable pub row_nodes : ℕ → ℕ → ℕ → ℕ → List ℕ → List Node
-row_nodes size x r kind cells = map (λ c. record { col = c; lo = x; hi = x + suc (length cells); row = r }) ((size + kind) ∷ cells)
+row_nodes size x r kind cells = map (λ c. record { column = c; first = x; end = x + suc (length cells); row = r }) ((size + kind) ∷ cells)
 
 abbrev pub nodes_from : System → ℕ → List ℕ → List Node
 nodes_from s x [] = []
@@ -41,15 +36,15 @@ matrix_of s =
     record {
       nodes = length ns;
       cols = columns s;
-      col = λ x. get_or (map (λ n. n.col) ns) x 0;
-      lo = λ x. get_or (map (λ n. n.lo) ns) x 0;
-      hi = λ x. get_or (map (λ n. n.hi) ns) x 0;
+      col = λ x. get_or (map (λ n. n.column) ns) x 0;
+      lo = λ x. get_or (map (λ n. n.first) ns) x 0;
+      hi = λ x. get_or (map (λ n. n.end) ns) x 0;
       row = λ x. get_or (map (λ n. n.row) ns) x 0;
     }
 
 -- ---- nodes in links
 unfoldable pub node_at : List ℕ → ℕ → Node
-node_at links x = record { col = column_of links x; lo = first_of links x; hi = end_of links x; row = row_number links x }
+node_at links x = record { column = column_of links x; first = first_of links x; end = end_of links x; row = row_number links x }
 
 unfoldable pub nodes_in : List ℕ → ℕ → ℕ → List Node
 nodes_in links x n = map (node_at links) (from x n)
@@ -67,7 +62,7 @@ pub record Laid (old : List ℕ) (x : ℕ) (new : List ℕ) (ns : List Node) : T
   pub others : (i : ℕ) → Beside x (length ns) i → get_or new i 0 ≡ get_or old i 0
 
 -- the copies of kinds, by their columns; none for the columns of cells; every other number is as it was
-pub record StockLaid (old new : List ℕ) (size n : ℕ) (chart : List ℕ) : Type 0 where
+pub record StockLaid (old new : List ℕ) (size n : ℕ) (chart : Chart) : Type 0 where
   pub cells : (j : ℕ) → j < size → copies_of new j ≡ 0
-  pub copies : (k : ℕ) → k < n → copies_of new (size + k) ≡ get_or (kinds_part chart) (3 * k) 0
+  pub copies : (k : ℕ) → k < n → copies_of new (size + k) ≡ kind_copies chart.kinds k
   pub others : (i : ℕ) → ((j : ℕ) → j < size + n → i ≡ at_copies j → ⊥) → get_or new i 0 ≡ get_or old i 0

@@ -5,4 +5,6 @@
 
 mod building;
 pub mod listing;
+mod node;
+mod path;
 mod search;

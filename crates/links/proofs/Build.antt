@@ -245,7 +245,6 @@ module _ {t : Matrix} (law : LawfulMatrix t) {m : List ℕ} {x : ℕ} (p : Parti
   pub partial_joinable : Joinable m x
   partial_joinable =
       record {
-        long = p.fields.long;
         small = omega (arith, law.small);
         column = omega (arith, col_is, k_less, law.small);
         last = rw col_is (omega (arith, last_less, law.small));
@@ -404,34 +403,6 @@ module _ {t : Matrix} (law : LawfulMatrix t) where
 pub link_last_length : (m : List ℕ) (x : ℕ) → length (link_last m x) ≡ length m
 unfolding link_last inserted
 link_last_length m x = inc_length (inserted m x (column_of m x) (up m (column_of m x))) (column_of m x) ∙ simp length-set
-
--- ---- what `link_last` asks, and what it comes to
-
-module _ {m : List ℕ} {x : ℕ} (j : Joinable m x) (c u : ℕ) (ec : c ≡ column_of m x) (eu : u ≡ up m c) where
-  u_at : u ≡ up m (column_of m x)
-  u_at = eu ∙ ap (λ (i : ℕ). up m i) ec
-
-  pub last_join : (32768 ≤ length m) × ((x < 4096) × (c < 4096) × (u < 4096))
-  last_join = (j.long, omega (arith, j.small, j.column, j.last, ec, u_at))
-
-  module _ (m' : List ℕ) (g : m' ≡ inserted m x c u) where
-    inserted_size : size_of m' c ≡ size_of m c
-    inserted_size =
-        let s = last_join.1 in
-        rw g (inserted_beside m x c u s.0 s.1 s.2 (at_size c) (λ y l e. omega arith) (λ y l e. omega arith))
-
-    inserted_len : length m' ≡ length m
-    unfolding inserted
-    inserted_len = rw g (simp length-set)
-
-    pub last_count : (32768 ≤ length m') × ((c < 4096) × (size_of m' c < 4096))
-    last_count = (omega (arith, inserted_len, j.long), (omega (arith, j.column, ec), omega (arith, inserted_size, j.few, ap (λ (i : ℕ). size_of m i) ec)))
-
-    pub last_is : (m'' : List ℕ) → m'' ≡ inc m' c → m'' ≡ link_last m x
-    unfolding link_last
-    last_is m'' h =
-        h ∙ ap (λ (l : List ℕ). inc l c) (g ∙ ap (λ (i : ℕ). inserted m x c i) u_at)
-        ∙ ap (λ (i : ℕ). inc (inserted m x i (up m (column_of m x))) i) ec
 
 pub headed_len : (m : List ℕ) (i : ℕ) → length (headed m i) ≡ length m
 unfolding headed

@@ -1,43 +1,14 @@
 -- A copy of a kind, taken and given back, changes one number that is no link and no count, so rings and counts stay as they are. Assumes nothing.
-use mathlib.Core.Bool.{cond}
-use Prim.Native.Nat.{ℕ, ◌+◌, ◌-◌, ◌≤◌, ◌<◌}
+use Prim.Native.Nat.{ℕ, ◌-◌, ◌≤◌, ◌<◌}
 use native.Mathlib.Omega.{arith}
-use mathlib.Core.Path.{◌≡◌, refl, sym, ap, ◌∙◌}
+use mathlib.Core.Path.{◌≡◌, refl, ap, ◌∙◌}
 use mathlib.Core.List.{List}
 use lib.ListN.{length, get_or, set, length-set}
 use lib.Seq.{get_or-set_same, get_or-set_other, set-set, set-get_or}
-use lib.Dec.{eqb}
-use Rattle.lists.proofs.TestLaws.{cond_same, cond_other}
-use Rattle.links.specs.Links.{column_of, copies_of, at_up, at_down, at_column, at_first, at_end, at_size, at_copies, at_row}
+use Rattle.links.specs.Links.{copies_of, at_up, at_down, at_column, at_first, at_end, at_size, at_copies, at_row}
 use Rattle.links.specs.Cover.{Reduced, Holds}
-use Rattle.links.specs.Search.{spent, regained, Takes, Gives}
+use Rattle.links.specs.Search.{spent, regained}
 use Rattle.links.proofs.Rings.{rings_agree}
-
--- ---- `take_copy` and `give_copy`
-
-module _ {m : List ℕ} {x : ℕ} (o : Takes m x) (j : ℕ) (e : j ≡ column_of m x) where
-  pub takes_some : 1 ≤ copies_of m j
-  takes_some = rw e o.some
-
-  pub takes_spent : set m (at_copies j) (copies_of m j - 1) ≡ spent m (column_of m x)
-  unfolding spent
-  takes_spent = ap (λ (i : ℕ). set m (at_copies i) (copies_of m i - 1)) e
-
-  pub takes_last : copies_of m j ≡ 1 → x ≡ cond (eqb (copies_of m (column_of m x)) 1) x (x + 1)
-  takes_last h = sym (cond_same (copies_of m (column_of m x)) 1 x (x + 1) (ap (λ (i : ℕ). copies_of m i) (sym e) ∙ h))
-
-  pub takes_more : (copies_of m j ≡ 1 → ⊥) → x + 1 ≡ cond (eqb (copies_of m (column_of m x)) 1) x (x + 1)
-  takes_more h = sym (cond_other (copies_of m (column_of m x)) 1 x (x + 1) (λ q. h (ap (λ (i : ℕ). copies_of m i) e ∙ q)))
-
-module _ {m : List ℕ} {x : ℕ} (o : Gives m x) (j : ℕ) (e : j ≡ column_of m x) where
-  pub gives_few : copies_of m j < 4096
-  gives_few = rw e o.few
-
-  pub gives_regained : set m (at_copies j) (copies_of m j + 1) ≡ regained m (column_of m x)
-  unfolding regained
-  gives_regained = ap (λ (i : ℕ). set m (at_copies i) (copies_of m i + 1)) e
-
--- ---- what they leave as it is
 
 pub spent_length : (m : List ℕ) (j : ℕ) → length (spent m j) ≡ length m
 unfolding spent

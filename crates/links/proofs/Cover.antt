@@ -8,7 +8,7 @@ use lib.ListN.{length, get_or}
 use lib.Dec.{eqb}
 use Rattle.lists.proofs.TestLaws.{by_eq, by_bool, by_order, not_true, not_both, cond_true, cond_false, cond_same, cond_other, at_cond}
 use Rattle.links.specs.Links.{up, down, Still}
-use Rattle.links.specs.Cover.{hide, active_to, here, less_row, Consistent, Reduced, Holds, Hidable, Hidden, cover_to, alive_to, actives_to, cover, Open, Covered}
+use Rattle.links.specs.Cover.{hide, active_to, here, less_row, Consistent, Reduced, Holds, Hidable, Hidden, cover_to, alive_to, actives_to, cover, Open}
 use Rattle.links.proofs.Hide.{hide_holds, hide_self, hide_far, hide_gone, hide_mono, hide_still, less_row_alive, less_row_row, in_less_row, here_alive, here_col, in_here, same_row}
 use Rattle.links.proofs.Rows.{hide_length}
 
@@ -215,9 +215,6 @@ module _ (w : Reduced) {m : List ℕ} (s : Holds w m) {c : ℕ} (column : c < w.
     pub walk_end : {m' : List ℕ} {k : ℕ} → Walk w c m m' k → k ≡ c → m' ≡ cover w c m
     walk_end {m'} {k} v e = v.so ∙ ap (λ (n : ℕ). cover_to w.t w.alive c m n) (cond_same k c w.t.nodes k e)
 
-    pub walk_length : {m' : List ℕ} {k : ℕ} → Walk w c m m' k → length m' ≡ length m
-    walk_length {m'} {k} v = ap length v.so ∙ cover_to_length (cond (eqb k c) w.t.nodes k)
-
     here_small : (k : ℕ) → here w.t w.alive c k ≡ true → k < 4096
     here_small k h = omega (arith, here_node k h, w.law.small)
 
@@ -232,8 +229,8 @@ module _ (w : Reduced) {m : List ℕ} (s : Holds w m) {c : ℕ} (column : c < w.
         walk_hid : m'' ≡ cover_to w.t w.alive c m (suc k)
         walk_hid = g (among k) (among_holds k m' walk_so) (among_live k (v.at d)) ∙ ap (λ (l : List ℕ). hide w.t k l) walk_so ∙ sym (one_more k (v.at d))
 
-        pub walk_small : (k < 4096) × (32768 ≤ length m'')
-        walk_small = (here_small k (v.at d), omega (arith, ap length walk_hid, cover_to_length (suc k), s.fields.long))
+        pub walk_small : k < 4096
+        walk_small = here_small k (v.at d)
 
         k_active : w.active k ≡ true
         k_active = s.there k (here_alive w.t w.alive c k (v.at d))
@@ -264,9 +261,6 @@ module _ (w : Reduced) {m : List ℕ} (s : Holds w m) {c : ℕ} (column : c < w.
     unfolding cover_to
     unwalk_end {m'} {k} v e = v.so ∙ ap (λ (n : ℕ). cover_to w.t w.alive c m n) (cond_same k c 0 (suc k) e)
 
-    pub unwalk_length : {m' : List ℕ} {k : ℕ} → Unwalk w c m m' k → length m' ≡ length m
-    unwalk_length {m'} {k} v = ap length v.so ∙ cover_to_length (cond (eqb k c) 0 (suc k))
-
     module _ {m' : List ℕ} {k : ℕ} (v : Unwalk w c m m' k) (d : k ≡ c → ⊥) where
       unwalk_so : m' ≡ hide w.t k (cover_to w.t w.alive c m k)
       unwalk_so = v.so ∙ ap (λ (n : ℕ). cover_to w.t w.alive c m n) (cond_other k c 0 (suc k) d) ∙ one_more k (v.at d)
@@ -278,8 +272,8 @@ module _ (w : Reduced) {m : List ℕ} (s : Holds w m) {c : ℕ} (column : c < w.
         unwalk_shown : m'' ≡ cover_to w.t w.alive c m k
         unwalk_shown = g (among k) (cover_to w.t w.alive c m k) (upto k).held (among_live k (v.at d)) unwalk_so
 
-        pub unwalk_small : (k < 4096) × (32768 ≤ length m'')
-        unwalk_small = (here_small k (v.at d), omega (arith, ap length unwalk_shown, cover_to_length k, s.fields.long))
+        pub unwalk_small : k < 4096
+        unwalk_small = here_small k (v.at d)
 
         j_active : w.active k ≡ true
         j_active = s.there k (here_alive w.t w.alive c k (v.at d))
@@ -298,6 +292,3 @@ module _ (w : Reduced) {m : List ℕ} (s : Holds w m) {c : ℕ} (column : c < w.
 
         pub unwalk_less : (k' : ℕ) → k' ≡ up m'' k → k' < k
         unwalk_less k' e = omega (arith, e, uncover_falls k j_active j_col j_low m'' unwalk_shown d)
-
-pub covered_length : {m : List ℕ} {c : ℕ} (p : Covered m c) → length m ≡ length p.old
-covered_length {m} {c} p = ap length p.so ∙ cover_to_length p.w p.holds p.column p.w.t.nodes

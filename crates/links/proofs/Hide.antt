@@ -70,7 +70,7 @@ module _ {t : Matrix} (law : LawfulMatrix t) {active : ℕ → Bool} {m : List �
   unfolding mid
   mid_size j =
       at_cond (λ (l : List ℕ). size_of l j ≡ size_of m j) y x m (unlink m y) (λ e. refl)
-      (λ d. unlink_other m y f.long (down_size law f r y ay ny) (up_size law f r y ay ny) (at_size j) (omega (arith, up_size law f r y ay ny)) (omega (arith, down_size law f r y ay ny)))
+      (λ d. unlink_other m y (at_size j) (omega (arith, up_size law f r y ay ny)) (omega (arith, down_size law f r y ay ny)))
 
   mid_still : (i : ℕ) → Still i → get_or mid i 0 ≡ get_or m i 0
   unfolding mid
@@ -102,10 +102,10 @@ module _ {t : Matrix} (law : LawfulMatrix t) {active : ℕ → Bool} {m : List �
       let yl : y < 4096 = omega (arith, law.small) in (
         dec_other mid (t.col y) (at_up y) (omega arith)
             ∙ at_cond (λ (l : List ℕ). up l y ≡ up m y) y x m (unlink m y) (λ e. refl)
-            (λ e. unlink_other m y f.long d u (at_up y) (omega arith) (λ q. down_ne law f r y ay ny (omega arith))),
+            (λ e. unlink_other m y (at_up y) (omega arith) (λ q. down_ne law f r y ay ny (omega arith))),
         dec_other mid (t.col y) (at_down y) (omega arith)
             ∙ at_cond (λ (l : List ℕ). down l y ≡ down m y) y x m (unlink m y) (λ e. refl)
-            (λ e. unlink_other m y f.long d u (at_down y) (λ q. up_ne law f r y ay ny (omega arith)) (omega arith)),
+            (λ e. unlink_other m y (at_down y) (λ q. up_ne law f r y ay ny (omega arith)) (omega arith)),
       )
 
   hide1_size : size_of (hide1 t x m y) (t.col y) ≡ size_of m (t.col y) - 1

@@ -5,33 +5,35 @@ use native.Mathlib.Numerals.{add-one}
 use mathlib.Core.Path.{◌≡◌, refl, sym, ap, ◌∙◌}
 use mathlib.Core.Bool.{Bool, true, false, cond}
 use lib.Dec.{ltb}
+use Rattle.std.specs.Prelude.{Option, Some, None, MatchOption}
 use borrow.Author.Tests.{ltb-true}
 use Rattle.lists.proofs.TestLaws.{by_bool, cond_true, cond_false, both_left}
 use Rattle.links.specs.Search.{better, least, pivot}
 
-module _ (f : ℕ → ℕ) {i n fewest at : ℕ} {b : Bool} (p : fewest ≡ least f i) (q : at ≡ pivot f i) (e : n ≡ f i) (r : b ≡ better n fewest) where
+module _ (f : ℕ → ℕ) {i n fewest : ℕ} {b : Bool} (p : fewest ≡ least f i) (e : n ≡ f i) (r : b ≡ better n fewest) where
   test : (v : Bool) → b ≡ v → better (f i) (least f i) ≡ v
   test v h = ap (λ (k : ℕ). better (f i) k) (sym p) ∙ ap (λ (k : ℕ). better k fewest) (sym e) ∙ sym r ∙ h
 
-  pub pivot_taken : b ≡ true → (n ≡ least f (i + 1)) × (i ≡ pivot f (i + 1))
+  pub pivot_taken : b ≡ true → (n ≡ least f (i + 1)) × (pivot f (i + 1) ≡ i)
   unfolding least pivot
   pivot_taken h =
       rw (add-one i) (
         e ∙ sym (cond_true (better (f i) (least f i)) (f i) (least f i) (test true h)),
-        sym (cond_true (better (f i) (least f i)) i (pivot f i) (test true h)),
+        cond_true (better (f i) (least f i)) i (pivot f i) (test true h),
       )
 
-  pub pivot_left : b ≡ false → (fewest ≡ least f (i + 1)) × (at ≡ pivot f (i + 1))
+  pub pivot_left : b ≡ false → (fewest ≡ least f (i + 1)) × (pivot f (i + 1) ≡ pivot f i)
   unfolding least pivot
   pivot_left h =
       rw (add-one i) (
         p ∙ sym (cond_false (better (f i) (least f i)) (f i) (least f i) (test false h)),
-        q ∙ sym (cond_false (better (f i) (least f i)) i (pivot f i) (test false h)),
+        cond_false (better (f i) (least f i)) i (pivot f i) (test false h),
       )
 
-pub pivot_start : (f : ℕ → ℕ) → (◌≡◌ {A = ℕ} 65536 (least f 0)) × (◌≡◌ {A = ℕ} 4096 (pivot f 0))
-unfolding least pivot
-pivot_start f = (refl, refl)
+-- a column found among the first i is one of the first i + 1
+pub still_found : (o : Option ℕ) (c i : ℕ) → MatchOption o (c ≡ 4096) (λ found. (found ≡ c) × (c < i)) → MatchOption o (c ≡ 4096) (λ found. (found ≡ c) × (c < i + 1))
+still_found None c i h = h
+still_found (Some found) c i h = (h.0, omega arith)
 
 -- the same counts give the same column
 least_same : (f g : ℕ → ℕ) (n : ℕ) → ((k : ℕ) → k < n → f k ≡ g k) → least f n ≡ least g n

@@ -5,6 +5,7 @@ use mathlib.Core.Path.{◌≡◌, ◌∙◌}
 use mathlib.Core.List.{List}
 use lib.ListN.{length, get_or}
 use Rattle.links.specs.Links.{at_column, at_first, at_end, at_copies, at_row, Still, Matrix, Fields}
+use Rattle.links.specs.Build.{Written}
 
 pub still_column : (x : ℕ) → Still (at_column x)
 still_column x = record { up = λ y l e. omega arith; down = λ y l e. omega arith; size = λ y l e. omega arith }
@@ -21,8 +22,8 @@ still_copies x = record { up = λ y l e. omega arith; down = λ y l e. omega ari
 pub still_row : (x : ℕ) → Still (at_row x)
 still_row x = record { up = λ y l e. omega arith; down = λ y l e. omega arith; size = λ y l e. omega arith }
 
-pub still_behind : (i : ℕ) → 32768 ≤ i → Still i
-still_behind i h = record { up = λ y l e. omega arith; down = λ y l e. omega arith; size = λ y l e. omega arith }
+pub fields_of : {t : Matrix} {m : List ℕ} → 32768 ≤ length m → Written t m → Fields t m
+fields_of long w = record { long = long; col = w.col; lo = w.lo; hi = w.hi; row = w.row }
 
 -- the matrix's fields are such places
 pub fields_agree : {t : Matrix} {m : List ℕ} (f : Fields t m) (m' : List ℕ) → length m' ≡ length m

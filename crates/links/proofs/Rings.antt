@@ -32,7 +32,7 @@ module _ (m : List ℕ) (a v b w : ℕ) where
       ap (λ (l : List ℕ). set l b w') (set_comm (set m a v) b a w v' (λ e. k (sym e)) ∙ ap (λ (l : List ℕ). set l b w) (set-set m a v v' ∙ ap (λ (n : ℕ). set m a n) (sym p) ∙ set-get_or m a 0))
       ∙ set-set m b w w' ∙ ap (λ (n : ℕ). set m b n) (sym q) ∙ set-get_or m b 0
 
-module _ (m : List ℕ) (x : ℕ) (long : 32768 ≤ length m) (dl : down m x < 4096) (ul : up m x < 4096) where
+module _ (m : List ℕ) (x : ℕ) where
   pub length_unlink : length (unlink m x) ≡ length m
   unfolding unlink
   length_unlink = simp length-set
@@ -42,6 +42,7 @@ module _ (m : List ℕ) (x : ℕ) (long : 32768 ≤ length m) (dl : down m x < 4
   unfolding unlink
   unlink_other i h k = two_other m (at_down (up m x)) (down m x) (at_up (down m x)) (up m x) i h k
 
+module _ (m : List ℕ) (x : ℕ) (long : 32768 ≤ length m) (dl : down m x < 4096) (ul : up m x < 4096) where
   pub unlink_down : down (unlink m x) (up m x) ≡ down m x
   unfolding unlink
   unlink_down = two_first m (at_down (up m x)) (down m x) (at_up (down m x)) (up m x) (omega arith) (omega arith)
@@ -58,16 +59,11 @@ module _ (m : List ℕ) (x : ℕ) (long : 32768 ≤ length m) (dl : down m x < 4
   pub relink_unlink : x < 4096 → (down m x ≡ x → ⊥) → (up m x ≡ x → ⊥) → down m (up m x) ≡ x → up m (down m x) ≡ x → relink (unlink m x) x ≡ m
   unfolding relink
   relink_unlink xl dx ux down_up up_down =
-      let p : up (unlink m x) x ≡ up m x = unlink_other (at_up x) (omega arith) (λ e. dx (omega arith)) in
-      let q : down (unlink m x) x ≡ down m x = unlink_other (at_down x) (λ e. ux (omega arith)) (omega arith) in
+      let p : up (unlink m x) x ≡ up m x = unlink_other m x (at_up x) (omega arith) (λ e. dx (omega arith)) in
+      let q : down (unlink m x) x ≡ down m x = unlink_other m x (at_down x) (λ e. ux (omega arith)) (omega arith) in
       ap (λ (a : ℕ). set (set (unlink m x) (at_down a) x) (at_up (down (unlink m x) x)) x) p
       ∙ ap (λ (b : ℕ). set (set (unlink m x) (at_down (up m x)) x) (at_up b) x) q
       ∙ unlink_undo down_up up_down
-
--- the two stores of `relink`, by the neighbours that it reads
-pub relink_stores : (m : List ℕ) (x a b : ℕ) → a ≡ up m x → b ≡ down m x → set (set m (at_down a) x) (at_up b) x ≡ relink m x
-unfolding relink
-relink_stores m x a b ea eb = ap (λ (i : ℕ). set (set m (at_down i) x) (at_up b) x) ea ∙ ap (λ (i : ℕ). set (set m (at_down (up m x)) x) (at_up i) x) eb
 
 -- ---- the nodes without x
 
@@ -113,10 +109,10 @@ module _ {t : Matrix} (law : LawfulMatrix t) {active : ℕ → Bool} {m : List �
   up_less = by_order x (up m x) (λ h. absurd (omega (arith, r.wrap (up m x) (r.up_active x ax) (rw (r.down_up x ax) h), r.down_up x ax, r.up_column x ax, x_node))) (λ h. h)
 
   d' : (y : ℕ) → (y ≡ up m x → ⊥) → down (unlink m x) y ≡ down m y
-  d' y h = unlink_other m x f.long down_size up_size (at_down y) (λ e. h (omega arith)) (omega (arith, down_size))
+  d' y h = unlink_other m x (at_down y) (λ e. h (omega arith)) (omega (arith, down_size))
 
   u' : (y : ℕ) → y < 4096 → (y ≡ down m x → ⊥) → up (unlink m x) y ≡ up m y
-  u' y l h = unlink_other m x f.long down_size up_size (at_up y) (omega arith) (λ e. h (omega arith))
+  u' y l h = unlink_other m x (at_up y) (omega arith) (λ e. h (omega arith))
 
   down_up' : down (unlink m x) (up m x) ≡ down m x
   down_up' = unlink_down m x f.long down_size up_size
@@ -125,10 +121,10 @@ module _ {t : Matrix} (law : LawfulMatrix t) {active : ℕ → Bool} {m : List �
   up_down' = unlink_up m x f.long down_size up_size
 
   pub unlink_still : (i : ℕ) → Still i → get_or (unlink m x) i 0 ≡ get_or m i 0
-  unlink_still i s = unlink_other m x f.long down_size up_size i (s.down (up m x) up_size) (s.up (down m x) down_size)
+  unlink_still i s = unlink_other m x i (s.down (up m x) up_size) (s.up (down m x) down_size)
 
   pub unlink_fields : Fields t (unlink m x)
-  unlink_fields = fields_agree f (unlink m x) (length_unlink m x f.long down_size up_size) unlink_still
+  unlink_fields = fields_agree f (unlink m x) (length_unlink m x) unlink_still
 
   size : (y : ℕ) → active y ≡ true → y < 4096
   size y a = omega (arith, r.bound y a, law.small)

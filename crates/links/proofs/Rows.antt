@@ -8,7 +8,7 @@ use lib.ListN.{length, length-set}
 use lib.Dec.{eqb}
 use Rattle.lists.proofs.TestLaws.{at_cond}
 use Rattle.links.specs.Links.{first_of, end_of, unlink, relink, Matrix, Fields}
-use Rattle.links.specs.Cover.{dec, inc, hide1, show1, hide_to, hide, here, Reduced, Holds, Hidable, Hidden, hide_one, show_one, One, Back}
+use Rattle.links.specs.Cover.{dec, inc, hide1, show1, hide_to, hide, here, Reduced, Holds, hide_one, show_one, One, Back}
 use Rattle.links.proofs.Tally.{tally_le}
 use Rattle.links.proofs.Rings.{up_size, down_size}
 use Rattle.links.proofs.Hide.{part, show_back, count_pos, one_in_row, hide1_own, dec_length}
@@ -21,9 +21,6 @@ pub hide_to_length : (t : Matrix) (x : ℕ) (m : List ℕ) (n : ℕ) → length 
 unfolding hide_to
 hide_to_length t x m zero = refl
 hide_to_length t x m (suc n) = hide1_length t x (hide_to t x m n) (t.lo x + n) ∙ hide_to_length t x m n
-
-pub hidable_small : {m : List ℕ} {x : ℕ} → Hidable m x → (32768 ≤ length m) × (x < 4096)
-hidable_small {m} {x} h = (h.holds.fields.long, omega (arith, h.holds.node x h.live, h.w.law.small))
 
 -- what is hidden of the row of x is what stands before y
 pub record Rowed (w : Reduced) (m₀ : List ℕ) (x : ℕ) (m : List ℕ) (y : ℕ) : Type 0 where
@@ -51,7 +48,6 @@ module _ (w : Reduced) {m₀ : List ℕ} (s : Holds w m₀) {x : ℕ} (lx : w.al
       let kept = p.kept (w.t.col y) (λ i a b e. absurd (omega (arith, one_in_row w.law x y i nx.0 nx.1 (omega arith) h a (omega arith) e))) in
       record {
         linked = record {
-          long = p.fields.long;
           small = omega (arith, w.law.small);
           above = up_size w.law p.fields p.rings y ay ny;
           below = down_size w.law p.fields p.rings y ay ny;
@@ -93,7 +89,6 @@ module _ (w : Reduced) {m₀ : List ℕ} (s : Holds w m₀) {x : ℕ} (lx : w.al
       let inside = w.law.inside y ny ly in
       record {
         linked = record {
-          long = p'.fields.long;
           small = omega (arith, w.law.small);
           above = rw (hide_to_next n, own.0) (up_size w.law p.fields p.rings y ay ny);
           below = rw (hide_to_next n, own.1) (down_size w.law p.fields p.rings y ay ny);
@@ -145,9 +140,6 @@ module _ (w : Reduced) {m₀ : List ℕ} (s : Holds w m₀) {x : ℕ} (lx : w.al
     unfolding hide
     hiding_end h = r.so ∙ ap (λ (k : ℕ). hide_to w.t x m₀ k) (omega (arith, r.high))
 
-    pub rowed_length : length m ≡ length m₀
-    rowed_length = ap length r.so ∙ hide_to_length w.t x m₀ (y - w.t.lo x)
-
     -- the other way, from y down
     module _ (h : w.t.lo x < y) where
       n : ℕ
@@ -196,12 +188,6 @@ module _ (w : Reduced) {m₀ : List ℕ} (s : Holds w m₀) {x : ℕ} (lx : w.al
   row_first {m} q y e =
       let p = part w.law s x lx (w.t.hi x - w.t.lo x) (omega (arith, row_low, row_high)) in
       e ∙ ap (λ (l : List ℕ). first_of l x) q ∙ p.fields.lo x (s.node x lx).1
-
-pub hidden_small : {m : List ℕ} {x : ℕ} → Hidden m x → (32768 ≤ length m) × (x < 4096)
-unfolding hide
-hidden_small {m} {x} h =
-    let r = showing_start h.w h.holds h.live h.so (end_of m x) refl in
-    (omega (arith, rowed_length h.w h.holds h.live r, h.holds.fields.long), omega (arith, h.holds.node x h.live, h.w.law.small))
 
 pub hide_length : (t : Matrix) (x : ℕ) (m : List ℕ) → length (hide t x m) ≡ length m
 unfolding hide

@@ -17,7 +17,7 @@ use Rattle.links.proofs.Places.{still_copies}
 use Rattle.links.proofs.Rings.{in_without, without_other, without_ne}
 use Rattle.links.proofs.Hide.{here_alive, here_col, in_here, one_in_row}
 use Rattle.links.proofs.Select.{Runs, runs, run_to_still}
-use Rattle.links.proofs.Copies.{spent_length, spent_other, spent_same, regained_spent, spent_holds}
+use Rattle.links.proofs.Copies.{spent_other, spent_same, regained_spent, spent_holds}
 use Rattle.links.proofs.Pivot.{pivot_same, pivot_some}
 
 -- ---- which rows stay possible
@@ -296,8 +296,8 @@ module _ {w : Reduced} {uncovered : ℕ → Bool} {copies : ℕ → ℕ} {primar
     lo_size : w.t.lo k < w.t.nodes
     lo_size = omega (arith, x_low k lk, x_high k lk)
 
-    pub sel_small : (32768 ≤ length m) × (k < 4096)
-    sel_small = (seek_long, omega (arith, nx k lk, w.law.small))
+    pub sel_small : k < 4096
+    sel_small = omega (arith, nx k lk, w.law.small)
 
     module _ (first end : ℕ) (ef : first ≡ first_of m k) (ee : end ≡ end_of m k) where
       f_is : first ≡ w.t.lo k
@@ -312,7 +312,6 @@ module _ {w : Reduced} {uncovered : ℕ → Bool} {copies : ℕ → ℕ} {primar
       pub sel_takes : Takes m first
       sel_takes =
           record {
-            long = seek_long;
             small = omega (arith, f_is, lo_size, w.law.small);
             column = omega (arith, kind_is, kd_size);
             some = rw (kind_is, kd_held) (s.stock k lk);
@@ -350,9 +349,6 @@ module _ {w : Reduced} {uncovered : ℕ → Bool} {copies : ℕ → ℕ} {primar
       still : Fields w.t m₂
       unfolding selected
       still = rw e₂ (sel_seek k lk).holds.fields
-
-      pub unsel_small : (32768 ≤ length m₂) × (k < 4096)
-      unsel_small = (still.long, sel_small.1)
 
       module _ (first end : ℕ) (ef : first ≡ first_of m₂ k) (ee : end ≡ end_of m₂ k) where
         g_is : first ≡ w.t.lo k
@@ -393,7 +389,6 @@ module _ {w : Reduced} {uncovered : ℕ → Bool} {copies : ℕ → ℕ} {primar
           pub unsel_gives : Gives m₃ first
           unsel_gives =
               record {
-                long = omega (arith, ap length m₃_is, spent_length m kd, seek_long);
                 small = first_small;
                 column = omega (arith, kind_still, kd_size);
                 few = rw kind_still fewer;
@@ -419,7 +414,7 @@ module _ {w : Reduced} {uncovered : ℕ → Bool} {copies : ℕ → ℕ} {primar
     k_node : (w.t.cols ≤ k) × (k < w.t.nodes)
     k_node = s.holds.node k try_live
 
-    pub try_small : (32768 ≤ length m) × (k < 4096)
+    pub try_small : k < 4096
     try_small = sel_small try_live
 
     k_low : c ≤ k
@@ -428,8 +423,7 @@ module _ {w : Reduced} {uncovered : ℕ → Bool} {copies : ℕ → ℕ} {primar
     pub try_sized : Sized m k
     try_sized =
         record {
-          long = seek_long;
-          small = try_small.1;
+          small = try_small;
           some = omega (arith, s.holds.fields.lo k k_node.1, s.holds.fields.hi k k_node.1, x_size k try_live);
         }
 

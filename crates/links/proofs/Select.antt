@@ -7,7 +7,7 @@ use mathlib.Core.Bool.{Bool, true}
 use lib.ListN.{length, get_or}
 use Rattle.lists.proofs.TestLaws.{by_eq, not_both}
 use Rattle.links.specs.Links.{column_of, Still}
-use Rattle.links.specs.Cover.{Reduced, Holds, Open, Coverable, Covered, cover, after_cover, reduced_to, alive_run, active_run, run_to, Run, Ran}
+use Rattle.links.specs.Cover.{Reduced, Holds, Open, Coverable, Covered, cover, after_cover, reduced_to, alive_run, active_run, run_to, Run}
 use Rattle.links.proofs.Hide.{same_row, here_alive, here_col, in_here}
 use Rattle.links.proofs.Cover.{upto, cover_to_length, cover_to_still}
 
@@ -113,9 +113,6 @@ module _ (w : Reduced) {m₀ : List ℕ} (s : Holds w m₀) {a b : ℕ} (r : Run
   ran_start e = record { low = r.order; high = omega arith; so = e }
 
   module _ {m : List ℕ} {y : ℕ} (v : Running w a b m₀ m y) where
-    pub running_length : length m ≡ length m₀
-    running_length = ap length v.so ∙ run_to_length w s r (y - a) (omega (arith, v.low, v.high))
-
     pub running_end : b ≤ y → m ≡ run_to w a m₀ (b - a)
     running_end h = v.so ∙ ap (λ (n : ℕ). run_to w a m₀ n) (omega (arith, v.high))
 
@@ -125,9 +122,6 @@ module _ (w : Reduced) {m₀ : List ℕ} (s : Holds w m₀) {a b : ℕ} (r : Run
 
     -- going up
     module _ (h : y < b) where
-      pub running_small : (y < 4096) × (32768 ≤ length m)
-      running_small = (omega (arith, r.high, w.law.small), omega (arith, running_length, s.fields.long))
-
       here_is : a + (y - a) ≡ y
       here_is = omega (arith, v.low)
 
@@ -181,9 +175,6 @@ module _ (w : Reduced) {m₀ : List ℕ} (s : Holds w m₀) {a b : ℕ} (r : Run
       cover_is : m ≡ cover (reduced_to w a n) (w.t.col (y - 1)) (run_to w a m₀ n)
       cover_is = last_is ∙ run_next w s r n ∙ ap (λ (i : ℕ). cover (reduced_to w a n) (w.t.col i) (run_to w a m₀ n)) n_is
 
-      pub ran_small : (y - 1 < 4096) × (32768 ≤ length m)
-      ran_small = (omega (arith, r.high, w.law.small, v.high), omega (arith, running_length, s.fields.long))
-
       col_last : column_of m (y - 1) ≡ w.t.col (y - 1)
       col_last = rw last_is ((runs w s r (suc n) (omega (arith, n_is, v.high))).holds.fields.col (y - 1) (omega (arith, r.high, v.high)))
 
@@ -214,6 +205,3 @@ module _ (w : Reduced) {m₀ : List ℕ} (s : Holds w m₀) {a b : ℕ} (r : Run
               high = omega (arith, v.high);
               so = g (reduced_to w a n) (run_to w a m₀ n) d_holds d_column d_open d_so;
             }
-
-pub ran_length : {m : List ℕ} {a b : ℕ} (p : Ran m a b) → length m ≡ length p.old
-ran_length {m} {a} {b} p = running_length p.w p.holds p.run (ran_start p.w p.holds p.run p.so)

@@ -1,6 +1,6 @@
 -- Linking a matrix's nodes: the heads, each alone in its ring, then each node of a row as the last of its column.
-use Rattle.std.specs.Prelude.{ℕ, ◌≤◌, ◌<◌, ◌≡◌, List, Bool, true, false, cond, length, set, ltb, leb}
-use Rattle.links.specs.Links.{up, down, column_of, size_of, copies_of, at_up, at_down, at_size, Matrix, LawfulMatrix, Fields, Rings}
+use Rattle.std.specs.Prelude.{ℕ, ◌≤◌, ◌<◌, ◌≡◌, List, Bool, true, false, cond, set, ltb, leb}
+use Rattle.links.specs.Links.{up, down, column_of, first_of, end_of, row_number, size_of, copies_of, at_up, at_down, at_size, Matrix, LawfulMatrix, Fields, Rings}
 use Rattle.links.specs.Cover.{tally, inc, here, Reduced}
 use Rattle.links.specs.Search.{Shape}
 
@@ -30,18 +30,24 @@ unfoldable pub link_last : List ℕ → ℕ → List ℕ
 link_last m x = inc (inserted m x (column_of m x) (up m (column_of m x))) (column_of m x)
 
 pub record Joinable (m : List ℕ) (x : ℕ) : Type 0 where
-  pub long : 32768 ≤ length m
   pub small : x < 4096
   pub column : column_of m x < 4096
   pub last : up m (column_of m x) < 4096
   pub apart : column_of m x ≡ x → ⊥
   pub few : size_of m (column_of m x) < 4096
 
--- the fields of the memory are those of some matrix
+-- what of a matrix's nodes never changes stands in the memory
+pub record Written (t : Matrix) (m : List ℕ) : Type 0 where
+  pub col : (x : ℕ) → x < t.nodes → column_of m x ≡ t.col x
+  pub lo : (x : ℕ) → x < t.nodes → first_of m x ≡ t.lo x
+  pub hi : (x : ℕ) → x < t.nodes → end_of m x ≡ t.hi x
+  pub row : (x : ℕ) → x < t.nodes → row_number m x ≡ t.row x
+
+-- these nodes are those of some matrix
 pub record Stored (m : List ℕ) (cols nodes : ℕ) : Type 0 where
   pub t : Matrix
   pub law : LawfulMatrix t
-  pub fields : Fields t m
+  pub written : Written t m
   pub c_is : cols ≡ t.cols
   pub n_is : nodes ≡ t.nodes
 

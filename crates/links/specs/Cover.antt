@@ -1,5 +1,5 @@
 -- Hiding a row, covering a column, and what is still possible.
-use Rattle.std.specs.Prelude.{ℕ, zero, suc, ◌+◌, ◌-◌, ◌≤◌, ◌<◌, ◌≡◌, List, Bool, true, false, cond, length, set, eqb}
+use Rattle.std.specs.Prelude.{ℕ, zero, suc, ◌+◌, ◌-◌, ◌≤◌, ◌<◌, ◌≡◌, List, Bool, true, false, cond, set, eqb}
 use Rattle.links.specs.Links.{up, down, column_of, size_of, at_size, unlink, relink, Matrix, LawfulMatrix, Fields, Rings, without}
 
 abbrev pub bit : Bool → ℕ
@@ -59,9 +59,8 @@ pub record Consistent (t : Matrix) (alive active : ℕ → Bool) (m : List ℕ) 
   pub there : (x : ℕ) → alive x ≡ true → active x ≡ true
   pub count : (j : ℕ) → j < t.cols → size_of m j ≡ tally (here t alive j) t.nodes
 
--- What a function that changes the links of node x asks: room, and neighbours that are nodes.
+-- What a function that changes the links of node x asks: neighbours that are nodes.
 pub record Linked (m : List ℕ) (x : ℕ) : Type 0 where
-  pub long : 32768 ≤ length m
   pub small : x < 4096
   pub above : up m x < 4096
   pub below : down m x < 4096

@@ -1,31 +1,47 @@
 -- The memory of the links: a list of numbers, eight to a node. Where each stands is said here alone.
 use Rattle.std.specs.Prelude.{ℕ, ◌+◌, ◌*◌, ◌≤◌, ◌<◌, ◌≡◌, List, Bool, true, false, cond, length, get_or, set, eqb}
+use Rattle.links.specs.declared.nodes.Field.{Field}
+use Rattle.links.specs.declared.nodes.Field.TheVariants.{Up, Down, Column, First, End, Size, Copies, Row}
 
--- ---- places: node x's upper and lower neighbour in its column's ring, its column, the first node of its row, the one behind the row's last;
+-- ---- places: which of a node's eight numbers a field is, and where field f of node x stands
+abbrev pub place : Field → ℕ
+place Up = 0
+place Down = 1
+place Column = 2
+place First = 3
+place End = 4
+place Size = 5
+place Copies = 6
+place Row = 7
+
+abbrev pub at : Field → ℕ → ℕ
+at f x = 8 * x + place f
+
+-- the same field by field: node x's upper and lower neighbour in its column's ring, its column, the first node of its row, the one behind the row's last;
 -- how many rows column x has left, how many copies its kind has left; and the number of node x's row
 abbrev pub at_up : ℕ → ℕ
-at_up x = 8 * x + 0
+at_up x = at Up x
 
 abbrev pub at_down : ℕ → ℕ
-at_down x = 8 * x + 1
+at_down x = at Down x
 
 abbrev pub at_column : ℕ → ℕ
-at_column x = 8 * x + 2
+at_column x = at Column x
 
 abbrev pub at_first : ℕ → ℕ
-at_first x = 8 * x + 3
+at_first x = at First x
 
 abbrev pub at_end : ℕ → ℕ
-at_end x = 8 * x + 4
+at_end x = at End x
 
 abbrev pub at_size : ℕ → ℕ
-at_size x = 8 * x + 5
+at_size x = at Size x
 
 abbrev pub at_copies : ℕ → ℕ
-at_copies x = 8 * x + 6
+at_copies x = at Copies x
 
 abbrev pub at_row : ℕ → ℕ
-at_row x = 8 * x + 7
+at_row x = at Row x
 
 -- ---- what stands there
 abbrev pub up : List ℕ → ℕ → ℕ

@@ -1,6 +1,6 @@
 -- Choosing rows: the columns below `primary` are cells, to be covered once each; the others are kinds, of which some copies are left.
 -- The cell to try next is the first of those with the fewest rows still possible, but at least one.
-use Rattle.std.specs.Prelude.{ℕ, zero, suc, ◌+◌, ◌-◌, ◌≤◌, ◌<◌, ◌≡◌, List, Bool, true, false, cond, length, set, eqb, ltb}
+use Rattle.std.specs.Prelude.{ℕ, zero, suc, ◌+◌, ◌-◌, ◌≤◌, ◌<◌, ◌≡◌, List, Bool, true, false, cond, set, eqb, ltb}
 use Rattle.links.specs.Links.{column_of, first_of, end_of, size_of, copies_of, at_copies, Matrix}
 use Rattle.links.specs.Cover.{tally, here, Reduced, Holds, Open, run_to}
 
@@ -67,19 +67,6 @@ pub record At (w : Reduced) (primary c k : ℕ) : Type 0 where
   pub is_open : Open w c
   pub at : (k ≡ c → ⊥) → here w.t w.alive c k ≡ true
 
-pub record Seekable (m : List ℕ) (primary left : ℕ) : Type 0 where
-  pub w : Reduced
-  pub uncovered : ℕ → Bool
-  pub copies : ℕ → ℕ
-  pub seek : Seek w uncovered copies primary left m
-
-pub record Triable (m : List ℕ) (primary left c k : ℕ) : Type 0 where
-  pub w : Reduced
-  pub uncovered : ℕ → Bool
-  pub copies : ℕ → ℕ
-  pub seek : Seek w uncovered copies primary left m
-  pub stand : At w primary c k
-
 -- one copy less, and one more
 unfoldable pub spent : List ℕ → ℕ → List ℕ
 spent m j = set m (at_copies j) (copies_of m j - 1)
@@ -88,13 +75,11 @@ unfoldable pub regained : List ℕ → ℕ → List ℕ
 regained m j = set m (at_copies j) (copies_of m j + 1)
 
 pub record Takes (m : List ℕ) (x : ℕ) : Type 0 where
-  pub long : 32768 ≤ length m
   pub small : x < 4096
   pub column : column_of m x < 4096
   pub some : 1 ≤ copies_of m (column_of m x)
 
 pub record Gives (m : List ℕ) (x : ℕ) : Type 0 where
-  pub long : 32768 ≤ length m
   pub small : x < 4096
   pub column : column_of m x < 4096
   pub few : copies_of m (column_of m x) < 4096
@@ -104,7 +89,6 @@ unfoldable pub selected : Reduced → (ℕ → ℕ) → ℕ → List ℕ → Lis
 selected w copies k m = run_to w (first_covered w.t copies k) (spent m (w.t.col (w.t.lo k))) (w.t.hi k - first_covered w.t copies k)
 
 pub record Sized (m : List ℕ) (k : ℕ) : Type 0 where
-  pub long : 32768 ≤ length m
   pub small : k < 4096
   pub some : first_of m k + 1 ≤ end_of m k
 

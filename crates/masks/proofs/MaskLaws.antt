@@ -238,8 +238,8 @@ module _ (a b c d : ℕ) (small : c < 2 ^ 64) (small' : d < 2 ^ 64) where
       (λ k u. hit2_and_at a b c d k ∙ apart_each 128 (hit2 a b) (hit2 c d) e k u ∙ sym (hit2_zero_at k))
 
   -- the answer of `meets`, at its two ends
-  pub meets_low : (bit_and a c ≡ 0 → ⊥) → true ≡ not (apart 128 (hit2 a b) (hit2 c d))
-  meets_low h = rw (not_true (apart 128 (hit2 a b) (hit2 c d)) (λ e. h (apart_words e).0))
+  pub meets_low : (bit_and a c ≡ 0 → ⊥) → not (eqb (bit_and a c) 0) ≡ not (apart 128 (hit2 a b) (hit2 c d))
+  meets_low h = rw (ne_eqb (bit_and a c) 0 h, not_true (apart 128 (hit2 a b) (hit2 c d)) (λ e. h (apart_words e).0))
 
   pub meets_high : bit_and a c ≡ 0 → not (eqb (bit_and b d) 0) ≡ not (apart 128 (hit2 a b) (hit2 c d))
   meets_high z = ap not (go (ℕ_discrete (bit_and b d) 0))
@@ -248,17 +248,15 @@ module _ (a b c d : ℕ) (small : c < 2 ^ 64) (small' : d < 2 ^ 64) where
       go (yes e) = eq-eqb (bit_and b d) 0 e ∙ sym (apart_yes 128 a b c d z e)
       go (no h) = ne_eqb (bit_and b d) 0 h ∙ sym (not_true (apart 128 (hit2 a b) (hit2 c d)) (λ e. h (apart_words e).1))
 
--- ---- the answer of `equals`, at its two ends
-module _ (a b c d : ℕ) (la : a < 2 ^ 64) (lb : b < 2 ^ 64) (lc : c < 2 ^ 64) (ld : d < 2 ^ 64) where
-  pub equals_low : (a ≡ c → ⊥) → SameCells false (hit2 a b) (hit2 c d)
-  equals_low h = λ e. h (equal_words a b c d la lb lc ld e).0
-
-  pub equals_high : a ≡ c → SameCells (eqb b d) (hit2 a b) (hit2 c d)
-  equals_high e = go (ℕ_discrete b d)
-    where
-      go : Dec (b ≡ d) → SameCells (eqb b d) (hit2 a b) (hit2 c d)
-      go (yes q) = rw (eq-eqb b d q) (rw (e, q))
-      go (no h) = rw (ne_eqb b d h) (λ q. h (equal_words a b c d la lb lc ld q).1)
+-- ---- what `==` of two masks tells of their cells
+pub same_cells : (r : Bool) (m n : Mask) → m.low < 2 ^ 64 → m.high < 2 ^ 64 → n.low < 2 ^ 64 → n.high < 2 ^ 64
+    → r ≡ (eqb m.low n.low && eqb m.high n.high) → SameCells r (has m) (has n)
+same_cells r m n a b c d e = rw e (go (ℕ_discrete m.low n.low) (ℕ_discrete m.high n.high))
+  where
+    go : Dec (m.low ≡ n.low) → Dec (m.high ≡ n.high) → SameCells (eqb m.low n.low && eqb m.high n.high) (has m) (has n)
+    go (no h) q = rw (ne_eqb m.low n.low h) (λ s. h (equal_words m.low m.high n.low n.high a b c d s).0)
+    go (yes p) (no h) = rw (eq-eqb m.low n.low p, ne_eqb m.high n.high h) (λ s. h (equal_words m.low m.high n.low n.high a b c d s).1)
+    go (yes p) (yes q) = rw (eq-eqb m.low n.low p, eq-eqb m.high n.high q) (rw (p, q))
 
 -- two masks with the same numbers below 128 are equal
 abbrev words : ℕ → ℕ → Mask

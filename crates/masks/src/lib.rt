@@ -3,9 +3,9 @@
 #![tactic(auto)]
 
 ghost use Rattle.std.specs.Prelude.{◌≡◌, cond, not, ltb};
-ghost use Rattle.masks.specs.Masks.{has, nothing, only, either, apart, SameCells, FirstOpen, FirstIn};
+ghost use Rattle.masks.specs.Masks.{has, nothing, only, either, apart, FirstOpen, FirstIn};
 
-#[derive(Clone, Copy)]
+#[derive(Clone, Copy, PartialEq, Eq)]
 pub struct Mask {
     pub low: u64,
     pub high: u64,
@@ -25,12 +25,12 @@ impl Mask {
         if n < 64 {
             Mask {
                 low: self.low | (1 << n),
-                high: self.high,
+                ..self
             }
         } else if n < 128 {
             Mask {
-                low: self.low,
                 high: self.high | (1 << (n - 64)),
+                ..self
             }
         } else {
             self
@@ -51,10 +51,7 @@ impl Mask {
     pub fn meets(self, other: Mask) -> bool
         ensures { result ≡ not (apart 128 (has self) (has other)) }
     {
-        if self.low & other.low != 0 {
-            return true;
-        }
-        self.high & other.high != 0
+        self.low & other.low != 0 || self.high & other.high != 0
     }
 
     pub fn has_cell(self, n: usize) -> bool
@@ -69,38 +66,29 @@ impl Mask {
         }
     }
 
-    // Whether both have the same cells.
-    pub fn equals(self, other: Mask) -> bool
-        ensures { SameCells result (has self) (has other) }
-    {
-        if self.low != other.low {
-            return false;
-        }
-        self.high == other.high
-    }
-
-    // The first cell from n on that is not in the set; 128 where all are, and where n is no cell.
+    // The first cell from n on that is not in the set; 128 where all are, and where n is no cell. Callers compare the answer with the number of cells, and
+    // 128, the place behind the last cell, takes part in that; an Option would be taken apart to the same number.
     pub fn next_open(self, n: usize) -> usize
         ensures { FirstOpen (has self) n result }
     {
         if n < 64 {
-            let t = u64::trailing_zeros(!self.low >> n) as usize;
+            let t = (!self.low >> n).trailing_zeros() as usize;
             if t < 64 - n {
                 return n + t;
             }
-            return 64 + u64::trailing_zeros(!self.high) as usize;
+            return 64 + (!self.high).trailing_zeros() as usize;
         }
         if 128 <= n {
             return 128;
         }
-        let t = u64::trailing_zeros(!self.high >> (n - 64)) as usize;
+        let t = (!self.high >> (n - 64)).trailing_zeros() as usize;
         if t < 128 - n {
             return n + t;
         }
         128
     }
 
-    // The first cell from n on that is in the set; 128 where none is.
+    // The first cell from n on that is in the set; 128, the place behind the last cell, where none is (as `next_open`).
     pub fn next_cell(self, n: usize) -> usize
         ensures { FirstIn (has self) n result }
     {

@@ -14,13 +14,13 @@ use Rattle.lists.specs.Lists.{joined}
 use Rattle.lists.proofs.ListLaws.{drop_in, take_in}
 use Rattle.definitions.specs.Page.{page}
 use Rattle.definitions.specs.Demands.{MeetsDemand3}
-use Rattle.definitions.specs.Outcomes.{Outcome, accepted, answers_of, answer_size, capacity, cleared, number_of, outcome, outcome_of, over_start, page_of}
+use Rattle.definitions.specs.Outcomes.{Outcome, Reply, accepted, answers_of, answer_size, capacity, cleared, number_of, outcome, outcome_of, over_start, page_of}
 use Rattle.definitions.specs.Orders.{listed}
 use Rattle.definitions.specs.Answers.{answer}
 use Rattle.definitions.specs.Placements.{compile}
 use Rattle.definitions.specs.Refusals.{Call, identify_of, is_knuth, refusal, sides_of, table, lent_of, tray_of}
 use Rattle.definitions.specs.declared.Refusal.{Refusal}
-use Rattle.definitions.specs.declared.Listing.TheVariants as listing
+use Rattle.std.specs.Prelude.{Ok, Err, Some, None}
 use Rattle.theorems.proofs.DemandLaws.{demand3_holds, box_lent}
 use Rattle.theorems.proofs.RefusalLaws.{outcome_accepted}
 use Rattle.placements.proofs.CountingLaws.{refused_some}
@@ -29,6 +29,10 @@ use Rattle.definitions.specs.declared.Start.TheVariants.{Behind}
 use Rattle.theorems.proofs.StartLaws.{outcome-behind}
 use Rattle.output.specs.Rest.{Stands}
 use Rattle.output.specs.Standing.{Scratch}
+
+-- what a page call hands back that wrote so many answers
+abbrev pub wrote : ℕ → Bool → Reply
+wrote n further = Ok (Some (record { written = n; further = further }))
 
 -- ---- entries of one size
 entry_at : (n : ℕ) (xs : List (List ℕ)) → ((x : List ℕ) → Memᴰ x xs → length x ≡ n) → (rest : List ℕ) (i : ℕ) → i < length xs → take n (drop (i * n) (joined xs ++ rest)) ≡ get_or xs i []
@@ -107,7 +111,7 @@ module _ (l : Call) (ok : refusal l ≡ 0) (size room : ℕ) (size_is : size ≡
       }
 
   pub page_here : (skip : ℕ) → skip ≤ length (answers_of (tray_of l) (identify_of l.config) l.config.solver) → (n : ℕ) (further : Bool) (answers work links rest : List ℕ)
-      → outcome_of (listing.Page n further) answers work links ≡ outcome (skipping skip l)
+      → outcome_of (wrote n further) answers work links ≡ outcome (skipping skip l)
       → Here (answers_of (tray_of l) (identify_of l.config) l.config.solver) skip size room n further (answers ++ rest)
   unfolding outcome_of accepted page_of lent_of tray_of capacity
   page_here skip h n further answers work links rest e =
@@ -121,18 +125,18 @@ module _ (l : Call) (ok : refusal l ≡ 0) (size room : ℕ) (size_is : size ≡
       let a' : answers ≡ over_start (joined g.entries) l.answers = a ∙ ap (λ (r : ℕ). over_start (joined (page list skip r).entries) l.answers) capacity_is in
       here skip h n further answers rest w' v' a'
 
-  pub page_accepted : (skip : ℕ) (w : Refusal) (answers work links : List ℕ) → outcome_of (listing.Refused w) answers work links ≡ outcome (skipping skip l) → ⊥
+  pub page_accepted : (skip : ℕ) (w : Refusal) (answers work links : List ℕ) → outcome_of (Err w) answers work links ≡ outcome (skipping skip l) → ⊥
   unfolding outcome_of accepted
   page_accepted skip w answers work links e =
       let z : number_of w ≡ 0 = ap (λ (o : Outcome). o.number) (e ∙ outcome_accepted (skipping skip l) (still skip)) in
       refused_some w z
 
-  pub page_there : (skip : ℕ) (answers work links : List ℕ) → outcome_of listing.NoEntry answers work links ≡ outcome (skipping skip l) → ⊥
+  pub page_there : (skip : ℕ) (answers work links : List ℕ) → outcome_of (Ok None) answers work links ≡ outcome (skipping skip l) → ⊥
   unfolding outcome_of accepted
   page_there skip answers work links e = true≢false (ap (λ (o : Outcome). o.missing) (e ∙ outcome_accepted (skipping skip l) (still skip)))
 
   -- the work words and the links afterwards
-  pub page_scratch : (skip n : ℕ) (further : Bool) (answers work links : List ℕ) → outcome_of (listing.Page n further) answers work links ≡ outcome (skipping skip l)
+  pub page_scratch : (skip n : ℕ) (further : Bool) (answers work links : List ℕ) → outcome_of (wrote n further) answers work links ≡ outcome (skipping skip l)
       → Scratch l.work l.links work links
   unfolding outcome_of accepted
   page_scratch skip n further answers work links e =

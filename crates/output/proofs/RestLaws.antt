@@ -1,5 +1,5 @@
 -- What is printed line by line is document 01's listing. Assumes nothing.
-use Prim.Native.Nat.{ℕ, suc, ◌+◌, ◌*◌, ◌<◌, ◌≤◌, ◌^◌}
+use Prim.Native.Nat.{ℕ, suc, ◌+◌, ◌-◌, ◌*◌, ◌<◌, ◌≤◌, ◌^◌}
 use mathlib.Core.Bool.{Bool, true, false, cond}
 use mathlib.Core.List.{List, [], ◌∷◌, ◌++◌, append_assoc, append-nil}
 use mathlib.Core.Path.{◌≡◌, refl, sym, ap, ap₂, ◌∙◌}
@@ -95,12 +95,14 @@ line_some n entry =
     let e : length (entry_line n entry) ≡ length (decimal n ++ 9 ∷ cells_shown entry) + 1 = length-append (decimal n ++ 9 ∷ cells_shown entry) (10 ∷ []) in
     omega arith
 
--- what was copied stands at the start
-pub copied : (old src new : List ℕ) (from n : ℕ) → new ≡ paste old 0 (drop from src) n → from + n ≤ length src → take n new ≡ take n (drop from src)
-copied old src new from n e h =
-    let d = length-drop from src in
-    let z : n ≡ 0 + n = omega arith in
-    ap₂ (λ (k : ℕ) (l : List ℕ). take k l) z e ∙ take-paste old 0 (drop from src) n (omega arith) (omega arith)
+-- the answer of an entry, as it lies in the answer buffer
+pub entry_lies : (answers : List ℕ) (i size : ℕ) → i * size + size ≤ length answers
+    → (take (i * size + size - i * size) (drop (i * size) answers) ≡ take size (drop (i * size) answers)) × (length (take (i * size + size - i * size) (drop (i * size) answers)) ≡ size)
+entry_lies answers i size h =
+    let d = length-drop (i * size) answers in
+    let e : i * size + size - i * size ≡ size = omega arith in
+    let same = ap (λ (k : ℕ). take k (drop (i * size) answers)) e in
+    (same, ap length same ∙ length-take-le size (drop (i * size) answers) (omega arith))
 
 pub last_some : (n : ℕ) → 1 ≤ length (last_line n)
 unfolding last_line

@@ -1,6 +1,7 @@
 -- What is printed first, whatever is read: a refusal, alone, or a listing's first lines. Assumes nothing.
 use Prim.Native.Nat.{ℕ, ◌+◌, ◌-◌, ◌<◌, ◌≤◌}
-use mathlib.Core.Bool.{Bool, true, false, cond, ◌&&◌}
+use Rattle.std.specs.Prelude.{Option, Some, None, IfSome}
+use mathlib.Core.Bool.{Bool, true, false, ◌&&◌}
 use mathlib.Core.List.{List, [], ◌∷◌, ◌++◌, append-nil}
 use mathlib.Core.Logic.{◌⊎◌, inl, inr}
 use mathlib.Core.Path.{◌≡◌, refl, sym, ap, ◌∙◌, subst}
@@ -18,11 +19,12 @@ use Rattle.files.specs.Reading.{Asks}
 use Rattle.files.specs.declared.reading.Asked.{Asked}
 use Rattle.output.specs.Rest.{rest_from}
 use Rattle.output.specs.Standing.{IsRead, Scratch, Standing, list_in}
-use Rattle.output.specs.Stretches.{Made, Ready, RefusedMade, Stepped, left, rest_after, rest_at, rest_of}
+use Rattle.output.specs.Stretches.{Made, Onward, Ready, RefusedMade, Stepped, left, rest_after, rest_at}
+use Rattle.output.specs.declared.Held.{Held}
 use Rattle.output.specs.declared.Progress.{Progress}
+use Rattle.output.specs.declared.Progress.TheVariants.{Unbegun, Begun}
 use Rattle.output.specs.declared.Stretch.{Stretch}
 use Rattle.output.proofs.RestLaws.{kept_behind, listing_rest, made_more}
-use Rattle.output.proofs.StretchLaws.{rest_begun}
 
 pub packed_malformed : (bytes : List ℕ) → is_file bytes ≡ false → packed bytes ≡ refused_line 16
 unfolding packed
@@ -57,15 +59,11 @@ scratch_twice n {a} (inr e) (inr f) = inr (f ∙ ap (cleared n) e ∙ ap (λ (l 
 pub scratch_then : {a b c k l m : List ℕ} → Scratch a k b l → Scratch b l c m → Scratch a k c m
 scratch_then s t = record { work_then = scratch_twice 8192 s.work_then t.work_then; links_then = scratch_twice 32768 s.links_then t.links_then }
 
-no_last : {A : Type 0} {b : Bool} → b ≡ true → b ≡ false → A
-no_last e f = absurd (let z : ◌≡◌ {A = ℕ} 0 1 = cc in omega arith)
-
 -- ---- a refusal, alone
-module _ (text : List ℕ) (p q : Progress) (number : ℕ) (cells work links out cells' answers' work' links' out' : List ℕ) (r : Stretch)
-    (is_not : p.begun ≡ false) (is : packed text ≡ refused_line number) (m : RefusedMade q number out out' r) (long : 64 ≤ length out)
+module _ (text : List ℕ) (number : ℕ) (cells work links out cells' answers' work' links' out' : List ℕ) (r : Stretch)
+    (is : packed text ≡ refused_line number) (m : RefusedMade number out out' r) (long : 64 ≤ length out)
     (cells_then : drop 16384 cells' ≡ drop 16384 cells) (scratch : Scratch work links work' links') where
-  pub refused_step : Stepped text p cells work links out cells' answers' work' links' out' r
-  unfolding rest_of rest_after
+  pub refused_step : Stepped text Unbegun cells work links out cells' answers' work' links' out' r
   refused_step =
       let end = m.put.end in
       let k = refused_some number in
@@ -74,13 +72,11 @@ module _ (text : List ℕ) (p q : Progress) (number : ℕ) (cells work links out
         some = omega arith;
         fits = omega arith;
         behind = kept_behind out m.put (omega arith) refl;
-        rest =
-            ap (λ (b : Bool). cond b (rest_at text p) (packed text)) is_not ∙ is ∙ sym (made_more m.put (omega arith)) ∙ sym (append-nil (take r.made out'))
-            ∙ ap (λ (b : Bool). take r.made out' ++ cond b [] (rest_of text r.progress)) (sym m.is_done);
-        ready = λ u. no_last m.is_done u;
-        nearer = λ u. no_last m.is_done u;
+        rest = is ∙ sym (made_more m.put (omega arith)) ∙ sym (append-nil (take r.made out')) ∙ ap (λ (o : Option Progress). take r.made out' ++ rest_after text o) (sym m.is_last);
+        ready = subst (λ (o : Option Progress). IfSome o (λ q. Ready text q cells' answers' work' links')) (sym m.is_last) tt;
+        nearer = subst (λ (o : Option Progress). IfSome o (λ q. left q < left Unbegun)) (sym m.is_last) tt;
         cells_behind = cells_then;
-        cells_kept = λ u. no_last u is_not;
+        cells_kept = tt;
         scratch = scratch;
       }
 
@@ -101,8 +97,8 @@ read_is text old asked cells work links asks long words numbers =
     }
 
 -- and whether it was, where the cells suffice
-pub is-file : (text old : List ℕ) (b : Bool) → 16384 ≤ length old → b ≡ (leb 16384 (length old) && is_file text) → is_file text ≡ b
-is-file text old b long e = sym (e ∙ ap (λ (t : Bool). t && is_file text) (le-leb 16384 (length old) long))
+pub is-file : (text old : List ℕ) (b : Bool) → 16384 ≤ length old → (leb 16384 (length old) && is_file text) ≡ b → is_file text ≡ b
+is-file text old b long e = sym (ap (λ (t : Bool). t && is_file text) (le-leb 16384 (length old) long)) ∙ e
 
 pub cells-behind : (old new : List ℕ) (used : ℕ) → used ≤ 16384 → drop used new ≡ drop used old → drop 16384 new ≡ drop 16384 old
 cells-behind old new used few e =
@@ -125,68 +121,46 @@ still_read text asked asked' cells work links work' links' read e w l =
       numbers = l ∙ r.numbers;
     }
 
-left_begun : (p : Progress) → p.begun ≡ true → left p ≡ 18446744073709551616 - (p.base + p.from)
-unfolding left
-left_begun p e = ap (λ (b : Bool). cond b (18446744073709551616 - (p.base + p.from)) 18446744073709551617) e
-
-left_before : (p : Progress) → p.begun ≡ false → left p ≡ 18446744073709551617
-unfolding left
-left_before p e = ap (λ (b : Bool). cond b (18446744073709551616 - (p.base + p.from)) 18446744073709551617) e
-
-module _ (text : List ℕ) (q : Progress) (cells answers work links out answers' work' links' out' : List ℕ) (r : Stretch)
-    (long_cells : 16384 ≤ length cells) (long_answers : 1024 ≤ length answers)
-    (read : IsRead text q.asked cells work links) (standing : Standing text q answers) (m : Made text q out answers' out' r)
+module _ (text : List ℕ) (q : Held) (cells answers work links answers' work' links' : List ℕ)
+    (long_cells : 16384 ≤ length cells) (long_answers : 1024 ≤ length answers) (read : IsRead text q.asked cells work links)
     (same_answers : length answers' ≡ length answers) (same_work : length work' ≡ length work) (same_links : length links' ≡ length links) where
-  then_ready : r.done ≡ false → Ready text r.progress cells answers' work' links'
-  then_ready u =
-      let few = (m.standing u).few_bytes in
+  then_ready : (next : Option Progress) → Onward text q answers' next → IfSome next (λ p. Ready text p cells answers' work' links')
+  then_ready None o = tt
+  then_ready (Some Unbegun) o = absurd o
+  then_ready (Some (Begun p)) o =
+      let few = o.0.few_bytes in
       record {
-        long_cells = long_cells;
-        long_answers = omega arith;
-        few_answers = few;
-        words = same_work ∙ read.words;
-        numbers = same_links ∙ read.numbers;
-        read = λ v. still_read text q.asked r.progress.asked cells work links work' links' read m.asked_same same_work same_links;
-        standing = λ v. m.standing u;
+        room = record {
+          long_cells = long_cells;
+          long_answers = omega arith;
+          few_answers = few;
+          words = same_work ∙ read.words;
+          numbers = same_links ∙ read.numbers;
+        };
+        left_there = record { read = still_read text q.asked p.asked cells work links work' links' read o.1 same_work same_links; standing = o.0 };
       }
 
-  -- the output had begun
-  pub later_step : q.begun ≡ true → Scratch work links work' links' → Stepped text q cells work links out cells answers' work' links' out' r
-  later_step is scratch =
-      record {
-        some = m.some;
-        fits = m.fits;
-        behind = m.behind;
-        rest = rest_begun text q is ∙ m.rest;
-        ready = then_ready;
-        nearer = λ u.
-            let far = m.later u in
-            let s = m.standing u in
-            let number = s.number in
-            let a = left_begun q is in
-            let b = left_begun r.progress s.is_begun in
-            omega arith;
-        cells_behind = refl;
-        cells_kept = λ u. refl;
-        scratch = scratch;
-      }
+nearer_first : (text : List ℕ) (q : Held) (answers' : List ℕ) (next : Option Progress) → Onward text q answers' next → IfSome next (λ p. left p < left Unbegun)
+nearer_first text q answers' None o = tt
+nearer_first text q answers' (Some Unbegun) o = absurd o
+nearer_first text q answers' (Some (Begun p)) o = omega arith
 
+module _ (text : List ℕ) (q : Held) (cells answers work links out answers' work' links' out' : List ℕ) (r : Stretch)
+    (long_cells : 16384 ≤ length cells) (long_answers : 1024 ≤ length answers) (read : IsRead text q.asked cells work links) (m : Made text q out answers' out' r)
+    (same_answers : length answers' ≡ length answers) (same_work : length work' ≡ length work) (same_links : length links' ≡ length links) where
   -- it begins here, with a text that was read
-  pub first_step : (p : Progress) (cells₀ work₀ links₀ : List ℕ) → p.begun ≡ false → packed text ≡ rest_from 0 (list_in text) → q.base + q.from ≡ 0
-      → drop 16384 cells ≡ drop 16384 cells₀ → Scratch work₀ links₀ work' links' → Stepped text p cells₀ work₀ links₀ out cells answers' work' links' out' r
-  unfolding rest_of rest_at
-  first_step p cells₀ work₀ links₀ is_not is start behind scratch =
+  pub first_step : (cells₀ work₀ links₀ : List ℕ) → packed text ≡ rest_from 0 (list_in text) → q.base + q.from ≡ 0
+      → drop 16384 cells ≡ drop 16384 cells₀ → Scratch work₀ links₀ work' links' → Stepped text Unbegun cells₀ work₀ links₀ out cells answers' work' links' out' r
+  unfolding rest_at
+  first_step cells₀ work₀ links₀ is start behind scratch =
       record {
         some = m.some;
         fits = m.fits;
         behind = m.behind;
-        rest = ap (λ (b : Bool). cond b (rest_at text p) (packed text)) is_not ∙ is ∙ ap (λ (k : ℕ). rest_from k (list_in text)) (sym start) ∙ m.rest;
-        ready = then_ready;
-        nearer = λ u.
-            let b = left_begun r.progress (m.standing u).is_begun in
-            let a = left_before p is_not in
-            omega arith;
+        rest = is ∙ ap (λ (k : ℕ). rest_from k (list_in text)) (sym start) ∙ m.rest;
+        ready = then_ready text q cells answers work links answers' work' links' long_cells long_answers read same_answers same_work same_links r.next m.onward;
+        nearer = nearer_first text q answers' r.next m.onward;
         cells_behind = behind;
-        cells_kept = λ u. no_last u is_not;
+        cells_kept = tt;
         scratch = scratch;
       }

@@ -11,7 +11,7 @@ use lib.Seq.{length-take-le}
 use Rattle.lists.proofs.TestLaws.{holds}
 use Rattle.definitions.specs.Outcomes.{answer_size, outcome, outcome_of}
 use Rattle.definitions.specs.Refusals.{Call, refusal, sides_of, lent_of, tray_of}
-use Rattle.definitions.specs.declared.Listing.TheVariants as listing
+use Rattle.std.specs.Prelude.{Ok, Err, None}
 use Rattle.definitions.specs.declared.Refusal.{Refusal}
 use Rattle.placements.specs.Pieces.{records_of}
 use Rattle.solver.specs.Lent.{call_with}
@@ -19,11 +19,11 @@ use Rattle.definitions.specs.Starts.{outcome_from, skipping}
 use Rattle.definitions.specs.declared.Start.TheVariants.{Behind}
 use Rattle.output.specs.Rest.{Stands}
 use Rattle.output.specs.Standing.{IsRead, Standing, Turned, list_in}
-use Rattle.output.specs.declared.Progress.{Progress}
+use Rattle.output.specs.declared.Held.{Held}
 use Rattle.output.proofs.AskedLaws.{asked_outcome, asked_refusal, call_for}
-use Rattle.output.proofs.PageLaws.{Here, page_here, page_accepted, page_there, page_scratch, behind_is}
+use Rattle.output.proofs.PageLaws.{Here, page_here, page_accepted, page_there, page_scratch, behind_is, wrote}
 
-module _ (text : List ℕ) (p : Progress) (cells work links : List ℕ) (read : IsRead text p.asked cells work links)
+module _ (text : List ℕ) (p : Held) (cells work links : List ℕ) (read : IsRead text p.asked cells work links)
     (answers : List ℕ) (s : Standing text p answers) (all : p.from ≡ p.written) (more : p.further ≡ true)
     (room : ℕ) (room_some : 1 ≤ room) (lend : room * (2 * p.places) ≤ length answers) where
   abbrev l : Call
@@ -61,10 +61,10 @@ module _ (text : List ℕ) (p : Progress) (cells work links : List ℕ) (read : 
       ∙ ap (λ (m : ℕ). outcome (skipping m l)) next
 
   pub turned : (n : ℕ) (further : Bool) (page work' links' answers' : List ℕ)
-      → outcome_of (listing.Page n further) page work' links'
+      → outcome_of (wrote n further) page work' links'
       ≡ outcome_from Behind (take (2 * p.places) (drop ((p.written - 1) * (2 * p.places)) answers)) (call_with (records_of p.asked.pieces) p.asked.board (take p.asked.used cells) p.asked.config (take (room * (2 * p.places)) answers) work links)
       → answers' ≡ page ++ drop (room * (2 * p.places)) answers → length answers' ≡ length answers
-      → Turned text p work links answers' work' links' (record { begun = p.begun; asked = p.asked; base = p.base + p.written; from = 0; written = n; further = further; room = room; places = p.places })
+      → Turned text p work links answers' work' links' (record { asked = p.asked; base = p.base + p.written; from = 0; written = n; further = further; room = room; places = p.places })
   unfolding list_in call_with lent_of tray_of
   turned n further page work' links' answers' e f long =
       let h : Here (list_in text) (p.base + p.written) (2 * p.places) room n further (page ++ drop (room * (2 * p.places)) answers)
@@ -74,7 +74,6 @@ module _ (text : List ℕ) (p : Progress) (cells work links : List ℕ) (read : 
       let few_bytes = s.few_bytes in
       record {
         standing = record {
-          is_begun = s.is_begun;
           accepted = s.accepted;
           places_are = s.places_are;
           some = s.some;
@@ -97,12 +96,12 @@ module _ (text : List ℕ) (p : Progress) (cells work links : List ℕ) (read : 
       }
 
   pub never_refused : (w : Refusal) (page work' links' : List ℕ)
-      → outcome_of (listing.Refused w) page work' links'
+      → outcome_of (Err w) page work' links'
       ≡ outcome_from Behind (take (2 * p.places) (drop ((p.written - 1) * (2 * p.places)) answers)) (call_with (records_of p.asked.pieces) p.asked.board (take p.asked.used cells) p.asked.config (take (room * (2 * p.places)) answers) work links) → ⊥
   never_refused w page work' links' e = page_accepted l ok (2 * p.places) room size_is sized room_is room_some (p.base + p.written) w page work' links' (e ∙ turned_outcome)
 
   -- nor is the entry in the buffer none of the list
   pub never_missing : (page work' links' : List ℕ)
-      → outcome_of listing.NoEntry page work' links'
+      → outcome_of (Ok None) page work' links'
       ≡ outcome_from Behind (take (2 * p.places) (drop ((p.written - 1) * (2 * p.places)) answers)) (call_with (records_of p.asked.pieces) p.asked.board (take p.asked.used cells) p.asked.config (take (room * (2 * p.places)) answers) work links) → ⊥
   never_missing page work' links' e = page_there l ok (2 * p.places) room size_is sized room_is room_some (p.base + p.written) page work' links' (e ∙ turned_outcome)

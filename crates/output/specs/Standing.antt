@@ -1,20 +1,18 @@
 -- How far a listing is, and what stands in the lent slices then.
-use Rattle.std.specs.Prelude.{ℕ, ◌+◌, ◌*◌, ◌/◌, ◌<◌, ◌≤◌, min, true, cond, List, ◌++◌, ◌⊎◌, ◌≡◌, ltb, length, take, drop}
+use Rattle.std.specs.Prelude.{ℕ, ◌+◌, ◌*◌, ◌/◌, ◌<◌, ◌≤◌, min, true, cond, Result, List, ◌++◌, ◌⊎◌, ◌≡◌, MatchResult, ltb, length, take, drop}
 use Rattle.definitions.specs.Files.{call_in}
 use Rattle.definitions.specs.Grid.{volume}
-use Rattle.definitions.specs.Outcomes.{answers_of, cleared, outcome_of}
+use Rattle.definitions.specs.Outcomes.{Reply, answers_of, cleared, number_of, outcome_of}
 use Rattle.definitions.specs.Refusals.{identify_of, refusal, sides_fit, sides_of, tray_of}
-use Rattle.definitions.specs.declared.Config.{Config}
 use Rattle.definitions.specs.declared.Record.{Record}
-use Rattle.definitions.specs.declared.Listing.{Listing}
-use Rattle.placements.specs.declared.Pieces.{Pieces}
+use Rattle.definitions.specs.declared.Refusal.{Refusal}
 use Rattle.placements.specs.Pieces.{records_of, pieces_of}
 use Rattle.solver.specs.Lent.{call_with}
 use Rattle.definitions.specs.Starts.{outcome_from}
 use Rattle.definitions.specs.declared.Start.TheVariants.{Behind}
 use Rattle.files.specs.declared.reading.Asked.{Asked}
 use Rattle.output.specs.Rest.{Stands}
-use Rattle.output.specs.declared.Progress.{Progress}
+use Rattle.output.specs.declared.Held.{Held}
 
 -- what a text asks for was read of it, its cells stand at the start of a slice, and the work words and links are as many as document 01 has them
 pub record IsRead (text : List ℕ) (asked : Asked) (cells work links : List ℕ) : Type 0 where
@@ -31,8 +29,7 @@ unfoldable pub list_in : List ℕ → List (List ℕ)
 list_in text = answers_of (tray_of (call_in text 0 0)) (identify_of (call_in text 0 0).config) (call_in text 0 0).config.solver
 
 -- the entries that stand in the answer buffer are those of the list from entry `base` on; of them `from` are printed
-pub record Standing (text : List ℕ) (p : Progress) (answers : List ℕ) : Type 0 where
-  pub is_begun : p.begun ≡ true
+pub record Standing (text : List ℕ) (p : Held) (answers : List ℕ) : Type 0 where
   pub accepted : refusal (call_in text 0 0) ≡ 0
   pub places_are : p.places ≡ volume (sides_of (call_in text 0 0).board)
   pub some : 1 ≤ p.places
@@ -60,16 +57,16 @@ grown_room room size len = min (8 * room) (len / size)
 unfoldable pub places_of : Record → ℕ
 places_of board = cond (sides_fit board) (volume (sides_of board)) 0
 
--- the page call behind the last of the answers that stand in a buffer, over the start of that buffer
-pub record PageAfter (t : Pieces) (board : Record) (bytes : List ℕ) (config : Config) (size written room : ℕ) (answers work links : List ℕ)
-    (r : Listing) (answers' work' links' : List ℕ) : Type 0 where
+-- the page call behind the answer in a place of a buffer, over the start of that buffer
+pub record PageAfter (asked : Asked) (cells : List ℕ) (size place room : ℕ) (answers work links : List ℕ) (r : Reply) (answers' work' links' : List ℕ) : Type 0 where
   pub page : List ℕ
   pub outcome_is : outcome_of r page work' links'
-      ≡ outcome_from Behind (take size (drop (written * size) answers)) (call_with (records_of t) board bytes config (take (room * size) answers) work links)
+      ≡ outcome_from Behind (take size (drop (place * size) answers))
+      (call_with (records_of asked.pieces) asked.board (take asked.used cells) asked.config (take (room * size) answers) work links)
   pub answers_are : answers' ≡ page ++ drop (room * size) answers
 
 -- the next page stands in the buffer
-pub record Turned (text : List ℕ) (p : Progress) (work links answers' work' links' : List ℕ) (r : Progress) : Type 0 where
+pub record Turned (text : List ℕ) (p : Held) (work links answers' work' links' : List ℕ) (r : Held) : Type 0 where
   pub standing : Standing text r answers'
   pub asked_same : r.asked ≡ p.asked
   pub base : r.base ≡ p.base + p.written
@@ -78,9 +75,12 @@ pub record Turned (text : List ℕ) (p : Progress) (work links answers' work' li
   pub scratch : Scratch work links work' links'
 
 -- the first page stands in the buffer, or the call is refused
-pub record Begins (text : List ℕ) (asked : Asked) (work links answers' work' links' : List ℕ) (number : ℕ) (p : Progress) : Type 0 where
-  pub refusal_is : number ≡ refusal (call_in text 0 0)
-  pub standing : number ≡ 0 → Standing text p answers'
+pub record FirstHeld (text : List ℕ) (asked : Asked) (answers' : List ℕ) (p : Held) : Type 0 where
+  pub accepted : refusal (call_in text 0 0) ≡ 0
+  pub standing : Standing text p answers'
   pub asked_same : p.asked ≡ asked
-  pub start : number ≡ 0 → p.base + p.from ≡ 0
+  pub start : p.base + p.from ≡ 0
+
+pub record Begins (text : List ℕ) (asked : Asked) (work links answers' work' links' : List ℕ) (r : Result Held Refusal) : Type 0 where
+  pub first : MatchResult r (λ p. FirstHeld text asked answers' p) (λ why. number_of why ≡ refusal (call_in text 0 0))
   pub scratch : Scratch work links work' links'

@@ -10,17 +10,15 @@ mod pages;
 mod stretches;
 
 ghost use Rattle.std.specs.Prelude.{◌≡◌, ◌≤◌, length};
-ghost use Rattle.output.specs.Stretches.{Ready, Stepped, beginning};
+ghost use Rattle.output.specs.Stretches.{Ready, Stepped};
 
-use files::reading;
 use files::reading::Asked;
 
-// How far the output is. Once it has begun, what the text asks for was read; `written` entries stand in the answer buffer, the first
-// of them entry `base` of the list, and `from` of them are printed; `further`: whether an entry follows them; the next page has room
-// for `room` entries at least; the board's box has `places` cells.
+// How far a listing is: what the text asks for was read; `written` entries stand in the answer buffer, the first of them entry `base`
+// of the list, and `from` of them are printed; `further`: whether an entry follows them; the next page has room for `room` entries at
+// least; the board's box has `places` cells.
 #[derive(Clone, Copy)]
-pub struct Progress {
-    pub begun: bool,
+pub struct Held {
     pub asked: Asked,
     pub base: u64,
     pub from: usize,
@@ -30,62 +28,40 @@ pub struct Progress {
     pub places: usize,
 }
 
-// How many bytes were made, whether that is all, and, where it is not, how far the output is.
+// How far the output is: nothing is printed yet, and nothing read; or a listing has begun.
+#[derive(Clone, Copy)]
+pub enum Progress {
+    Unbegun,
+    Begun(Held),
+}
+
+// How many bytes were made, and how far the output is then; nowhere, where that is all.
 #[derive(Clone, Copy)]
 pub struct Stretch {
     pub made: usize,
-    pub done: bool,
-    pub progress: Progress,
-}
-
-// Nothing is printed yet, and nothing read.
-pub fn begin() -> Progress
-    ensures { result ≡ beginning }
-{
-    let asked = reading::nothing_asked();
-    Progress {
-        begun: false,
-        asked,
-        base: 0,
-        from: 0,
-        written: 0,
-        further: false,
-        room: 1,
-        places: 0,
-    }
+    pub next: Option<Progress>,
 }
 
 // The next stretch of what is printed for a text, at the start of `out`: a refusal, alone; the lines of entries, as many as stand ready
 // and fit; or the last line. The other slices keep what the next step needs: the text's cells, the answers of a page, and the work
-// words and links of the search.
+// words and links of the search. (No struct of slices: some are only read further down, and it would be taken apart at each call.)
 pub fn step(
     text: &[u8],
-    p: Progress,
+    progress: &Progress,
     cells: &mut [u8],
     answers: &mut [u8],
     work: &mut [u64],
     links: &mut [u16],
     out: &mut [u8],
 ) -> Stretch
-    requires { Ready text.now p cells.old answers.old work.old links.old × (4160 ≤ length out.old) }
-    ensures { Stepped text.now p cells.old work.old links.old out.old
+    requires { Ready text.now progress.now cells.old answers.old work.old links.old × (4160 ≤ length out.old) }
+    ensures { Stepped text.now progress.now cells.old work.old links.old out.old
         cells.new answers.new work.new links.new out.new result }
 {
-    let begun = p.begun;
-    if begun {
-        return stretches::next_lines(text, p, cells, answers, work, links, out);
+    match progress {
+        Progress::Unbegun => stretches::first_lines(text, cells, answers, work, links, out),
+        Progress::Begun(held) => {
+            stretches::next_lines(text, held, cells, answers, work, links, out)
+        }
     }
-    let read = reading::read_file(text, cells);
-    let is_read = read.is_read;
-    if !is_read {
-        return stretches::refused_line(p, 16, out);
-    }
-    let asked = read.asked;
-    let first = pages::first_page(text, asked, cells, answers, work, links);
-    let number = first.number;
-    let q = first.progress;
-    if 0 < number {
-        return stretches::refused_line(q, number, out);
-    }
-    stretches::next_lines(text, q, cells, answers, work, links, out)
 }

@@ -1,6 +1,5 @@
 // The lines of entries that stand in the answer buffer.
-ghost use Rattle.std.specs.Prelude.{◌≡◌, ◌+◌, ◌*◌, ◌≤◌, ◌<◌, length, drop};
-ghost use Rattle.std.proofs.Math.Seq.{paste};
+ghost use Rattle.std.specs.Prelude.{◌+◌, ◌*◌, ◌≤◌, ◌<◌, length};
 ghost use Rattle.output.specs.Rest.{LinesPut};
 
 use files::printing;
@@ -26,30 +25,15 @@ pub fn put_lines(
         × (end * (2 * places) ≤ length answers.now) × (base + end ≤ 18446744073709551616) }
     ensures { LinesPut base (2 * places) from end answers.now out.old out.new result }
 {
-    let line = 8 * places + 64;
-    let n = out.len();
-    let mut at = 0;
-    let mut i = from;
-    // the lines of the entries before i stand before `at`
-    while i < end {
-        if n - at < line {
-            return Lines { made: at, next: i };
+    let size = 2 * places;
+    let mut made = 0;
+    // the lines of the entries before i stand before `made`
+    for i in from..end {
+        if out.len() - made < 4 * size + 64 {
+            return Lines { made, next: i };
         }
-        at = printing::put_entry(out, at, base + i as u64, answers, i * (2 * places), places);
-        i += 1;
+        let answer = &answers[i * size..i * size + size];
+        made = printing::put_entry(out, made, base + i as u64, answer);
     }
-    Lines { made: at, next: i }
-}
-
-// The first n bytes from a place of a slice on, over the start of another.
-pub fn copy(src: &[u8], from: usize, dst: &mut [u8], n: usize)
-    requires { (from + n ≤ length src.now) × (n ≤ length dst.old) }
-    ensures { dst.new ≡ paste dst.old 0 (drop from src.now) n }
-{
-    let mut i = 0;
-    // the first i bytes are copied
-    while i < n {
-        dst[i] = src[from + i];
-        i += 1;
-    }
+    Lines { made, next: end }
 }

@@ -3,10 +3,10 @@
 ghost use Rattle.std.specs.Prelude.{◌≡◌, true, ◌+◌, ◌*◌, ◌≤◌, ◌<◌, length};
 ghost use Rattle.output.specs.Standing.{Begins, IsRead, PageAfter, Standing, Turned, grown_room, places_of};
 
-use crate::{Progress, lines};
-use definitions::{Config, Listing, Record, Start, refusal_number};
+use crate::Held;
+use definitions::{Listing, Record, Refusal, Start};
 use files::reading::Asked;
-use placements::{Pieces, records};
+use placements::records;
 use solver::pages;
 
 // Room for eight times as many entries, or for as many as fit.
@@ -20,10 +20,8 @@ fn grown(room: usize, size: usize, len: usize) -> usize
 
 // The page behind the answer in a place of the answer buffer, over the start of that buffer.
 fn page_after(
-    t: Pieces,
-    board: Record,
-    bytes: &[u8],
-    config: Config,
+    asked: &Asked,
+    cells: &[u8],
     size: usize,
     place: usize,
     room: usize,
@@ -31,21 +29,22 @@ fn page_after(
     work: &mut [u64],
     links: &mut [u16],
 ) -> Listing
-    requires { (size ≤ 1024) × (place * size + size ≤ length answers.old) × (room * size ≤ length answers.old) }
-    ensures { PageAfter t board bytes.now config size place room
+    requires { (size ≤ 1024) × (place * size + size ≤ length answers.old) × (room * size ≤ length answers.old)
+        × (asked.now.used ≤ length cells.now) }
+    ensures { PageAfter asked.now cells.now size place room
         answers.old work.old links.old result answers.new work.new links.new }
 {
+    let start = place * size;
     let mut last = [0u8; 1024];
-    lines::copy(answers, place * size, &mut last, size);
-    let end = room * size;
+    last[..size].copy_from_slice(&answers[start..start + size]);
     pages::page(
-        t,
-        board,
-        bytes,
-        config,
+        &asked.pieces,
+        asked.board,
+        &cells[..asked.used],
+        asked.config,
         Start::Behind,
         &last[..size],
-        &mut answers[..end],
+        &mut answers[..room * size],
         work,
         links,
     )
@@ -54,63 +53,37 @@ fn page_after(
 // The next page, where all entries in the answer buffer are printed and a further one follows.
 pub fn turn_page(
     text: &[u8],
-    p: Progress,
+    held: &Held,
     cells: &[u8],
     answers: &mut [u8],
     work: &mut [u64],
     links: &mut [u16],
-) -> Progress
-    requires { IsRead text.now p.asked cells.now work.old links.old × Standing text.now p answers.old
-        × (p.from ≡ p.written) × (p.further ≡ true) }
-    ensures { Turned text.now p work.old links.old
+) -> Held
+    requires { IsRead text.now held.now.asked cells.now work.old links.old × Standing text.now held.now answers.old
+        × (held.now.from ≡ held.now.written) × (held.now.further ≡ true) }
+    ensures { Turned text.now held.now work.old links.old
         answers.new work.new links.new result }
 {
-    let asked = p.asked;
-    let t = asked.pieces;
-    let board = asked.board;
-    let config = asked.config;
-    let used = asked.used;
-    let base = p.base;
-    let written = p.written;
-    let places = p.places;
-    let size = 2 * places;
-    let room = grown(p.room, size, answers.len());
-    let listing = page_after(
-        t,
-        board,
-        &cells[..used],
-        config,
-        size,
-        written - 1,
-        room,
-        answers,
-        work,
-        links,
-    );
-    // neither of the last two is answered: the call is accepted, and the entry is one of the list
-    match listing {
-        Listing::Page(n, further) => {
-            let mut q = p;
-            q.base = base + written as u64;
-            q.from = 0;
-            q.written = n;
-            q.further = further;
-            q.room = room;
-            q
-        }
-        Listing::Refused(_) => p,
-        Listing::NoEntry => p,
+    let size = 2 * held.places;
+    let room = grown(held.room, size, answers.len());
+    let place = held.written - 1;
+    match page_after(&held.asked, cells, size, place, room, answers, work, links) {
+        Ok(Some(page)) => Held {
+            base: held.base + held.written as u64,
+            from: 0,
+            written: page.written,
+            further: page.further,
+            room,
+            ..*held
+        },
+        // the call is accepted, and the entry is one of the list
+        Ok(None) => unreachable!(),
+        Err(_) => unreachable!(),
     }
 }
 
-// How a listing begins: with its first page, or with a refusal's number.
-#[derive(Clone, Copy)]
-pub struct Begun {
-    pub number: u64,
-    pub progress: Progress,
-}
-
 // The places of a board's box; 0 where a side is out of range.
+#[tactic(auto, unfolding(crate::specs::Standing::places_of))]
 fn places_of(board: Record) -> usize
     ensures { (result ≡ places_of board) × (result ≤ 512) }
 {
@@ -121,7 +94,7 @@ fn places_of(board: Record) -> usize
     }
 }
 
-// The first page, with room for one entry.
+// The first page, with room for one entry; or why the call is refused.
 pub fn first_page(
     text: &[u8],
     asked: Asked,
@@ -129,56 +102,34 @@ pub fn first_page(
     answers: &mut [u8],
     work: &mut [u64],
     links: &mut [u16],
-) -> Begun
+) -> Result<Held, Refusal>
     requires { IsRead text.now asked cells.now work.old links.old
         × (1024 ≤ length answers.old) × (length answers.old < 4611686018427387904) }
     ensures { Begins text.now asked work.old links.old
-        answers.new work.new links.new result.number result.progress }
+        answers.new work.new links.new result }
 {
-    let t = asked.pieces;
-    let board = asked.board;
-    let config = asked.config;
-    let used = asked.used;
-    let places = places_of(board);
+    let places = places_of(asked.board);
     let end = 2 * places;
-    let none = [0u8; 1];
-    let listing = pages::page(
-        t,
-        board,
-        &cells[..used],
-        config,
+    let first = pages::page(
+        &asked.pieces,
+        asked.board,
+        &cells[..asked.used],
+        asked.config,
         Start::Entry(0),
-        &none,
+        &[],
         &mut answers[..end],
         work,
         links,
-    );
-    let mut progress = Progress {
-        begun: true,
+    )?;
+    // a page that starts at an entry by its number is always there
+    let page = first.unwrap();
+    Ok(Held {
         asked,
         base: 0,
         from: 0,
-        written: 0,
-        further: false,
+        written: page.written,
+        further: page.further,
         room: 1,
         places,
-    };
-    match listing {
-        Listing::Refused(why) => {
-            let number = refusal_number(why) as u64;
-            Begun { number, progress }
-        }
-        Listing::NoEntry => Begun {
-            number: 0,
-            progress,
-        },
-        Listing::Page(written, further) => {
-            progress.written = written;
-            progress.further = further;
-            Begun {
-                number: 0,
-                progress,
-            }
-        }
-    }
+    })
 }

@@ -11,8 +11,9 @@ use borrow.Author.Count.{below_more}
 use borrow.Author.Tests.{leb-true}
 use borrow.Rule.Slice.PartMut.{mid_of, post_of, put_mid, same_len_mid, mid_len}
 use lib.Dec.{T, ltb, leb, eqb, ltb→lt, lt→ltb, eqb→eq}
-use lib.ListN.{length, get_or, take, drop, set, length-set, length-replicate, length-map, length-drop, drop_of_length-le}
-use lib.Seq.{length-take-le, drop-cons, get_or-take, take-take, take_at, drop_at, take-append-le, take-set-le, drop-set-lt, get_or-set_same}
+use lib.ListN.{length, get_or, take, drop, set, length-replicate, length-map, length-drop, drop_of_length-le}
+use lib.Seq.{take-length, length-take-le, drop-cons, get_or-take, take-take, drop_at, take-append-le, take-set-le, drop-set-lt, get_or-set_same}
+use Rattle.std.specs.Prelude.{Result, Err}
 use Rattle.lists.specs.Lists.{all, how_many, keep, sum, joined, numbered, numbered_from}
 use Rattle.lists.proofs.TestLaws.{eqb_flip, and_left, and_right, holds, is_true, is_false}
 use Rattle.lists.proofs.ListLaws.{front_part, all_at, all_of, keep_at, map_same}
@@ -44,11 +45,9 @@ use Rattle.shape.specs.Variants.{turned_by, Numbers}
 use Rattle.shape.proofs.PlaceLaws.{place_lt, place_of_cell, volume_small}
 use Rattle.shape.proofs.VariantLaws.{variant_filled, scan_from}
 use Rattle.placements.specs.declared.Pieces.{Pieces}
-use Rattle.placements.specs.declared.Verdict.{Verdict}
-use Rattle.placements.specs.declared.Verdict.TheVariants.{Refused}
 use Rattle.placements.specs.Pieces.{no_record, lent_records, records_of, lent_in, tray_in}
 use Rattle.placements.specs.Stages.{verdict_number, lent_rows, grid_rows, config_rows, slice_rows, count_rows_by, count_rows}
-use Rattle.placements.specs.Merging.{Sound, grid_at, shape_at, form_at, forms_of, AreKinds, copies_at}
+use Rattle.placements.specs.Merging.{Sound, Ordered, grid_at, shape_at, form_at, forms_of, AreKinds, copies_at}
 use Rattle.placements.specs.Counting.{fits_in, placements_in, OnBoard, Accepted9, CountsOf, VariantsAt, PutVariants, Counted}
 use Rattle.placements.specs.Stripping.{StripsTray}
 use Rattle.placements.specs.declared.counting.Counts.{Counts}
@@ -222,7 +221,7 @@ refused_some LinksTooShort e = omega arith
 refused_some TooManyPlacements e = omega arith
 refused_some TooManyLinks e = omega arith
 
-pub refused_not : (v : Verdict) {why : Refusal} → v ≡ Refused why → verdict_number v ≡ 0 → ⊥
+pub refused_not : (v : Result (Unit {0}) Refusal) {why : Refusal} → v ≡ Err why → verdict_number v ≡ 0 → ⊥
 refused_not v {why} r e = refused_some why (sym (ap verdict_number r) ∙ e)
 
 -- the table in its four parts: the first part of which a row applies decides, among the three that are told without counting, and then the counts
@@ -292,7 +291,7 @@ few_records t = go (leb t.count 16) refl
     go false e h = let k = length-replicate t.count no_record in omega arith
 
 pub lent_passes : (t : Pieces) (board : Record) (bytes : List ℕ) → Accepted9 t board bytes → Lent t board bytes
-unfolding Accepted9 lent_rows grid_rows
+unfolding lent_rows grid_rows
 lent_passes t board bytes ok =
     let rs = records_of t in
     let none : (n : ℕ) → test_of (lent_rows rs board bytes) n ≡ false = none_applies (lent_rows rs board bytes) tt ok in
@@ -535,7 +534,6 @@ counts_stripped t board bytes s c = counts_unframed (tray_in (records_of t) boar
 -- ---- variants put into a slice
 -- those that stand before a place stay where what stands before it does
 pub variants_kept : (g : Grid) (at n : ℕ) (old new : List ℕ) → at + 25 ≤ n → take n new ≡ take n old → VariantsAt g old at → VariantsAt g new at
-unfolding VariantsAt
 variants_kept g at n old new h e v =
     record { within = subst (λ (k : ℕ). k ≤ 24) count v.within; are_maps = subst (λ (ks : List ℕ). T (all (λ k. ltb k 48) ks)) part v.are_maps; make = ap (turned_by g) (sym part) ∙ v.make }
   where
@@ -554,10 +552,7 @@ module _ (at k : ℕ) (xs ys : List ℕ) (room : at + 25 ≤ length xs) (as_long
   abbrev pub with_variants : List ℕ
   with_variants = set (put_mid (at + 1) (at + 25 - (at + 1)) xs ys) at k
 
-  pub put_long : length with_variants ≡ length xs
-  put_long = length-set (put_mid (at + 1) (at + 25 - (at + 1)) xs ys) at k ∙ same_len_mid (at + 1) (at + 25 - (at + 1)) xs ys as_long
-
-  pub part_long : length ys ≡ at + 25 - (at + 1)
+  part_long : length ys ≡ at + 25 - (at + 1)
   part_long = as_long ∙ mid_len (at + 1) (at + 25) xs room
 
   front_long : length (take (at + 1) xs) ≡ at + 1
@@ -568,17 +563,15 @@ module _ (at k : ℕ) (xs ys : List ℕ) (room : at + 25 ≤ length xs) (as_long
       drop-set-lt (at + 1) (put_mid (at + 1) (at + 25 - (at + 1)) xs ys) at k (omega arith)
       ∙ drop_at (take (at + 1) xs) (ys ++ post_of (at + 1) (at + 25 - (at + 1)) xs) (at + 1) front_long
 
-  -- the numbers behind the place are ys
-  pub put_part : mid_of (at + 1) (at + 25 - (at + 1)) with_variants ≡ ys
-  put_part = ap (take (at + 25 - (at + 1))) put_behind ∙ take_at ys (post_of (at + 1) (at + 25 - (at + 1)) xs) (at + 25 - (at + 1)) part_long
+  -- the first numbers behind the place are those of ys
+  pub put_first : k ≤ 24 → take k (drop (at + 1) with_variants) ≡ take k ys
+  put_first few = ap (take k) put_behind ∙ take-append-le k ys (post_of (at + 1) (at + 25 - (at + 1)) xs) (let l = part_long in omega arith)
 
   pub put_variants : (g : Grid) → Numbers g (variants g) ys k → PutVariants g at xs with_variants
-  unfolding VariantsAt
   put_variants g n =
       record {
         there = (
-            let first : take k (drop (at + 1) with_variants) ≡ take k ys =
-            ap (take k) put_behind ∙ take-append-le k ys (post_of (at + 1) (at + 25 - (at + 1)) xs) (let w = n.within in let l = part_long in omega arith) in
+            let first = put_first n.within in
             subst (λ (m : ℕ). Numbers g (variants g) (drop (at + 1) with_variants) m)
             (sym (get_or-set_same (put_mid (at + 1) (at + 25 - (at + 1)) xs ys) at k 0 (let l = same_len_mid (at + 1) (at + 25 - (at + 1)) xs ys as_long in omega arith)))
             (record { within = n.within; are_maps = subst (λ (ks : List ℕ). T (all (λ m. ltb m 48) ks)) (sym first) n.are_maps; make = ap (turned_by g) first ∙ n.make }));
@@ -591,3 +584,45 @@ pub variants_next : (grids : ℕ → Grid) (old new : List ℕ) (k : ℕ) → ((
     → (j : ℕ) → j < k + 1 → VariantsAt (grids j) new (25 * j)
 variants_next grids old new k h p =
     below_more (λ (j : ℕ). VariantsAt (grids j) new (25 * j)) k (λ j l. variants_kept (grids j) (25 * j) (25 * k) old new (omega arith) p.before (h j l)) p.there
+
+-- ---- what counts of the first numbers of a list
+-- the first n places, and the first n kinds
+pub on_board_front : {order places : List ℕ} {g : Grid} {n : ℕ} → n ≤ length places → OnBoard order g (take n places) n → OnBoard order g places n
+on_board_front {order} {places} {g} {n} h on =
+    let e = take-take n n places (omega arith) in
+    record {
+      is_order = on.is_order;
+      within = h;
+      few = on.few;
+      in_box = subst (λ (is : List ℕ). T (all (λ i. ltb i (volume g.sides)) is)) e on.in_box;
+      cells = ap (map (cell_at g.sides)) (sym e) ∙ on.cells;
+    }
+
+pub kinds_front : {t : Pieces} {bytes first : List ℕ} {n : ℕ} → AreKinds t bytes (take n first) n → AreKinds t bytes first n
+kinds_front {t} {bytes} {first} {n} k =
+    let e = take-take n n first (omega arith) in
+    record {
+      few = k.few;
+      ordered = subst (Ordered t bytes) e k.ordered;
+      forms_are = ap (forms_of t bytes) (sym e) ∙ k.forms_are;
+    }
+
+pub counted_front : {t : Pieces} {board : Record} {bytes places first turnings : List ℕ} {r : Counts} → r.size ≤ length places → r.kinds ≤ length first
+    → Counted t board bytes (take r.size places) (take r.kinds first) turnings r → Counted t board bytes places first turnings r
+counted_front {t} {board} {bytes} {places} {first} {turnings} {r} h k c =
+    record {
+      on_board = on_board_front h c.on_board;
+      are_kinds = kinds_front c.are_kinds;
+      each_kind = λ j l. subst (λ (i : ℕ). VariantsAt (grid_at t bytes i) turnings (25 * j)) (get_or-take r.kinds first j 0 l) (c.each_kind j l);
+      counts = c.counts;
+    }
+
+-- and the other way round: the first kinds are a list of kinds of its own
+pub kinds_listed : {t : Pieces} {bytes first : List ℕ} {n : ℕ} → n ≤ length first → AreKinds t bytes first n → AreKinds t bytes (take n first) (length (take n first))
+kinds_listed {t} {bytes} {first} {n} h k =
+    let e = take-length (take n first) in
+    record {
+      few = (let l = length-take-le n first h in omega (arith, k.few));
+      ordered = subst (Ordered t bytes) (sym e) k.ordered;
+      forms_are = ap (forms_of t bytes) e ∙ k.forms_are;
+    }

@@ -1,19 +1,21 @@
 -- Numbering the places of a box, and the fit test cell by cell. Assumes nothing.
-use Prim.Native.Nat.{ℕ, suc, ◌+◌, ◌*◌, ◌-◌, ◌≤◌, ◌<◌}
+use Prim.Native.Nat.{ℕ, zero, suc, ◌+◌, ◌*◌, ◌-◌, ◌≤◌, ◌<◌}
 use mathlib.Core.Bool.{Bool, true, false, cond, ◌&&◌}
 use mathlib.Core.List.Memᴰ
 use mathlib.Core.List.{List, [], ◌∷◌, map, Memᴰ}
 use mathlib.Core.Path.{◌≡◌, refl, sym, ap, ap₂, ◌∙◌, subst}
 use native.Mathlib.Nat.{zero-add}
+use native.Mathlib.Numerals.{add-one}
 use native.Mathlib.Omega.{arith}
-use borrow.Author.Tests.{eqb-true, eqb-false, ltb-true, ltb-false}
+use borrow.Author.Tests.{eqb-true, eqb-false}
 use lib.Dec.{T, eqb, ltb, leb, eqb→eq, ltb→lt, leb→le}
-use lib.ListN.{length, get_or, take, drop, set, replicate, length-set, length-map, length-replicate, get_or-replicate, drop_of_length-le}
-use lib.Seq.{drop-cons, length-take-le, get_or-take, get_or-set_same, get_or-set_other, ext_get_or}
-use Rattle.lists.specs.Lists.{all, any, sort, before, from, below}
+use lib.ListN.{length, get_or, drop, set, replicate, length-set, length-map, length-replicate, get_or-replicate, drop_of_length-le}
+use lib.Seq.{drop-cons, get_or-set_same, get_or-set_other, ext_get_or}
+use Rattle.std.specs.List.{count_by, range_with_len}
+use Rattle.lists.specs.Lists.{all, any, how_many, sort, before, from, below}
 use Rattle.lists.proofs.TestLaws.{tests_same, and_left, and_right, is_false, eqb_of}
-use Rattle.lists.proofs.ListLaws.{all_at, all_of, all_map, any_at, any_of, all_get_or, get_or_map}
-use Rattle.lists.proofs.RangeLaws.{length_below, get_or_number, from_start}
+use Rattle.lists.proofs.ListLaws.{how_many_map, all_at, all_of, all_map, any_at, any_of, all_get_or, get_or_map}
+use Rattle.lists.proofs.RangeLaws.{below_at, length_below, get_or_number, from_start}
 use Rattle.lists.proofs.SortLaws.{sort_at, sort_of}
 use Rattle.definitions.specs.Grid.{Sides, Cell, Grid, InBox, place_of, byte_at, same_cell, filled_cells}
 use Rattle.definitions.specs.Scan.{cell_ahead, scan, scan_number}
@@ -21,22 +23,15 @@ use Rattle.definitions.specs.Placements.{origin, lies, reaches, fits}
 use Rattle.theorems.proofs.MapLaws.{filled_at, filled_of}
 use Rattle.theorems.proofs.WellMadeLaws.{same_cell→eq, same_cell_refl}
 use Rattle.shape.specs.Places.{cell_at}
-use Rattle.shape.specs.Grids.{Decided}
 use Rattle.shape.specs.Scans.{IsOrder}
+use Rattle.shape.proofs.GridLaws.{how_many_is}
 use Rattle.shape.proofs.PlaceLaws.{cell_at_place, place_of_cell}
 use Rattle.shape.proofs.VariantLaws.{scan_has, scan_from}
 use Rattle.shape.proofs.ScanLaws.{cell_tied}
-use Rattle.placements.specs.Poses.{cell_of, cells_in, origin_in, variant_in, Poses}
+use Rattle.placements.specs.declared.poses.Poses.{Poses}
+use Rattle.placements.specs.Poses.{cell_of, cells_in, origin_in, variant_in, variants_in, Standing}
 use Rattle.placements.specs.Fitting.{fits_on, fits_pose}
 use Rattle.placements.proofs.PoseLaws.{cells_numbered}
-
--- ---- a box's cells
-pub box_test : (s : Sides) (u : Cell) → u.x < s.a → u.y < s.b → Decided (ltb u.z s.c) (InBox s u)
-box_test s u p q = go (ltb u.z s.c) refl
-  where
-    go : (b : Bool) → ltb u.z s.c ≡ b → Decided b (InBox s u)
-    go true e = (p, q, ltb-true u.z s.c e)
-    go false e = λ w. let h = ltb-false u.z s.c e in let l = w.2 in omega arith
 
 -- ---- numbering places
 module _ (ps : List ℕ) where
@@ -76,26 +71,19 @@ module _ (ps : List ℕ) where
       ∙ sym (get_or_map 0 0 (λ j. before (eqb j) ps) (below (length xs)) i (subst (λ (k : ℕ). i < k) (sym (length_below (length xs))) h)
       ∙ ap (λ (j : ℕ). before (eqb j) ps) (get_or_number 0 (length xs) i 0 h ∙ zero-add i)))
 
-module _ (places : List ℕ) (n size : ℕ) (h : n ≤ length places) (t : T (all (λ i. ltb i size) (take n places))) where
-  pub place_in : (k : ℕ) → 0 < k → k ≤ n → get_or places (k - 1) 0 < size
-  place_in k some most =
-      let l = length-take-le n places h in
-      subst (λ (i : ℕ). i < size) (get_or-take n places (k - 1) 0 (omega arith))
-      (ltb→lt (get_or (take n places) (k - 1) 0) size (all_get_or (λ i. ltb i size) 0 (take n places) t (k - 1) (omega arith)))
+module _ (places : List ℕ) (size : ℕ) (t : T (all (λ i. ltb i size) places)) where
+  pub place_in : (k : ℕ) → k < length places → get_or places k 0 < size
+  place_in k h = ltb→lt (get_or places k 0) size (all_get_or (λ i. ltb i size) 0 places t k h)
 
-  pub number_start : (xs : List ℕ) → xs ≡ replicate size n → NumberedFrom (take n places) n xs
-  number_start xs e = numbered_none (take n places) n size xs (length-take-le n places h) e
+  pub number_start : (xs : List ℕ) → xs ≡ replicate size (length places) → NumberedFrom places (length places) xs
+  number_start xs e = numbered_none places (length places) size xs refl e
 
-  pub number_next : (k : ℕ) (xs : List ℕ) → length xs ≡ size → 0 < k → k ≤ n → NumberedFrom (take n places) k xs
-      → NumberedFrom (take n places) (k - 1) (set xs (get_or places (k - 1) 0) (k - 1))
-  number_next k xs l some most f =
-      let e = get_or-take n places (k - 1) 0 (omega arith) in
-      subst (λ (i : ℕ). NumberedFrom (take n places) (k - 1) (set xs i (k - 1))) e
-      (numbered_more (take n places) k xs some (omega (arith, length-take-le n places h)) (omega (arith, e, place_in k some most)) f)
+  pub number_next : (k : ℕ) (xs : List ℕ) → length xs ≡ size → 0 < k → k ≤ length places → NumberedFrom places k xs
+      → NumberedFrom places (k - 1) (set xs (get_or places (k - 1) 0) (k - 1))
+  number_next k xs l some most f = numbered_more places k xs some most (let b = place_in (k - 1) (omega arith) in omega arith) f
 
-  pub number_end : (k : ℕ) (xs : List ℕ) → length xs ≡ size → k ≡ 0 → NumberedFrom (take n places) k xs → xs ≡ map (λ i. before (eqb i) (take n places)) (below size)
-  number_end k xs l e f =
-      numbered_all (take n places) xs (subst (λ (j : ℕ). NumberedFrom (take n places) j xs) e f) ∙ ap (λ (j : ℕ). map (λ i. before (eqb i) (take n places)) (below j)) l
+  pub number_end : (xs : List ℕ) → length xs ≡ size → NumberedFrom places 0 xs → xs ≡ map (λ i. before (eqb i) places) (below size)
+  number_end xs l f = numbered_all places xs f ∙ ap (λ (j : ℕ). map (λ i. before (eqb i) places) (below j)) l
 
 -- ---- the fit test
 pub reach_parts : (v o : Cell) → T (reaches v o) → (o.x ≤ v.x) × (o.y ≤ v.y) × (o.z ≤ v.z)
@@ -128,21 +116,22 @@ pub lands_as : (g : Grid) (v o : Cell) {p w u : Cell} (x : Cell) (r : Bool) → 
 lands_as g v o {p} x r d e f i = sym (d ∙ ap (λ (y : Cell). any (same_cell y) (filled_cells g)) (e ∙ ap₂ (lies v) f i))
 
 -- the cells of a pose by their numbers: the test of cell k, and the fit test from cell k on
-abbrev pub lands_at : Grid → Cell → List ℕ → ℕ → ℕ → Bool
-lands_at g v poses i k = lands g v (origin_in poses i) (cell_of (get_or poses (512 * i + k) 0))
+abbrev pub lands_at : Grid → Cell → Poses → ℕ → ℕ → Bool
+lands_at g v poses i k = lands g v (origin_in poses i) (cell_of (get_or poses.codes (512 * i + k) 0))
 
-module _ (g : Grid) (v : Cell) (poses : List ℕ) (size i : ℕ) where
-  pub fits_not : reaches v (origin_in poses i) ≡ false → false ≡ fits_pose g v poses size i
+module _ (g : Grid) (v : Cell) (poses : Poses) (i : ℕ) where
+  pub fits_not : reaches v (origin_in poses i) ≡ false → false ≡ fits_pose g v poses i
   unfolding fits_pose fits_on
   fits_not e = rw e
 
-  pub fits_start : reaches v (origin_in poses i) ≡ true → 512 * i + size ≤ length poses → fits_pose g v poses size i ≡ all (lands_at g v poses i) (from 0 (size - 0))
+  pub fits_start : reaches v (origin_in poses i) ≡ true → 512 * i + poses.size ≤ length poses.codes
+      → fits_pose g v poses i ≡ all (lands_at g v poses i) (from 0 (poses.size - 0))
   unfolding fits_pose fits_on
   fits_start e room =
       rw e
-      (ap (all (lands g v (origin_in poses i))) (cells_numbered poses size i room)
-      ∙ all_map (λ (k : ℕ). cell_of (get_or poses (512 * i + k) 0)) (lands g v (origin_in poses i)) (below size)
-      ∙ ap (all (lands_at g v poses i)) (sym (from_start size)))
+      (ap (all (lands g v (origin_in poses i))) (cells_numbered poses i room)
+      ∙ all_map (λ (k : ℕ). cell_of (get_or poses.codes (512 * i + k) 0)) (lands g v (origin_in poses i)) (below poses.size)
+      ∙ ap (all (lands_at g v poses i)) (sym (from_start poses.size)))
 
 -- cells in scan order or as they come
 module _ (order : List ℕ) (o : IsOrder order) where
@@ -170,9 +159,31 @@ module _ (order : List ℕ) (o : IsOrder order) where
             (λ t. let r = any_at (same_cell (to u)) (scan order g) t in any_of (same_cell (to u)) (filled_cells g) (scan_from order o g r.0 r.1) r.2)
             (λ t. let r = any_at (same_cell (to u)) (filled_cells g) t in any_of (same_cell (to u)) (scan order g) (scan_has order o g r.0 r.1) r.2)
 
-    pub fits_variant : (poses : List ℕ) (size n : ℕ) → Poses order poses size n → (i : ℕ) → i < n → fits (scan order g) v (variant_in order poses size i) ≡ fits_pose g v poses size i
+    pub fits_variant : (poses : Poses) → Standing order poses → (i : ℕ) → i < poses.count → fits (scan order g) v (variant_in order poses i) ≡ fits_pose g v poses i
     unfolding fits_pose variant_in
-    fits_variant poses size n p i h = fits_cells (cells_in poses size i) ∙ ap (λ (u : Cell). fits_on g v u (cells_in poses size i)) (sym (p.origins i h))
+    fits_variant poses p i h = fits_cells (cells_in poses i) ∙ ap (λ (u : Cell). fits_on g v u (cells_in poses i)) (sym (p.origins i h))
+
+-- the variants that fit, counted by their numbers
+range_is : (a n : ℕ) → range_with_len a n ≡ from a n
+range_is a zero = refl
+range_is a (suc n) = ap (λ (ns : List ℕ). a ∷ ns) (ap (λ (k : ℕ). range_with_len k n) (add-one a) ∙ range_is (suc a) n)
+
+numbers_to : (n : ℕ) → range_with_len 0 n ≡ below n
+numbers_to n = let e : n ≡ n - 0 = omega arith in range_is 0 n ∙ ap (from 0) e ∙ from_start n
+
+many_same : (p q : ℕ → Bool) (ns : List ℕ) → ((n : ℕ) → Memᴰ n ns → p n ≡ q n) → how_many p ns ≡ how_many q ns
+many_same p q [] h = refl
+many_same p q (n ∷ ns) h =
+    ap₂ {C = ℕ} (λ (b : Bool) (k : ℕ). cond b 1 0 + k) (h n (Memᴰ.head refl)) (many_same p q ns (λ m i. h m (Memᴰ.tail i)))
+
+pub variants_fit : (order : List ℕ) → IsOrder order → (g : Grid) (v : Cell) (poses : Poses) → Standing order poses
+    → how_many (fits (scan order g) v) (variants_in order poses) ≡ count_by (fits_pose g v poses) (range_with_len 0 poses.count)
+unfolding variants_in
+variants_fit order o g v poses p =
+    how_many_map (fits (scan order g) v) (variant_in order poses) (below poses.count)
+    ∙ many_same (λ i. fits (scan order g) v (variant_in order poses i)) (fits_pose g v poses) (below poses.count)
+    (λ i m. fits_variant order o g v poses p i (below_at poses.count m))
+    ∙ ap (how_many (fits_pose g v poses)) (sym (numbers_to poses.count)) ∙ how_many_is (fits_pose g v poses) (range_with_len 0 poses.count)
 
 pub scan_number_place : (s : Sides) (ps : List ℕ) (u : Cell) → InBox s u → scan_number (map (cell_at s) ps) u ≡ before (eqb (place_of s u)) ps
 unfolding scan_number

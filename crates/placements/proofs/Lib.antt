@@ -6,3 +6,4 @@ pub mod FittingLaws
 pub mod CountingLaws
 pub mod StrippingLaws
 pub mod AcceptedLaws
+pub mod TrayLaws

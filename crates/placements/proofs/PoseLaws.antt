@@ -11,9 +11,9 @@ use borrow.Author.Count.{below_more}
 use borrow.Author.Tests.{ne_eqb}
 use lib.Dec.{eqb}
 use lib.ListN.{length, get_or, take, drop, set, length-set, length-map, length-drop, drop_of_length-le}
-use lib.Seq.{paste, paste-zero, paste-suc, length-paste, drop-paste, drop-cons, get_or-drop, get_or-take, get_or-set_same, get_or-set_other, length-take-le, take_all, take-set-le}
+use lib.Seq.{paste, paste-zero, paste-suc, length-paste, drop-cons, get_or-take, get_or-set_same, get_or-set_other, take_all}
 use Rattle.lists.specs.Lists.{cons_if, keep, head_or, put, sort, from, below}
-use Rattle.lists.proofs.ListLaws.{front_part, drop_later, get_or_map, keep_same, keep_length, map_same, map_still}
+use Rattle.lists.proofs.ListLaws.{get_or_map, keep_same, keep_length, map_same, map_still}
 use Rattle.lists.proofs.RangeLaws.{below_at, length_below, map_entries}
 use Rattle.lists.proofs.PartLaws.{pasted_there, pasted_before, part_length, part_entry}
 use Rattle.lists.proofs.SortLaws.{sort_at, first_put}
@@ -28,11 +28,12 @@ use Rattle.shape.specs.Places.{cell_at}
 use Rattle.shape.specs.Grids.{order_by}
 use Rattle.shape.specs.Scans.{cell_order}
 use Rattle.shape.specs.Variants.{turned_by}
-use Rattle.shape.specs.declared.Ordering.{Ordering}
-use Rattle.shape.specs.declared.Ordering.TheVariants.{Less, Equal, Greater}
+use Rattle.std.specs.declared.cmp.Ordering.{Ordering}
+use Rattle.std.specs.Ordering.{is_lt}
 use Rattle.shape.proofs.PlaceLaws.{cell_at_place, cell_in_box, place_of_cell, place_lt, volume_small, map_volume, mapped_fit}
 use Rattle.shape.proofs.GridLaws.{box_places, turned_length}
-use Rattle.placements.specs.Poses.{code_of, cell_of, cells_in, origin_in, variant_in, variants_in, with_pose, with_poses, Poses, Posed}
+use Rattle.placements.specs.declared.poses.Poses.{Poses}
+use Rattle.placements.specs.Poses.{code_of, cell_of, cells_in, origin_in, variant_in, variants_in, with_pose, with_poses, Standing, Posed}
 
 -- ---- codes: places in a box whose sides are 8
 abbrev pub eight : Sides
@@ -155,23 +156,11 @@ module _ (g : Grid) (old : List ℕ) (at v : ℕ) (is : v ≡ volume g.sides) (r
       left = l.left ∙ left_no g j v h b;
     }
 
-  pub listed_all : (codes : List ℕ) (u : Cell) (n j : ℕ) → ListedTo g old at v codes u n j → v ≤ j
-      → (n ≡ length (filled_cells g)) × (codes ≡ paste old at (map code_of (filled_cells g)) n)
-  listed_all codes u n j l h =
-      let a = length-drop n (filled_cells g) in
-      let b = ap length (l.left ∙ left_none g j v h) in
-      (omega (arith, l.most), l.there)
-
 -- ---- the first of cells, from the last to the first
-abbrev pub is_less : Ordering → Bool
-is_less Less = true
-is_less Equal = false
-is_less Greater = false
-
-is-less : (a s : Bool) → is_less (order_by a s) ≡ a
-is-less true s = refl
-is-less false true = refl
-is-less false false = refl
+lt_first : (a s : Bool) → is_lt (order_by a s) ≡ a
+lt_first true s = refl
+lt_first false true = refl
+lt_first false false = refl
 
 -- the first of the cells whose codes stand from k on
 abbrev pub first_from : List ℕ → List ℕ → ℕ → Cell
@@ -202,12 +191,12 @@ module _ (order codes : List ℕ) where
           by false false e = let z = ap length (sym e) in omega arith
 
   first_next : (k : ℕ) → 0 < k → k < length codes → (w : Cell) → w ≡ first_from order codes k → (o : Ordering) → o ≡ cell_order order (cell_of (get_or codes (k - 1) 0)) w
-      → cond (is_less o) (cell_of (get_or codes (k - 1) 0)) w ≡ first_from order codes (k - 1)
+      → cond (is_lt o) (cell_of (get_or codes (k - 1) 0)) w ≡ first_from order codes (k - 1)
   unfolding origin cell_order
   first_next k h l w e o d =
       let x = cell_of (get_or codes (k - 1) 0) in
       let s : suc (k - 1) ≡ k = omega arith in
-      let a : is_less o ≡ cell_ahead order x w = ap is_less d ∙ is-less (cell_ahead order x w) _ in
+      let a : is_lt o ≡ cell_ahead order x w = ap is_lt d ∙ lt_first (cell_ahead order x w) _ in
       let us = sort (cell_ahead order) (map cell_of (drop k codes)) in
       ap (λ (b : Bool). cond b x w) a
       ∙ ap (λ (y : Cell). cond (cell_ahead order x y) x y) e
@@ -215,28 +204,19 @@ module _ (order codes : List ℕ) where
       ∙ sym (ap (λ (l : List ℕ). head_or (record { x = 0; y = 0; z = 0 }) (sort (cell_ahead order) (map cell_of l)))
       (drop-cons codes (k - 1) 0 (omega arith) ∙ ap (λ (m : ℕ). get_or codes (k - 1) 0 ∷ drop m codes) s))
 
-pub first_start : (order codes : List ℕ) (at n : ℕ) → at + n ≤ length codes → 0 < n → (first : ℕ) → first ≡ get_or codes (at + (n - 1)) 0
-    → cell_of first ≡ first_from order (take n (drop at codes)) (n - 1)
-first_start order codes at n room some first e =
-    ap cell_of (e ∙ sym (part_entry codes at n (n - 1) (omega arith)))
-    ∙ first_last order (take n (drop at codes)) (n - 1) (let l = part_length codes at n room in omega arith)
+pub first_start : (order codes : List ℕ) (first : ℕ) → 0 < length codes → first ≡ get_or codes (length codes - 1) 0 → cell_of first ≡ first_from order codes (length codes - 1)
+first_start order codes first some e = ap cell_of e ∙ first_last order codes (length codes - 1) (omega arith)
 
 -- a turn of the loop: the cell before those from k on, and how it compares with their first
-pub first_step : (order codes : List ℕ) (at n k : ℕ) → at + n ≤ length codes → 0 < k → k < n → (first code : ℕ) → cell_of first ≡ first_from order (take n (drop at codes)) k
-    → code ≡ get_or codes (at + (k - 1)) 0 → (u w : Cell) → u ≡ cell_of code → w ≡ cell_of first → (o p : Ordering) → o ≡ cell_order order u w → o ≡ p
-    → cond (is_less p) (cell_of code) (cell_of first) ≡ first_from order (take n (drop at codes)) (k - 1)
-first_step order codes at n k room some h first code e d u w a b o p f q =
-    let cs = take n (drop at codes) in
-    let is : code ≡ get_or cs (k - 1) 0 = d ∙ sym (part_entry codes at n (k - 1) (omega arith)) in
-    ap (λ (x : ℕ). cond (is_less p) (cell_of x) (cell_of first)) is
-    ∙ first_next order cs k some (let l = part_length codes at n room in omega arith) (cell_of first) e p
-    (sym q ∙ f ∙ ap₂ (cell_order order) (a ∙ ap cell_of is) b)
+pub first_step : (order codes : List ℕ) (k : ℕ) → 0 < k → k < length codes → (first : ℕ) → cell_of first ≡ first_from order codes k
+    → (u w : Cell) → u ≡ cell_of (get_or codes (k - 1) 0) → w ≡ cell_of first → (o : Ordering) → o ≡ cell_order order u w
+    → cond (is_lt o) (cell_of (get_or codes (k - 1) 0)) (cell_of first) ≡ first_from order codes (k - 1)
+first_step order codes k some h first e u w a b o f = first_next order codes k some h (cell_of first) e o (f ∙ ap₂ (cell_order order) a b)
 
 -- ---- a pose among others
--- an entry of a list behind a part of it
-part_set : (l : List ℕ) (i x a n : ℕ) → a + n ≤ i → take n (drop a (set l i x)) ≡ take n (drop a l)
-part_set l i x a n h =
-    sym (front_part a (a + n) n (set l i x) (omega arith)) ∙ ap (λ (r : List ℕ). take n (drop a r)) (take-set-le (a + n) l i x h) ∙ front_part a (a + n) n l (omega arith)
+-- the cells whose codes stand as variant i, so many of them
+abbrev pub coded : List ℕ → ℕ → ℕ → List Cell
+coded codes size i = map cell_of (take size (drop (512 * i) codes))
 
 codes_back : (us : List Cell) → ((u : Cell) → Memᴰ u us → InBox eight u) → map cell_of (map code_of us) ≡ us
 codes_back us f = map-map cell_of code_of us ∙ map_still (λ u. cell_of (code_of u)) us (λ u m. cell_of_code u (f u m))
@@ -257,62 +237,55 @@ unfolding origin
 origin-in [] f = (omega arith, omega arith, omega arith)
 origin-in (u ∷ us) f = f u (Memᴰ.head refl)
 
-module _ (order : List ℕ) (us : List Cell) (fit : (u : Cell) → Memᴰ u us → InBox eight u) (few : length us ≤ 512) (poses : List ℕ) (long : length poses ≡ 12312) (k : ℕ) (h : k < 24) where
+module _ (order : List ℕ) (us : List Cell) (fit : (u : Cell) → Memᴰ u us → InBox eight u) (few : length us ≤ 512) (poses : Poses)
+    (long : length poses.codes ≡ 12288) (room : length poses.origins ≡ 24) (k : ℕ) (h : k < 24) where
   codes_long : length (map code_of us) ≡ length us
   codes_long = length-map us code_of
 
-  pasted_long : length (paste poses (512 * k) (map code_of us) (length us)) ≡ 12312
-  pasted_long = length-paste poses (512 * k) (map code_of us) (length us) (omega arith) (omega (arith, codes_long)) ∙ long
-
-  codes_there : take (length us) (drop (512 * k) (paste poses (512 * k) (map code_of us) (length us))) ≡ map code_of us
+  codes_there : take (length us) (drop (512 * k) (paste poses.codes (512 * k) (map code_of us) (length us))) ≡ map code_of us
   codes_there =
-      pasted_there poses (map code_of us) (512 * k) (length us) (omega arith) (omega (arith, codes_long)) ∙ take_all (length us) (map code_of us) (omega (arith, codes_long))
+      pasted_there poses.codes (map code_of us) (512 * k) (length us) (omega arith) (omega (arith, codes_long))
+      ∙ take_all (length us) (map code_of us) (omega (arith, codes_long))
 
-  -- as the code writes it: the codes, and behind all codes that of their first cell
-  pub pose_written : (n : ℕ) → n ≡ length us → (new : List ℕ) → new ≡ paste poses (512 * k) (map code_of us) n → (first : ℕ)
-      → cell_of first ≡ origin (sort (cell_ahead order) (map cell_of (take n (drop (512 * k) new)))) → set new (12288 + k) first ≡ with_pose order us k poses
+  -- as the code writes it: the codes, and that of their first cell
+  pub pose_written : (n : ℕ) → n ≡ length us → (new : List ℕ) → new ≡ paste poses.codes (512 * k) (map code_of us) n → (first : ℕ)
+      → cell_of first ≡ origin (sort (cell_ahead order) (map cell_of (take (512 * k + n - 512 * k) (drop (512 * k) new))))
+      → record poses { codes = new; origins = set poses.origins k first } ≡ with_pose order us k poses
   unfolding with_pose
   pose_written n e new is first f =
-      let d : new ≡ paste poses (512 * k) (map code_of us) (length us) = is ∙ ap (paste poses (512 * k) (map code_of us)) e in
-      let there : take n (drop (512 * k) new) ≡ map code_of us = ap₂ (λ (m : ℕ) (l : List ℕ). take m (drop (512 * k) l)) e d ∙ codes_there in
-      ap₂ (λ (l : List ℕ) (x : ℕ). set l (12288 + k) x) d
+      let m : 512 * k + n - 512 * k ≡ length us = omega arith in
+      let d : new ≡ paste poses.codes (512 * k) (map code_of us) (length us) = is ∙ ap (paste poses.codes (512 * k) (map code_of us)) e in
+      let there : take (512 * k + n - 512 * k) (drop (512 * k) new) ≡ map code_of us = ap₂ (λ (m : ℕ) (l : List ℕ). take m (drop (512 * k) l)) m d ∙ codes_there in
+      ap₂ (λ (l : List ℕ) (x : ℕ). record poses { codes = l; origins = set poses.origins k x }) d
       (sym (code_of_cell first) ∙ ap code_of (f ∙ ap (λ (l : List Cell). origin (sort (cell_ahead order) l)) (ap (map cell_of) there ∙ codes_back us fit)))
 
-  pub pose_long : length (with_pose order us k poses) ≡ 12312
+  pub pose_long : length (with_pose order us k poses).codes ≡ 12288
   unfolding with_pose
-  pose_long = length-set (paste poses (512 * k) (map code_of us) (length us)) (12288 + k) _ ∙ pasted_long
+  pose_long = length-paste poses.codes (512 * k) (map code_of us) (length us) (omega arith) (omega (arith, codes_long)) ∙ long
 
-  pub pose_cells : cells_in (with_pose order us k poses) (length us) k ≡ us
-  unfolding with_pose cells_in
-  pose_cells =
-      ap (map cell_of)
-      (part_set (paste poses (512 * k) (map code_of us) (length us)) (12288 + k) _ (512 * k) (length us) (omega arith) ∙ codes_there)
-      ∙ codes_back us fit
+  pub pose_room : length (with_pose order us k poses).origins ≡ 24
+  unfolding with_pose
+  pose_room = length-set poses.origins k _ ∙ room
+
+  pub pose_cells : coded (with_pose order us k poses).codes (length us) k ≡ us
+  unfolding with_pose
+  pose_cells = ap (map cell_of) codes_there ∙ codes_back us fit
 
   pub pose_origin : origin_in (with_pose order us k poses) k ≡ origin (sort (cell_ahead order) us)
   unfolding with_pose origin_in
   pose_origin =
-      ap cell_of (get_or-set_same (paste poses (512 * k) (map code_of us) (length us)) (12288 + k) _ 0 (omega (arith, pasted_long)))
+      ap cell_of (get_or-set_same poses.origins k _ 0 (omega arith))
       ∙ cell_of_code (origin (sort (cell_ahead order) us)) (origin-in (sort (cell_ahead order) us) (λ u m. fit u (sort_at (cell_ahead order) us m)))
 
   module _ (j : ℕ) (l : j < k) where
-    pub other_cells : (size : ℕ) → size ≤ 512 → cells_in (with_pose order us k poses) size j ≡ cells_in poses size j
-    unfolding with_pose cells_in
+    pub other_cells : (size : ℕ) → size ≤ 512 → coded (with_pose order us k poses).codes size j ≡ coded poses.codes size j
+    unfolding with_pose
     other_cells size m =
-        ap (map cell_of)
-        (part_set (paste poses (512 * k) (map code_of us) (length us)) (12288 + k) _ (512 * j) size (omega arith)
-        ∙ pasted_before poses (map code_of us) (512 * k) (length us) (omega arith) (omega (arith, codes_long)) (512 * j) size (omega arith))
+        ap (map cell_of) (pasted_before poses.codes (map code_of us) (512 * k) (length us) (omega arith) (omega (arith, codes_long)) (512 * j) size (omega arith))
 
     pub other_origin : origin_in (with_pose order us k poses) j ≡ origin_in poses j
     unfolding with_pose origin_in
-    other_origin =
-        ap cell_of
-        (get_or-set_other (paste poses (512 * k) (map code_of us) (length us)) (12288 + k) (12288 + j) _ 0 (λ e. omega arith)
-        ∙ sym (get_or-drop 12288 (paste poses (512 * k) (map code_of us) (length us)) j 0)
-        ∙ ap (λ (xs : List ℕ). get_or xs j 0)
-        (drop_later (512 * k + length us) 12288 (paste poses (512 * k) (map code_of us) (length us)) poses (omega arith)
-        (drop-paste poses (512 * k) (map code_of us) (length us) (omega arith) (omega (arith, codes_long))))
-        ∙ get_or-drop 12288 poses j 0)
+    other_origin = ap cell_of (get_or-set_other poses.origins k j _ 0 (λ e. omega arith))
 
 -- ---- the turned grids of a grid as poses
 -- grids with the same bytes in their boxes have the same filled cells
@@ -336,31 +309,31 @@ turned_filled n g old new t room is e =
         ap (take (volume g.sides)) is ∙ pasted_there old (map_grid (map_of n) g).cells 0 (volume g.sides) (omega arith) (omega arith) in
         sym (get_or-take (volume g.sides) new i 0 a) ∙ ap (λ (xs : List ℕ). get_or xs i 0) there ∙ get_or-take (volume g.sides) (map_grid (map_of n) g).cells i 0 a
 
-turned_many : (g : Grid) (turnings : List ℕ) (n : ℕ) → n ≤ length turnings → length (turned_by g (take n turnings)) ≡ n
-unfolding turned_by
-turned_many g turnings n h = length-map (take n turnings) (λ k. map_grid (map_of k) g) ∙ length-take-le n turnings h
-
 -- the poses of the grids that the first i numbers make
-pub record PosedTo (order : List ℕ) (g : Grid) (turnings poses : List ℕ) (i : ℕ) : Type 0 where
-  pub long : length poses ≡ 12312
-  pub cells : (j : ℕ) → j < i → cells_in poses (length (filled_cells g)) j ≡ filled_cells (map_grid (map_of (get_or turnings j 0)) g)
+pub record PosedTo (order : List ℕ) (g : Grid) (turnings : List ℕ) (poses : Poses) (i : ℕ) : Type 0 where
+  pub long : length poses.codes ≡ 12288
+  pub room : length poses.origins ≡ 24
+  pub cells : (j : ℕ) → j < i → coded poses.codes (length (filled_cells g)) j ≡ filled_cells (map_grid (map_of (get_or turnings j 0)) g)
   pub origins : (j : ℕ) → j < i → origin_in poses j ≡ origin (scan order (map_grid (map_of (get_or turnings j 0)) g))
 
-pub posed_none : (order : List ℕ) (g : Grid) (turnings poses : List ℕ) → length poses ≡ 12312 → PosedTo order g turnings poses 0
-posed_none order g turnings poses long = record { long = long; cells = λ j h. absurd (omega arith); origins = λ j h. absurd (omega arith) }
+pub posed_none : (order : List ℕ) (g : Grid) (turnings : List ℕ) (poses : Poses) → length poses.codes ≡ 12288 → length poses.origins ≡ 24
+    → PosedTo order g turnings poses 0
+posed_none order g turnings poses long room =
+    record { long = long; room = room; cells = λ j h. absurd (omega arith); origins = λ j h. absurd (omega arith) }
 
 module _ (order : List ℕ) (g : Grid) (turnings : List ℕ) (fit : Fit g.sides) (few : length (filled_cells g) ≤ 512) where
-  pub posed_next : (poses new : List ℕ) (i : ℕ) → i < 24 → PosedTo order g turnings poses i → (us : List Cell) → us ≡ filled_cells (map_grid (map_of (get_or turnings i 0)) g)
+  pub posed_next : (poses new : Poses) (i : ℕ) → i < 24 → PosedTo order g turnings poses i → (us : List Cell) → us ≡ filled_cells (map_grid (map_of (get_or turnings i 0)) g)
       → new ≡ with_pose order us i poses → PosedTo order g turnings new (i + 1)
   unfolding scan
-  posed_next poses new i h p us e is = subst (λ (l : List ℕ). PosedTo order g turnings l (i + 1)) (sym is) (record {
-    long = pose_long order us inside short poses p.long i h;
-    cells = below_more (λ j. cells_in (with_pose order us i poses) (length (filled_cells g)) j ≡ filled_cells (map_grid (map_of (get_or turnings j 0)) g)) i
-        (λ j l. other_cells order us inside short poses p.long i h j l (length (filled_cells g)) few ∙ p.cells j l)
-        (ap (λ (n : ℕ). cells_in (with_pose order us i poses) n i) (sym size) ∙ pose_cells order us inside short poses p.long i h ∙ e);
+  posed_next poses new i h p us e is = subst (λ (l : Poses). PosedTo order g turnings l (i + 1)) (sym is) (record {
+    long = pose_long order us inside short poses p.long p.room i h;
+    room = pose_room order us inside short poses p.long p.room i h;
+    cells = below_more (λ j. coded (with_pose order us i poses).codes (length (filled_cells g)) j ≡ filled_cells (map_grid (map_of (get_or turnings j 0)) g)) i
+        (λ j l. other_cells order us inside short poses p.long p.room i h j l (length (filled_cells g)) few ∙ p.cells j l)
+        (ap (λ (n : ℕ). coded (with_pose order us i poses).codes n i) (sym size) ∙ pose_cells order us inside short poses p.long p.room i h ∙ e);
     origins = below_more (λ j. origin_in (with_pose order us i poses) j ≡ origin (scan order (map_grid (map_of (get_or turnings j 0)) g))) i
-        (λ j l. other_origin order us inside short poses p.long i h j l ∙ p.origins j l)
-        (pose_origin order us inside short poses p.long i h ∙ ap (λ (l : List Cell). origin (sort (cell_ahead order) l)) e);
+        (λ j l. other_origin order us inside short poses p.long p.room i h j l ∙ p.origins j l)
+        (pose_origin order us inside short poses p.long p.room i h ∙ ap (λ (l : List Cell). origin (sort (cell_ahead order) l)) e);
   })
     where
       m : ℕ
@@ -376,73 +349,58 @@ module _ (order : List ℕ) (g : Grid) (turnings : List ℕ) (fit : Fit g.sides)
       inside u k =
           filled_eight (map_grid (map_of m) g) (subst Fit (sym (mapped_sides (map_of m) g)) (mapped_fit (map_of m) g.sides fit)) u (subst (λ (l : List Cell). Memᴰ u l) e k)
 
-  pub posed_all : (poses : List ℕ) (n i size : ℕ) → PosedTo order g turnings poses i → n ≤ i → n ≤ length turnings → n ≤ 24 → size ≡ length (filled_cells g)
-      → Posed order (turned_by g (take n turnings)) poses size
-  unfolding turned_by variant_in scan
-  posed_all poses n i size p l room most e = record {
+  pub posed_all : (poses : Poses) → PosedTo order g turnings poses (length turnings) → length turnings ≤ 24
+      → (last : Poses) → last ≡ record poses { count = length turnings; size = length (filled_cells g) } → Posed order (turned_by g turnings) last
+  unfolding turned_by variant_in cells_in origin_in scan
+  posed_all poses p most last is = subst (λ (l : Poses). Posed order (map make turnings) l) (sym is) (record {
     stand = record {
-      long = p.long;
-      few = omega (arith, many);
-      small = omega arith;
-      origins = λ j h. p.origins j (omega (arith, many)) ∙ ap (λ (us : List Cell). origin (sort (cell_ahead order) us)) (sym (there j (omega (arith, many))));
+      few = most;
+      small = few;
+      origins = λ j h. p.origins j h ∙ ap (λ (us : List Cell). origin (sort (cell_ahead order) us)) (sym (p.cells j h));
     };
-    cells = ap (λ (k : ℕ). map (cells_in poses size) (below k)) (length-map ks make)
-        ∙ map_same (cells_in poses size) (λ j. filled_cells (make (get_or ks j 0))) (below (length ks))
-        (λ j m. let b = below_at (length ks) m in there j (omega (arith, kept)) ∙ ap (λ (k : ℕ). filled_cells (make k)) (sym (get_or-take n turnings j 0 (omega (arith, kept)))))
-        ∙ map_entries (λ k. filled_cells (make k)) 0 ks
-        ∙ sym (map-map filled_cells make ks);
-  }
+    many = sym (length-map turnings make);
+    cells = ap (λ (k : ℕ). map (coded poses.codes (length (filled_cells g))) (below k)) (length-map turnings make)
+        ∙ map_same (coded poses.codes (length (filled_cells g))) (λ j. filled_cells (make (get_or turnings j 0))) (below (length turnings))
+        (λ j m. p.cells j (below_at (length turnings) m))
+        ∙ map_entries (λ k. filled_cells (make k)) 0 turnings
+        ∙ sym (map-map filled_cells make turnings);
+  })
     where
       make : ℕ → Grid
       make k = map_grid (map_of k) g
 
-      ks : List ℕ
-      ks = take n turnings
-
-      kept : length (take n turnings) ≡ n
-      kept = length-take-le n turnings room
-
-      many : length (turned_by g (take n turnings)) ≡ n
-      many = turned_many g turnings n room
-
-      there : (j : ℕ) → j < n → cells_in poses size j ≡ filled_cells (map_grid (map_of (get_or turnings j 0)) g)
-      there j h = ap (λ (k : ℕ). cells_in poses k j) e ∙ p.cells j (omega arith)
-
--- all that the slice holds then
-pub poses_none : (order : List ℕ) (f : ℕ → List Cell) (old : List ℕ) → old ≡ with_poses order f 0 old
+-- all that stands there then
+pub poses_none : (order : List ℕ) (f : ℕ → List Cell) (old : Poses) → old ≡ with_poses order f 0 old
 unfolding with_poses
 poses_none order f old = refl
 
-pub poses_next : (order : List ℕ) (f : ℕ → List Cell) (old poses new : List ℕ) (i : ℕ) → poses ≡ with_poses order f i old → (us : List Cell) → us ≡ f i
+pub poses_next : (order : List ℕ) (f : ℕ → List Cell) (old poses new : Poses) (i : ℕ) → poses ≡ with_poses order f i old → (us : List Cell) → us ≡ f i
     → new ≡ with_pose order us i poses → new ≡ with_poses order f (i + 1) old
 unfolding with_poses
 poses_next order f old poses new i p us e is =
-    is ∙ ap₂ (λ (vs : List Cell) (l : List ℕ). with_pose order vs i l) e p ∙ ap (λ (n : ℕ). with_poses order f n old) (sym (add-one i))
+    is ∙ ap₂ (λ (vs : List Cell) (l : Poses). with_pose order vs i l) e p ∙ ap (λ (n : ℕ). with_poses order f n old) (sym (add-one i))
 
--- the variants that poses of grids stand for
-posed_variants : (order : List ℕ) (gs : List Grid) (poses : List ℕ) (size : ℕ) → Posed order gs poses size → variants_in order poses size (length gs) ≡ map (scan order) gs
-unfolding variants_in variant_in scan
-posed_variants order gs poses size p =
-    sym (map-map (sort (cell_ahead order)) (cells_in poses size) (below (length gs))) ∙ ap (map (sort (cell_ahead order))) p.cells ∙ map-map (sort (cell_ahead order)) filled_cells gs
+-- the variants that poses of grids stand for, in an order of the axes that the code knows under another name
+module _ (order o : List ℕ) (gs : List Grid) (poses : Poses) (same : o ≡ order) (p : Posed order gs poses) where
+  pub posed_stand : Standing o poses
+  posed_stand = subst (λ (l : List ℕ). Standing l poses) (sym same) p.stand
 
--- those of the grids that n numbers make, in an order of the axes that the code knows under another name
-module _ (order o : List ℕ) (g : Grid) (turnings poses : List ℕ) (n size : ℕ) (same : o ≡ order) (room : n ≤ length turnings) (p : Posed order (turned_by g (take n turnings)) poses size) where
-  pub posed_stand : Poses o poses size n
-  posed_stand =
-      subst (λ (l : List ℕ). Poses l poses size n) (sym same) (subst (λ (k : ℕ). Poses order poses size k) (turned_many g turnings n room) p.stand)
-
-  pub posed_make : variants_in o poses size n ≡ map (scan order) (turned_by g (take n turnings))
+  pub posed_make : variants_in o poses ≡ map (scan order) gs
+  unfolding variants_in variant_in scan
   posed_make =
-      ap₂ (λ (l : List ℕ) (k : ℕ). variants_in l poses size k) same (sym (turned_many g turnings n room)) ∙ posed_variants order (turned_by g (take n turnings)) poses size p
+      ap₂ (λ (l : List ℕ) (k : ℕ). map (λ i. sort (cell_ahead l) (cells_in poses i)) (below k)) same p.many
+      ∙ sym (map-map (sort (cell_ahead order)) (cells_in poses) (below (length gs))) ∙ ap (map (sort (cell_ahead order))) p.cells
+      ∙ map-map (sort (cell_ahead order)) filled_cells gs
 
 -- ---- the filled cells of a pose by their numbers
-pub cells_numbered : (poses : List ℕ) (size i : ℕ) → 512 * i + size ≤ length poses → cells_in poses size i ≡ map (λ k. cell_of (get_or poses (512 * i + k) 0)) (below size)
+pub cells_numbered : (poses : Poses) (i : ℕ) → 512 * i + poses.size ≤ length poses.codes
+    → cells_in poses i ≡ map (λ k. cell_of (get_or poses.codes (512 * i + k) 0)) (below poses.size)
 unfolding cells_in
-cells_numbered poses size i room =
+cells_numbered poses i room =
     sym (map_entries cell_of 0 xs)
-    ∙ ap (λ (n : ℕ). map (λ k. cell_of (get_or xs k 0)) (below n)) (part_length poses (512 * i) size room)
-    ∙ map_same (λ k. cell_of (get_or xs k 0)) (λ k. cell_of (get_or poses (512 * i + k) 0)) (below size)
-    (λ k m. ap cell_of (part_entry poses (512 * i) size k (below_at size m)))
+    ∙ ap (λ (n : ℕ). map (λ k. cell_of (get_or xs k 0)) (below n)) (part_length poses.codes (512 * i) poses.size room)
+    ∙ map_same (λ k. cell_of (get_or xs k 0)) (λ k. cell_of (get_or poses.codes (512 * i + k) 0)) (below poses.size)
+    (λ k m. ap cell_of (part_entry poses.codes (512 * i) poses.size k (below_at poses.size m)))
   where
     xs : List ℕ
-    xs = take size (drop (512 * i) poses)
+    xs = take poses.size (drop (512 * i) poses.codes)

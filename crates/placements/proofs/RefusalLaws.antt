@@ -5,14 +5,14 @@ use mathlib.Core.Bool.{Bool, true, false, cond, not, ◌&&◌}
 use mathlib.Core.List.{List, [], ◌∷◌, map, map-map}
 use mathlib.Core.Path.{◌≡◌, refl, sym, ap, ap₂, ◌∙◌, subst}
 use native.Mathlib.Nat.{mul-pos}
-use native.Mathlib.Numerals.{add-one}
 use native.Mathlib.Omega.{arith}
-use borrow.Author.Tests.{leb-true, leb-false, le-leb, lt-leb}
-use denote.Laws.{Is}
-use denote.Struct.Laws as LL
+use borrow.Author.Tests.{eqb-true, eqb-false, leb-true, leb-false, le-leb, lt-leb}
 use lib.Dec.{T, ltb, leb, eqb, leb→le}
-use lib.ListN.{length, get_or, take, drop, length-drop, length-replicate, drop_of_length-le}
-use lib.Seq.{length-take-le, drop-cons, get_or-take}
+use lib.ListN.{length, get_or, take, drop, length-drop, length-replicate}
+use lib.Seq.{length-take-le, get_or-take}
+use Rattle.std.specs.List.{list_all, sum_by}
+use Rattle.std.proofs.lemmas.List.Sums.{sum_by-cons}
+use Rattle.std.proofs.lemmas.List.{length-take}
 use Rattle.lists.specs.Lists.{all, any, how_many, sum}
 use Rattle.lists.proofs.TestLaws.{and_left, and_right, is_true, is_false, holds}
 use Rattle.lists.proofs.ListLaws.{all_get_or, any_at, how_many_any, how_many_pos}
@@ -21,12 +21,20 @@ use Rattle.definitions.specs.Refusals.{sides_of, grid_of, is_side, sides_fit, ce
 use Rattle.definitions.specs.declared.Record.{Record}
 use Rattle.shape.specs.Coords.{as_sides, Fit}
 use Rattle.shape.specs.Grids.{as_grid, Whole}
+use Rattle.shape.specs.CubicGrids.{grid_of as cubic}
+use Rattle.shape.specs.declared.cubic_grid.CubicGrid.{CubicGrid}
 use Rattle.shape.specs.declared.Coord.{Coord}
 use Rattle.placements.specs.Pieces.{no_record, lent_records, records_of}
 use Rattle.placements.specs.Stages.{grid_rows}
 use Rattle.placements.specs.declared.Pieces.{Pieces}
-use Rattle.placements.specs.contracts.Pieces as B
-use Rattle.placements.proofs.Pieces.TheLaws as B'
+
+pub all_is : {A : Type 0} (p : A → Bool) (xs : List A) → all p xs ≡ list_all p xs
+all_is p [] = refl
+all_is p (x ∷ xs) = ap (λ (b : Bool). p x && b) (all_is p xs)
+
+pub sum_is : {A : Type 0} (f : A → ℕ) (xs : List A) → sum (map f xs) ≡ sum_by f xs
+sum_is f [] = refl
+sum_is f (x ∷ xs) = ap (λ (n : ℕ). f x + n) (sum_is f xs) ∙ sym (sum_by-cons f x xs)
 
 -- ---- a record's sides and cells
 side_small : (n : ℕ) → T (is_side n) → n ≤ 8
@@ -107,34 +115,44 @@ sum_bits (x ∷ xs) h = ap₂ ◌+◌ (bit x (leb-true x 1 (is_true (leb x 1) (a
     bit (suc zero) l = refl
     bit (suc (suc n)) l = absurd (omega arith)
 
--- what the code finds in a record's cells
-module _ (bytes : List ℕ) (r : Record) (cells : List ℕ) (e : cells ≡ (grid_of bytes r).cells) where
-  pub bits_told : (b : Bool) → b ≡ all (λ n. leb n 1) cells → are_bits (grid_of bytes r) ≡ b
+-- what the code finds in the cells of a grid
+module _ (g : CubicGrid) {h : Grid} (e : cubic g ≡ h) where
+  pub bits_told : {b : Bool} → b ≡ all (λ n. leb n 1) g.cells.now → b ≡ are_bits h
   unfolding are_bits
-  bits_told b h = ap (all (λ n. leb n 1)) (sym e) ∙ sym h
+  bits_told d = d ∙ ap (λ (k : Grid). all (λ n. leb n 1) k.cells) e
 
-  pub none_filled : (n : ℕ) → n ≡ how_many (eqb 1) cells → n ≡ 0 → some_filled (grid_of bytes r) ≡ false
-  unfolding some_filled
-  none_filled n h z =
-      ap (any (eqb 1)) (sym e)
-      ∙ is_false (any (eqb 1) cells) (λ a. let m = any_at (eqb 1) cells a in let l = how_many_pos (eqb 1) cells m.1 m.2 in omega arith)
+  ones_told : (n : ℕ) → n ≡ how_many (eqb 1) g.cells.now → n ≡ how_many (eqb 1) h.cells
+  ones_told n d = d ∙ ap (λ (k : Grid). how_many (eqb 1) k.cells) e
 
-  pub some-filled : (n : ℕ) → n ≡ how_many (eqb 1) cells → (n ≡ 0 → ⊥) → some_filled (grid_of bytes r) ≡ true
+  pub filled_told : (n : ℕ) → n ≡ how_many (eqb 1) g.cells.now → not (eqb n 0) ≡ some_filled h
   unfolding some_filled
-  some-filled n h z = ap (any (eqb 1)) (sym e) ∙ is_true (any (eqb 1) cells) (how_many_any (eqb 1) cells (let l : 0 < n = omega arith in omega arith))
+  filled_told n d = go (eqb n 0) refl
+    where
+      go : (b : Bool) → eqb n 0 ≡ b → not b ≡ any (eqb 1) h.cells
+      go true z =
+          let none = eqb-true n 0 z in
+          sym (is_false (any (eqb 1) h.cells)
+          (λ a. let m = any_at (eqb 1) h.cells a in let l = how_many_pos (eqb 1) h.cells m.1 m.2 in omega (arith, ones_told n d)))
+      go false z = let some = eqb-false n 0 z in sym (is_true (any (eqb 1) h.cells) (how_many_any (eqb 1) h.cells (omega (arith, ones_told n d))))
 
   -- bytes that are 0 or 1 add up to how many are 1
-  pub cells_count : (n : ℕ) → n ≡ how_many (eqb 1) cells → are_bits (grid_of bytes r) ≡ true → sum (grid_of bytes r).cells ≡ n
+  pub cells_count : (n : ℕ) → n ≡ how_many (eqb 1) g.cells.now → are_bits h ≡ true → sum h.cells ≡ n
   unfolding are_bits
-  cells_count n h b = sum_bits (grid_of bytes r).cells (holds (all (λ n. leb n 1) (grid_of bytes r).cells) b) ∙ ap (how_many (eqb 1)) (sym e) ∙ sym h
+  cells_count n d b = sum_bits h.cells (holds (all (λ n. leb n 1) h.cells) b) ∙ sym (ones_told n d)
 
--- ---- the records of pieces by their places. What owning the struct tells: its records are 16.
-pub records_long : (t : Pieces) → Is B.the_row t (LL.vals B.the_type B'.the_laws t) → length t.records ≡ 16
-records_long t g = (LL.owed B.the_type B'.the_laws t _ g).0.1.0.1
-
+-- ---- the records of pieces by their places
 pub records_few : (t : Pieces) → t.count ≤ 16 → records_of t ≡ take t.count t.records
 unfolding records_of
 records_few t few = rw (le-leb t.count 16 few)
+
+pub records_within : (t : Pieces) → t.count ≤ 16 → length (records_of t) ≤ 16
+records_within t few = let e = ap length (records_few t few) ∙ length-take t.count t.records in omega arith
+
+pub records_over : (t : Pieces) → 16 < t.count → 16 < length (records_of t)
+unfolding records_of
+records_over t many =
+    let e : lent_records (leb t.count 16) t ≡ lent_records false t = ap (λ (b : Bool). lent_records b t) (lt-leb t.count 16 many) in
+    omega (arith, ap length e, length-replicate t.count no_record)
 
 pub records_count : (t : Pieces) → length t.records ≡ 16 → length (records_of t) ≡ t.count
 unfolding records_of
@@ -149,53 +167,18 @@ module _ (t : Pieces) (few : t.count ≤ 16) (long : length t.records ≡ 16) (i
   in_records : i < length (records_of t)
   in_records = let e = records_count t long in omega arith
 
-  record-at : get_or (records_of t) i no_record ≡ get_or t.records i no_record
+  pub record-at : get_or (records_of t) i no_record ≡ get_or t.records i no_record
   record-at = rw (records_few t few) (get_or-take t.count t.records i no_record h)
-
-  pub records-from : drop i (records_of t) ≡ get_or t.records i no_record ∷ drop (i + 1) (records_of t)
-  records-from = rw (add-one, drop-cons (records_of t) i no_record in_records, record-at)
 
   pub record_passes : (p : Record → Bool) → T (all p (records_of t)) → T (p (get_or t.records i no_record))
   record_passes p a = rw record-at at (all_get_or p no_record (records_of t) a i in_records)
-
--- A loop over the records returns at the first that fails a test: those that are left decide.
-abbrev pub Left : (Record → Bool) → Pieces → ℕ → Type 0
-Left p t i = (i ≤ t.count) × (all p (drop i (records_of t)) ≡ all p (records_of t))
-
-module _ (p : Record → Bool) (t : Pieces) (few : t.count ≤ 16) (long : length t.records ≡ 16) (i : ℕ) (l : Left p t i) where
-  left_told : i < t.count → (b : Bool) → p (get_or t.records i no_record) ≡ b → b && all p (drop (i + 1) (records_of t)) ≡ all p (records_of t)
-  left_told h b e = ap (λ (x : Bool). x && all p (drop (i + 1) (records_of t))) (sym e) ∙ ap (all p) (sym (records-from t few long i h)) ∙ l.1
-
-  pub left_fails : i < t.count → p (get_or t.records i no_record) ≡ false → false ≡ all p (records_of t)
-  left_fails h e = left_told h false e
-
-  pub left_passes : i < t.count → p (get_or t.records i no_record) ≡ true → Left p t (i + 1)
-  left_passes h e = (omega arith, left_told h true e)
-
-  pub left_ends : t.count ≤ i → true ≡ all p (records_of t)
-  left_ends h =
-      let e : length (records_of t) ≤ i = let n = records_count t long in omega arith in
-      sym (ap (all p) (drop_of_length-le (records_of t) e)) ∙ l.1
-
--- the copies of the records passed, and of those that are left
-abbrev pub copies_from : Pieces → ℕ → ℕ
-copies_from t i = sum (map (λ q. q.count) (drop i (records_of t)))
-
-module _ (t : Pieces) (long : length t.records ≡ 16) (i : ℕ) where
-  pub copies_next : t.count ≤ 16 → i < t.count → copies_from t i ≡ (get_or t.records i no_record).count + copies_from t (i + 1)
-  copies_next few h = rw (records-from t few long i h)
-
-  pub copies_end : t.count ≤ i → copies_from t i ≡ 0
-  copies_end h =
-      let e : length (records_of t) ≤ i = let n = records_count t long in omega arith in
-      ap (λ (l : List Record). sum (map (λ q. q.count) l)) (drop_of_length-le (records_of t) e)
 
 -- ---- the rows of the table of refusals: 5 to 9, by the records
 pub all_grids : (p : Grid → Bool) (bytes : List ℕ) (rs : List Record) → all (λ q. p q.grid) (map (piece_of bytes) rs) ≡ all (λ q. p (grid_of bytes q)) rs
 all_grids p bytes [] = refl
 all_grids p bytes (r ∷ rs) = ap (λ (b : Bool). p (grid_of bytes r) && b) (all_grids p bytes rs)
 
-pub grid-rows : (rs : List Record) (board : Record) (bytes : List ℕ)
+pub grid_rows_are : (rs : List Record) (board : Record) (bytes : List ℕ)
     → grid_rows rs board bytes
     ≡ row 5 (not (are_bits (grid_of bytes board) && all (λ q. are_bits (grid_of bytes q)) rs)) ∷
     row 6 (not (all (λ q. some_filled (grid_of bytes q)) rs)) ∷
@@ -203,5 +186,5 @@ pub grid-rows : (rs : List Record) (board : Record) (bytes : List ℕ)
     row 9 (ltb 128 (sum (grid_of bytes board).cells)) ∷
     []
 unfolding grid_rows copy_count board_cell_count
-grid-rows rs board bytes =
+grid_rows_are rs board bytes =
     rw (all_grids are_bits bytes rs, all_grids some_filled bytes rs, map-map (λ q. q.count) (piece_of bytes) rs)

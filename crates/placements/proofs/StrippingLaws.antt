@@ -3,15 +3,15 @@
 use Prim.Native.Nat.{ℕ, suc, ◌+◌, ◌*◌, ◌-◌, ◌≤◌, ◌<◌}
 use mathlib.Core.Bool.{Bool, ◌&&◌}
 use mathlib.Core.List.Memᴰ
-use mathlib.Core.List.{List, [], ◌∷◌, ◌++◌, map, map-append, Memᴰ, head-eq_of_cons-eq, tail-eq_of_cons-eq, map-map}
+use mathlib.Core.List.{List, [], ◌∷◌, ◌++◌, append-nil, map, map-append, Memᴰ, head-eq_of_cons-eq, tail-eq_of_cons-eq, map-map}
 use mathlib.Core.Logic.{◌⊎◌, inl, inr}
 use mathlib.Core.Path.{◌≡◌, refl, sym, ap, ap₂, ◌∙◌, subst}
 use native.Mathlib.Numerals.{add-one}
 use native.Mathlib.Omega.{arith}
 use borrow.Author.Tests.{le-ltb}
-use lib.Dec.{T, ltb, leb, leb→le, le→leb}
+use lib.Dec.{T, leb, leb→le, le→leb}
 use lib.ListN.{length, get_or, take, drop, set, length-set, length-map}
-use lib.Seq.{paste, append_snoc, set_at, get_or_at, drop-cons, take-take, take-length, take_at, drop_at, take-suc, take-suc-set, take-paste, length-take-le, length-paste}
+use lib.Seq.{paste, append_snoc, set_at, get_or_at, drop-cons, take-take, take-length, drop-length, take_at, drop_at, take-suc, take-suc-set, take-paste, length-take-le, length-paste}
 use Rattle.lists.specs.Lists.{all, sum}
 use Rattle.lists.proofs.TestLaws.{and_left, and_right, and_both, is_true}
 use Rattle.lists.proofs.ListLaws.{all_at, all_of, all_map, drop_take, map_same}
@@ -35,7 +35,6 @@ use Rattle.placements.specs.Stages.{grid_rows, lent_rows}
 use Rattle.placements.specs.Counting.{Accepted9}
 use Rattle.placements.specs.Stripping.{end_of, Before, StripsRecord, StripsPieces, StripsTray, with_grid, with_grids}
 use Rattle.placements.proofs.RefusalLaws.{records_few, records_count}
-use Rattle.placements.proofs.FittingLaws.{place_in}
 use Rattle.placements.proofs.CountingLaws.{Lent, board_fits, grid_size, board_size}
 
 -- ---- what ends before a place
@@ -346,7 +345,6 @@ module _ (t : Pieces) (board : Record) (bytes : List ℕ) (lent : Lent t board b
         }
 
     pub stripped_accepted : Accepted9 made first cells
-    unfolding Accepted9
     stripped_accepted =
         passes_lent (records_of made) first cells (subst (PassedLent (records_of made) first cells) (sym tray_is) passed)
 
@@ -404,8 +402,5 @@ module _ (f : ℕ → ℕ) (xs : List ℕ) where
         ∙ ap (λ (l : List ℕ). l ++ drop (suc i) xs) (sym (map-append f (take i xs) (get_or xs i 0 ∷ [])) ∙ ap (map f) (sym (take-suc xs i 0 h)))
         ∙ ap (λ (k : ℕ). map f (take k xs) ++ drop k xs) (sym (add-one i))
 
--- each of the first n numbers is below a bound
-pub each_below : (bound n : ℕ) (xs : List ℕ) → T (all (λ i. ltb i bound) (take n xs)) → (i : ℕ) → i < n → n ≤ length xs → get_or xs i 0 < bound
-each_below bound n xs t i h l =
-    let e : i + 1 - 1 ≡ i = omega arith in
-    subst (λ (j : ℕ). get_or xs j 0 < bound) e (place_in xs n bound l t (i + 1) (omega arith) (omega arith))
+  pub put_all : (i : ℕ) → i ≡ length xs → put_to i ≡ map f xs
+  put_all i e = subst (λ (k : ℕ). put_to k ≡ map f xs) (sym e) (rw (take-length xs, drop-length xs, append-nil))

@@ -36,7 +36,7 @@ pub record CountsOf (c : Compiled) (r : Counts) : Type 0 where
   pub links : r.links ≡ link_count c
 
 -- the variants of a grid stand in a slice: how many they are at a place, and behind it their map numbers
-unfoldable pub VariantsAt : Grid → List ℕ → ℕ → Type 0
+abbrev pub VariantsAt : Grid → List ℕ → ℕ → Type 0
 VariantsAt g turnings at = Numbers g (variants g) (drop (at + 1) turnings) (get_or turnings at 0)
 
 -- they have been put into a slice, of which nothing before the place is changed
@@ -52,5 +52,5 @@ pub record Counted (t : Pieces) (board : Record) (bytes places first turnings : 
   pub counts : CountsOf (compile (lent_in (records_of t) board bytes)) r
 
 -- rows 2 to 9 let a tray pass
-unfoldable pub Accepted9 : Pieces → Record → List ℕ → Type 0
+abbrev pub Accepted9 : Pieces → Record → List ℕ → Type 0
 Accepted9 t board bytes = first_that_applies (lent_rows (records_of t) board bytes) ≡ 0

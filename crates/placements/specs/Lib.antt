@@ -5,3 +5,4 @@ pub mod Poses
 pub mod Fitting
 pub mod Counting
 pub mod Stripping
+pub mod Trays

@@ -1,18 +1,18 @@
 -- The table of refusals in the stages in which the code tests it.
-use Rattle.std.specs.Prelude.{ℕ, not, ◌&&◌, List, [], ◌∷◌, ltb, length}
+use Rattle.std.specs.Prelude.{ℕ, not, ◌&&◌, List, [], ◌∷◌, ltb, length, Result, Ok, Err}
 use Rattle.lists.specs.Lists.{all}
 use Rattle.definitions.specs.Placements.{Compiled}
 use Rattle.definitions.specs.Refusals.{Row, row, sides_fit, cells_lie, are_bits, some_filled, copy_count, board_cell_count, is_ported, is_knuth, placement_count, link_count}
 use Rattle.definitions.specs.Outcomes.{number_of}
 use Rattle.definitions.specs.declared.Record.{Record}
 use Rattle.definitions.specs.declared.Config.{Config}
-use Rattle.placements.specs.declared.Verdict.{Verdict}
-use Rattle.placements.specs.declared.Verdict.TheVariants.{Accepted, Refused}
+use Rattle.definitions.specs.declared.Refusal.{Refusal}
 use Rattle.placements.specs.Pieces.{lent_in}
 
-abbrev pub verdict_number : Verdict → ℕ
-verdict_number Accepted = 0
-verdict_number (Refused why) = number_of why
+-- the number of a refusal, 0 where a call is accepted
+abbrev pub verdict_number : Result (Unit {0}) Refusal → ℕ
+verdict_number (Ok accepted) = 0
+verdict_number (Err why) = number_of why
 
 -- rows 5 to 9, 2 to 9, 10 and 11, 12 and 13, 14 and 15
 unfoldable pub grid_rows : List Record → Record → List ℕ → List Row

@@ -1,15 +1,17 @@
 // Records, their sides and their cells; and pieces, records by value.
-ghost use Rattle.std.specs.Prelude.{◌≡◌, ◌≤◌, T, length};
+ghost use Rattle.std.specs.Prelude.{◌≡◌, ◌≤◌, T};
 ghost use Rattle.definitions.specs.Refusals.{sides_of, grid_of, is_side, sides_fit, cells_lie};
 ghost use Rattle.definitions.specs.Grid.{volume};
 ghost use Rattle.shape.specs.Coords.{as_sides};
-ghost use Rattle.placements.specs.Pieces.{empty_pieces, no_record, put_record};
+ghost use Rattle.shape.specs.CubicGrids.{grid_of as cubic};
+ghost use Rattle.placements.specs.Pieces.{empty_pieces, no_record, put_record, records_of};
 
 use crate::Pieces;
 use definitions::Record;
-use shape::Coord;
+use shape::{Coord, CubicGrid};
 
-// The sides of a record's box.
+// The sides of a record's box. (Not `From`, which could stand in `shape` alone: a shape knows nothing of records.)
+#[tactic(auto, unfolding(definitions::specs::Refusals::sides_of))]
 pub fn sides_of(r: Record) -> Coord
     ensures { as_sides result ≡ sides_of r }
 {
@@ -17,26 +19,19 @@ pub fn sides_of(r: Record) -> Coord
 }
 
 // Whether a number is 1 to 8.
+#[tactic(auto, unfolding(definitions::specs::Refusals::is_side))]
 fn is_side(n: usize) -> bool
     ensures { result ≡ is_side n }
 {
-    if n < 1 {
-        return false;
-    }
-    n <= 8
+    (1..=8).contains(&n)
 }
 
 // Whether each side is 1 to 8.
+#[tactic(auto, unfolding(definitions::specs::Refusals::sides_fit))]
 pub fn sides_fit(r: Record) -> bool
     ensures { result ≡ sides_fit r }
 {
-    if !is_side(r.a) {
-        return false;
-    }
-    if !is_side(r.b) {
-        return false;
-    }
-    is_side(r.c)
+    is_side(r.a) && is_side(r.b) && is_side(r.c)
 }
 
 // How many cells a record's grid has.
@@ -52,56 +47,57 @@ pub(crate) fn cells_lie(bytes: &[u8], r: Record) -> bool
     requires { T (sides_fit r) }
     ensures { result ≡ cells_lie bytes.now r }
 {
-    let v = volume_of(r);
-    let start = r.start;
-    if bytes.len() < start {
-        return false;
-    }
-    v <= bytes.len() - start
+    r.start <= bytes.len() && volume_of(r) <= bytes.len() - r.start
 }
 
-// The cells of a record's grid, where they lie in the bytes.
-pub fn cells_of(bytes: &[u8], r: Record) -> &[u8]
+// A record's grid, whose cells lie in the bytes.
+pub fn grid_of<'a>(bytes: &'a [u8], r: Record) -> CubicGrid<'a>
     requires { T (sides_fit r) × T (cells_lie bytes.now r) }
-    ensures { (result.now ≡ (grid_of bytes.now r).cells) × (length result.now ≡ volume (sides_of r)) }
+    ensures { cubic result ≡ grid_of bytes.entry.now r }
 {
-    let start = r.start;
-    let end = start + volume_of(r);
-    &bytes[start..end]
+    let end = r.start + volume_of(r);
+    let cells = &bytes[r.start..end];
+    CubicGrid {
+        cells,
+        sides: sides_of(r),
+    }
 }
 
 // The record of zeros.
-pub fn no_record() -> Record
-    ensures { result ≡ no_record }
-{
-    Record {
-        a: 0,
-        b: 0,
-        c: 0,
-        count: 0,
-        wood: 0,
-        start: 0,
-    }
-}
+pub const NO_RECORD: Record = Record {
+    a: 0,
+    b: 0,
+    c: 0,
+    count: 0,
+    wood: 0,
+    start: 0,
+};
 
-// Pieces of n records of zeros.
-pub fn empty_pieces(n: usize) -> Pieces
-    ensures { result ≡ empty_pieces n }
-{
-    let p = no_record();
-    Pieces {
-        records: [p; 16],
-        count: n,
+impl Pieces {
+    // So many records of zeros.
+    pub fn empty(count: usize) -> Pieces
+        ensures { result ≡ empty_pieces count }
+    {
+        Pieces {
+            records: [NO_RECORD; 16],
+            count,
+        }
     }
-}
 
-// Pieces with a record at place i; past 16 there is no place, and they stay as they are.
-pub fn put_record(t: Pieces, i: usize, p: Record) -> Pieces
-    ensures { result ≡ put_record t i p }
-{
-    let mut out = t;
-    if i < 16 {
-        out.records[i] = p;
+    // Another record at place i; past 16 there is no place, and they stay as they are.
+    pub fn put(&mut self, i: usize, p: Record)
+        ensures { self.new ≡ put_record self.old i p }
+    {
+        if i < 16 {
+            self.records[i] = p;
+        }
     }
-    out
+
+    // The records of at most 16 pieces.
+    pub fn as_slice(&self) -> &[Record]
+        requires { self.now.count ≤ 16 }
+        ensures { result.now ≡ records_of self.now }
+    {
+        &self.records[..self.count]
+    }
 }

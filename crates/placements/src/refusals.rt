@@ -1,179 +1,118 @@
-// The table of refusals, rows 2 to 13. Each test over all grids is a function with one loop.
-ghost use Rattle.std.specs.Prelude.{◌≡◌, ◌∷◌, map, ◌≤◌, ◌<◌, T};
+// The table of refusals, rows 2 to 13.
+ghost use Rattle.std.specs.Prelude.{◌≡◌, ◌∷◌, map, ◌≤◌, T, length};
 ghost use Rattle.lists.specs.Lists.{all, sum};
 ghost use Rattle.definitions.specs.Refusals.{grid_of, sides_fit, cells_lie, are_bits, some_filled, first_that_applies};
 ghost use Rattle.placements.specs.Pieces.{records_of};
 ghost use Rattle.placements.specs.Stages.{verdict_number, grid_rows, lent_rows, config_rows, slice_rows};
 
-use super::{Pieces, Verdict, records};
+use super::{Pieces, records};
 use definitions::{Config, Record, Refusal, SolverKind};
 use shape::grids;
 
 // 3
-fn all_sides_fit(t: Pieces) -> bool
-    requires { t.count ≤ 16 }
-    ensures { result ≡ all sides_fit (records_of t) }
+fn all_sides_fit(pieces: &[Record]) -> bool
+    ensures { result ≡ all sides_fit pieces.now }
 {
-    let n = t.count;
-    let mut i = 0;
-    while i < n {
-        let p = t.records[i];
-        if !records::sides_fit(p) {
-            return false;
-        }
-        i += 1;
-    }
-    true
+    pieces.iter().all(|&p| records::sides_fit(p))
 }
 
 // 4
-fn all_cells_lie(t: Pieces, bytes: &[u8]) -> bool
-    requires { (t.count ≤ 16) × T (all sides_fit (records_of t)) }
-    ensures { result ≡ all (cells_lie bytes.now) (records_of t) }
+fn all_cells_lie(pieces: &[Record], bytes: &[u8]) -> bool
+    requires { T (all sides_fit pieces.now) }
+    ensures { result ≡ all (cells_lie bytes.now) pieces.now }
 {
-    let n = t.count;
-    let mut i = 0;
-    while i < n {
-        let p = t.records[i];
-        if !records::cells_lie(bytes, p) {
-            return false;
-        }
-        i += 1;
-    }
-    true
+    pieces.iter().all(|&p| records::cells_lie(bytes, p))
 }
 
 // 5
-fn all_bits(t: Pieces, bytes: &[u8]) -> bool
-    requires { (t.count ≤ 16) × T (all sides_fit (records_of t)) × T (all (cells_lie bytes.now) (records_of t)) }
-    ensures { result ≡ all (λ q. are_bits (grid_of bytes.now q)) (records_of t) }
+fn all_bits(pieces: &[Record], bytes: &[u8]) -> bool
+    requires { T (all sides_fit pieces.now) × T (all (cells_lie bytes.now) pieces.now) }
+    ensures { result ≡ all (λ q. are_bits (grid_of bytes.now q)) pieces.now }
 {
-    let n = t.count;
-    let mut i = 0;
-    while i < n {
-        let p = t.records[i];
-        if !grids::are_bits(records::cells_of(bytes, p)) {
-            return false;
-        }
-        i += 1;
-    }
-    true
+    pieces
+        .iter()
+        .all(|&p| grids::are_bits(records::grid_of(bytes, p).cells))
 }
 
 // 6
-fn all_filled(t: Pieces, bytes: &[u8]) -> bool
-    requires { (t.count ≤ 16) × T (all sides_fit (records_of t)) × T (all (cells_lie bytes.now) (records_of t)) }
-    ensures { result ≡ all (λ q. some_filled (grid_of bytes.now q)) (records_of t) }
+fn all_filled(pieces: &[Record], bytes: &[u8]) -> bool
+    requires { T (all sides_fit pieces.now) × T (all (cells_lie bytes.now) pieces.now) }
+    ensures { result ≡ all (λ q. some_filled (grid_of bytes.now q)) pieces.now }
 {
-    let n = t.count;
-    let mut i = 0;
-    while i < n {
-        let p = t.records[i];
-        if grids::count_filled(records::cells_of(bytes, p)) == 0 {
-            return false;
-        }
-        i += 1;
-    }
-    true
+    pieces.iter().all(|&p| grids::count_filled(records::grid_of(bytes, p).cells) != 0)
 }
 
 // 8: a sum of 16 numbers of 32 bits.
-fn copies_lent(t: Pieces) -> u64
-    requires { t.count ≤ 16 }
-    ensures { result ≡ sum (map (λ q. q.count) (records_of t)) }
+fn copies_lent(pieces: &[Record]) -> u64
+    requires { length pieces.now ≤ 16 }
+    ensures { result ≡ sum (map (λ q. q.count) pieces.now) }
 {
-    let n = t.count;
-    let mut copies: u64 = 0;
-    let mut i = 0;
-    while i < n {
-        let p = t.records[i];
-        copies += p.count as u64;
-        i += 1;
-    }
-    copies
+    pieces.iter().map(|p| p.count as u64).sum()
 }
 
 // Rows 2 to 9: what is lent.
-pub fn refusal_of_lent(t: Pieces, board: Record, bytes: &[u8]) -> Verdict
-    ensures { verdict_number result ≡ first_that_applies (lent_rows (records_of t) board bytes.now) }
+#[tactic(auto, using(crate::proofs::RefusalLaws::records_within, crate::proofs::RefusalLaws::records_over), unfolding(crate::specs::Stages::lent_rows))]
+pub fn check_lent(t: &Pieces, board: Record, bytes: &[u8]) -> Result<(), Refusal>
+    ensures { verdict_number result ≡ first_that_applies (lent_rows (records_of t.now) board bytes.now) }
 {
     if 16 < t.count {
-        return Verdict::Refused(Refusal::TooManyPieces);
+        return Err(Refusal::TooManyPieces);
     }
-    if !records::sides_fit(board) {
-        return Verdict::Refused(Refusal::SideOutOfRange);
+    let pieces = t.as_slice();
+    if !records::sides_fit(board) || !all_sides_fit(pieces) {
+        return Err(Refusal::SideOutOfRange);
     }
-    if !all_sides_fit(t) {
-        return Verdict::Refused(Refusal::SideOutOfRange);
+    if !records::cells_lie(bytes, board) || !all_cells_lie(pieces, bytes) {
+        return Err(Refusal::CellsOutsideBytes);
     }
-    if !records::cells_lie(bytes, board) {
-        return Verdict::Refused(Refusal::CellsOutsideBytes);
-    }
-    if !all_cells_lie(t, bytes) {
-        return Verdict::Refused(Refusal::CellsOutsideBytes);
-    }
-    refusal_of_grids(t, board, bytes)
+    check_grids(pieces, board, bytes)
 }
 
 // Rows 5 to 9, of grids that lie in the bytes.
-fn refusal_of_grids(t: Pieces, board: Record, bytes: &[u8]) -> Verdict
-    requires { (t.count ≤ 16) × T (all sides_fit (board ∷ records_of t)) × T (all (cells_lie bytes.now) (board ∷ records_of t)) }
-    ensures { verdict_number result ≡ first_that_applies (grid_rows (records_of t) board bytes.now) }
+fn check_grids(pieces: &[Record], board: Record, bytes: &[u8]) -> Result<(), Refusal>
+    requires { (length pieces.now ≤ 16) × T (all sides_fit (board ∷ pieces.now)) × T (all (cells_lie bytes.now) (board ∷ pieces.now)) }
+    ensures { verdict_number result ≡ first_that_applies (grid_rows pieces.now board bytes.now) }
 {
-    if !grids::are_bits(records::cells_of(bytes, board)) {
-        return Verdict::Refused(Refusal::CellNotZeroOrOne);
+    let grid = records::grid_of(bytes, board);
+    if !grids::are_bits(grid.cells) || !all_bits(pieces, bytes) {
+        return Err(Refusal::CellNotZeroOrOne);
     }
-    if !all_bits(t, bytes) {
-        return Verdict::Refused(Refusal::CellNotZeroOrOne);
+    if !all_filled(pieces, bytes) {
+        return Err(Refusal::PieceWithoutFilledCell);
     }
-    if !all_filled(t, bytes) {
-        return Verdict::Refused(Refusal::PieceWithoutFilledCell);
+    if 128 < copies_lent(pieces) {
+        return Err(Refusal::TooManyCopies);
     }
-    if 128 < copies_lent(t) {
-        return Verdict::Refused(Refusal::TooManyCopies);
+    if 128 < grids::count_filled(grid.cells) {
+        return Err(Refusal::TooManyBoardCells);
     }
-    if 128 < grids::count_filled(records::cells_of(bytes, board)) {
-        return Verdict::Refused(Refusal::TooManyBoardCells);
-    }
-    Verdict::Accepted
+    Ok(())
 }
 
 // Rows 10 and 11: the configuration.
-pub fn refusal_of_config(config: Config) -> Verdict
+#[tactic(auto, unfolding(crate::specs::Stages::config_rows, definitions::specs::Refusals::is_ported))]
+pub fn check_config(config: Config) -> Result<(), Refusal>
     ensures { verdict_number result ≡ first_that_applies (config_rows config) }
 {
-    if config.identify_mirrored_answers {
-        if !config.identify_transformed_answers {
-            return Verdict::Refused(Refusal::MirroredWithoutTurned);
-        }
+    if config.identify_mirrored_answers && !config.identify_transformed_answers {
+        return Err(Refusal::MirroredWithoutTurned);
     }
-    let solver = config.solver;
-    match solver {
-        SolverKind::Auto => Verdict::Refused(Refusal::EngineNotPorted),
-        SolverKind::Naive => Verdict::Refused(Refusal::EngineNotPorted),
-        SolverKind::Fast => Verdict::Accepted,
-        SolverKind::KnuthAlgorithm => Verdict::Accepted,
+    match config.solver {
+        SolverKind::Auto | SolverKind::Naive => Err(Refusal::EngineNotPorted),
+        SolverKind::Fast | SolverKind::KnuthAlgorithm => Ok(()),
     }
 }
 
 // Rows 12 and 13: the slices, by their lengths.
-pub fn refusal_of_slices(config: Config, work: usize, links: usize) -> Verdict
+#[tactic(auto, unfolding(crate::specs::Stages::slice_rows, definitions::specs::Refusals::is_knuth))]
+pub fn check_slices(config: Config, work: usize, links: usize) -> Result<(), Refusal>
     ensures { verdict_number result ≡ first_that_applies (slice_rows config work links) }
 {
     if work < 8192 {
-        return Verdict::Refused(Refusal::WorkTooShort);
+        return Err(Refusal::WorkTooShort);
     }
-    let solver = config.solver;
-    match solver {
-        SolverKind::Auto => Verdict::Accepted,
-        SolverKind::Naive => Verdict::Accepted,
-        SolverKind::Fast => Verdict::Accepted,
-        SolverKind::KnuthAlgorithm => {
-            if links < 32768 {
-                Verdict::Refused(Refusal::LinksTooShort)
-            } else {
-                Verdict::Accepted
-            }
-        }
+    if config.solver == SolverKind::KnuthAlgorithm && links < 32768 {
+        return Err(Refusal::LinksTooShort);
     }
+    Ok(())
 }

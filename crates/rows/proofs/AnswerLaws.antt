@@ -19,7 +19,8 @@ use Rattle.definitions.specs.Placements.{Placement, compile}
 use Rattle.definitions.specs.Packing.{limits}
 use Rattle.definitions.specs.Answers.{Taken, takes, taken, copy_on, answer, two_bytes, lent_cells}
 use Rattle.theorems.proofs.PartnerLaws.{same_form→eq, form_trans, before_form}
-use Rattle.rows.specs.Systems.{Owned, owned, system_of}
+use Rattle.rows.specs.Systems.{owned, system_of}
+use Rattle.rows.specs.declared.chart.Owned.{Owned}
 use Rattle.rows.specs.Answering.{copies_if, copies_by, taken_by, answers_over, answer_by}
 
 -- ---- lists

@@ -13,7 +13,7 @@ use borrow.Author.Count.{below_more}
 use borrow.Author.Tests.{ne_eqb, eqb-true, eqb-false}
 use lib.Dec.{T, ltb, eqb, ltb→lt, eqb→eq}
 use lib.ListN.{length, get_or, take, drop, set, length-map, get_or-append, drop_of_length-le}
-use lib.Seq.{paste, length-take-le, drop-cons, take-suc, get_or-take, take-take, get_or-append-add, ext_get_or}
+use lib.Seq.{paste, length-take-le, drop-cons, take-suc, take_all, get_or-take, get_or-append-add, ext_get_or}
 use Rattle.lists.specs.Lists.{cons_if, keep, all, how_many, joined, ascending, numbered_from, from, below, member, same, less}
 use Rattle.lists.proofs.TestLaws.{and_left, and_right, or_cases, is_true, is_false, tests_same}
 use Rattle.lists.proofs.ListLaws.{all_at, all_of, keep_at, keep_of, map_same, take_in, keep_fails}
@@ -27,29 +27,31 @@ use Rattle.definitions.specs.Answers.{Taken, takes, copy_on}
 use Rattle.masks.specs.Masks.{has}
 use Rattle.masks.specs.declared.Mask.{Mask}
 use Rattle.rows.specs.Rows.{row_at, mask_at, cells_of}
-use Rattle.rows.specs.Systems.{Owned, owned_in}
+use Rattle.rows.specs.Charts.{nothing_owned}
+use Rattle.rows.specs.Systems.{owned_in}
+use Rattle.rows.specs.declared.chart.Owned.{Owned}
 use Rattle.rows.specs.Answering.{no_copy, copies_if, copies_by, path_in, taken_by, as_copy}
 use Rattle.rows.specs.declared.answers.Copied.{Copied}
 use Rattle.rows.proofs.PairLaws.{pairs, length_pairs, pair_first, pair_second, pair_stored}
 
 -- ---- the copies of a kind, piece by piece
-abbrev pub owned_at : List ℕ → ℕ → Owned
-owned_at pieces i = record { kind = get_or pieces (2 * i) 0; count = get_or pieces (2 * i + 1) 0 }
+abbrev pub owned_at : List Owned → ℕ → Owned
+owned_at pieces i = get_or pieces i nothing_owned
 
 -- those of k pieces from p on
-abbrev pub copies_from : List ℕ → ℕ → ℕ → ℕ → List Copy
+abbrev pub copies_from : List Owned → ℕ → ℕ → ℕ → List Copy
 copies_from pieces kind p k = joined (numbered_from p (map (owned_at pieces) (from p k)) (λ i q. copies_if (eqb q.kind kind) i q.count))
 
-pub copies_start : (pieces : List ℕ) (kind n : ℕ) → copies_from pieces kind 0 (n - 0) ≡ copies_by (owned_in pieces n) kind
+pub copies_start : (pieces : List Owned) (kind n : ℕ) → copies_from pieces kind 0 (n - 0) ≡ copies_by (owned_in pieces n) kind
 unfolding copies_by owned_in
 copies_start pieces kind n = let e : n - 0 ≡ n = omega arith in rw e
 
-module _ (pieces : List ℕ) (kind n p left : ℕ) where
+module _ (pieces : List Owned) (kind n p left : ℕ) where
   abbrev rest : ℕ → ℕ → Copy
   rest q m = get_or (copies_from pieces kind q (n - q)) m no_copy
 
-  copies_next : p < n → (b : Bool) → eqb (get_or pieces (2 * p) 0) kind ≡ b
-      → rest p left ≡ get_or (copies_if b p (get_or pieces (2 * p + 1) 0) ++ copies_from pieces kind (p + 1) (n - (p + 1))) left no_copy
+  copies_next : p < n → (b : Bool) → eqb (owned_at pieces p).kind kind ≡ b
+      → rest p left ≡ get_or (copies_if b p (owned_at pieces p).count ++ copies_from pieces kind (p + 1) (n - (p + 1))) left no_copy
   copies_next h b e = let d : n - p ≡ suc (n - (p + 1)) = omega arith in rw (d, e, add-one p)
 
   abbrev ones : ℕ → List Copy
@@ -58,60 +60,60 @@ module _ (pieces : List ℕ) (kind n p left : ℕ) where
   length_ones : (m : ℕ) → length (ones m) ≡ m
   length_ones m = length-map (below m) _ ∙ length_below m
 
-  pub copy_found : p < n → eqb (get_or pieces (2 * p) 0) kind ≡ true → left < get_or pieces (2 * p + 1) 0 → rest p left ≡ record { piece = p; copy = left }
+  pub copy_found : p < n → eqb (owned_at pieces p).kind kind ≡ true → left < (owned_at pieces p).count → rest p left ≡ record { piece = p; copy = left }
   copy_found h e l =
-      let m = get_or pieces (2 * p + 1) 0 in
+      let m = (owned_at pieces p).count in
       copies_next h true e ∙ get_or-append (ones m) (copies_from pieces kind (p + 1) (n - (p + 1))) no_copy left (let k = length_ones m in omega arith)
       ∙ get_or_of (λ k. record { piece = p; copy = k }) no_copy 0 m left l ∙ ap (λ (k : ℕ). record { piece = p; copy = k }) (omega arith)
 
-  pub copy_later : p < n → eqb (get_or pieces (2 * p) 0) kind ≡ true → get_or pieces (2 * p + 1) 0 ≤ left → rest p left ≡ rest (p + 1) (left - get_or pieces (2 * p + 1) 0)
+  pub copy_later : p < n → eqb (owned_at pieces p).kind kind ≡ true → (owned_at pieces p).count ≤ left → rest p left ≡ rest (p + 1) (left - (owned_at pieces p).count)
   copy_later h e l =
-      let m = get_or pieces (2 * p + 1) 0 in
+      let m = (owned_at pieces p).count in
       let tail = copies_from pieces kind (p + 1) (n - (p + 1)) in
       copies_next h true e ∙ ap (λ (k : ℕ). get_or (ones m ++ tail) k no_copy) (let k = length_ones m in omega arith)
       ∙ get_or-append-add (ones m) tail (left - m) no_copy
 
-  pub copy_other : p < n → eqb (get_or pieces (2 * p) 0) kind ≡ false → rest p left ≡ rest (p + 1) left
+  pub copy_other : p < n → eqb (owned_at pieces p).kind kind ≡ false → rest p left ≡ rest (p + 1) left
   copy_other h e = copies_next h false e
 
   pub copy_none : n ≤ p → rest p left ≡ no_copy
   copy_none h = let d : n - p ≡ 0 = omega arith in rw d
 
 -- ---- rows of a path
--- those from i on
-abbrev pub rows_left : List ℕ → List ℕ → ℕ → ℕ → List Placement
-rows_left work path n i = map (row_at work) (drop i (take n path))
+-- the first i, and those from i on
+abbrev pub rows_to : List ℕ → List ℕ → ℕ → List Placement
+rows_to work path i = path_in work (take i path)
 
-module _ (work path : List ℕ) (n : ℕ) (within : n ≤ length path) where
-  pub row_in : T (all (λ r. ltb (8 * r + 7) (length work)) (take n path)) → (i : ℕ) → i < n → 8 * get_or path i 0 + 8 ≤ length work
+abbrev pub rows_left : List ℕ → List ℕ → ℕ → List Placement
+rows_left work path i = map (row_at work) (drop i path)
+
+module _ (work path : List ℕ) where
+  pub row_in : T (all (λ r. ltb (8 * r + 7) (length work)) path) → (i : ℕ) → i < length path → 8 * get_or path i 0 + 8 ≤ length work
   row_in t i h =
-      let e = length-take-le n path within in
-      let d = get_or-take n path i 0 h in
-      let l = ltb→lt (8 * get_or (take n path) i 0 + 7) (length work)
-      (all_at (λ (r : ℕ). ltb (8 * r + 7) (length work)) (take n path) t (nth_mem (take n path) i (nth_at 0 (take n path) i (omega arith)))) in
+      let l = ltb→lt (8 * get_or path i 0 + 7) (length work)
+      (all_at (λ (r : ℕ). ltb (8 * r + 7) (length work)) path t (nth_mem path i (nth_at 0 path i h))) in
       omega arith
 
-  pub rows_fewer : T (all (λ r. ltb (8 * r + 7) (length work)) (take n path)) → (i : ℕ) → i ≤ n → T (all (λ r. ltb (8 * r + 7) (length work)) (take i path))
-  rows_fewer t i h =
-      all_of (λ (r : ℕ). ltb (8 * r + 7) (length work)) (take i path) (λ r m. all_at (λ (k : ℕ). ltb (8 * k + 7) (length work)) (take n path) t
-      (take_in i (take n path) (subst (λ (l : List ℕ). Memᴰ r l) (sym (take-take i n path h)) m)))
+  pub rows_fewer : T (all (λ r. ltb (8 * r + 7) (length work)) path) → (i : ℕ) → T (all (λ r. ltb (8 * r + 7) (length work)) (take i path))
+  rows_fewer t i = all_of (λ (r : ℕ). ltb (8 * r + 7) (length work)) (take i path) (λ r m. all_at (λ (k : ℕ). ltb (8 * k + 7) (length work)) path t (take_in i path m))
 
-  pub rows_next : (i : ℕ) → i < n → rows_left work path n i ≡ row_at work (get_or path i 0) ∷ rows_left work path n (i + 1)
-  rows_next i h =
-      let e = length-take-le n path within in
-      rw (add-one, drop-cons (take n path) i 0 (omega arith), get_or-take n path i 0 h)
+  pub rows_next : (i : ℕ) → i < length path → rows_left work path i ≡ row_at work (get_or path i 0) ∷ rows_left work path (i + 1)
+  rows_next i h = rw (add-one, drop-cons path i 0 h)
 
-  pub rows_end : (i : ℕ) → n ≤ i → rows_left work path n i ≡ []
-  rows_end i h = let e : length (take n path) ≤ i = let l = length-take-le n path within in omega arith in ap (map (row_at work)) (drop_of_length-le (take n path) e)
+  pub rows_end : rows_left work path (length path) ≡ []
+  rows_end = let h : length path ≤ length path = omega arith in ap (map (row_at work)) (drop_of_length-le path h)
 
-  pub rows_done : (i : ℕ) → i < n → path_in work path (i + 1) ≡ path_in work path i ++ (row_at work (get_or path i 0) ∷ [])
+  pub rows_done : (i : ℕ) → i < length path → rows_to work path (i + 1) ≡ rows_to work path i ++ (row_at work (get_or path i 0) ∷ [])
   unfolding path_in
-  rows_done i h = rw (add-one, take-suc path i 0 (omega arith)) (map-append (row_at work) (take i path) (get_or path i 0 ∷ []))
+  rows_done i h = rw (add-one, take-suc path i 0 h) (map-append (row_at work) (take i path) (get_or path i 0 ∷ []))
+
+  pub rows_whole : rows_to work path (length path) ≡ path_in work path
+  rows_whole = ap (path_in work) (take_all (length path) path (omega arith))
 
 -- how many of the rows of a path are of a kind
-pub kind_counted : (work path : List ℕ) (n kind : ℕ) → how_many (λ q. eqb q.kind kind) (path_in work path n) ≡ how_many (λ r. eqb (row_at work r).kind kind) (take n path)
+pub kind_counted : (work path : List ℕ) (kind : ℕ) → how_many (λ q. eqb q.kind kind) (path_in work path) ≡ how_many (λ r. eqb (row_at work r).kind kind) path
 unfolding path_in
-kind_counted work path n kind = go (take n path)
+kind_counted work path kind = go path
   where
     go : (xs : List ℕ) → how_many (λ q. eqb q.kind kind) (map (row_at work) xs) ≡ how_many (λ r. eqb (row_at work r).kind kind) xs
     go [] = refl
@@ -333,9 +335,6 @@ module _ (on : ℕ → Copy) (scans last : List ℕ) (v : ℕ) (long : v ≤ len
   told_copy i h d c =
       pair_second (λ n. (on n).piece) (λ n. (on n).copy) (take v scans) i 0 (let b = length-take-le v scans long in omega arith)
       ∙ ap (λ (n : ℕ). (on n).copy) (get_or-take v scans i 0 h) ∙ sym (ap (λ (y : Copy). y.copy) c)
-
-  pub agreed_none : length last ≡ 2 * v → Agreed told last v 0
-  agreed_none e = record { up_to = omega arith; sized = e; agree = λ k h. absurd (omega arith) }
 
   pub agreed_more : (i : ℕ) → Agreed told last v i → i < v → (d : Copied) → as_copy d ≡ on (get_or scans i 0)
       → get_or last (2 * i) 0 ≡ d.piece → get_or last (2 * i + 1) 0 ≡ d.copy → Agreed told last v (i + 1)

@@ -5,22 +5,21 @@ use mathlib.Core.Path.{◌≡◌, sym, ap, ap₂, ◌∙◌}
 use native.Mathlib.Numerals.{add-one}
 use native.Mathlib.Omega.{arith}
 use lib.Dec.{ltb, ltb→lt}
-use lib.ListN.{length, get_or, take, drop, length-drop, drop_of_length-le}
+use lib.ListN.{length, get_or, take, drop, drop_of_length-le}
 use lib.Seq.{length-take-le, drop-cons, get_or-take}
 use Rattle.lists.specs.Lists.{joined, numbered, numbered_from}
 use Rattle.lists.proofs.ListLaws.{numbered_same, all_at, numbered_map}
-use Rattle.definitions.specs.Grid.{Grid, volume}
+use Rattle.definitions.specs.Grid.{Grid}
 use Rattle.definitions.specs.Scan.{axes, scan}
 use Rattle.definitions.specs.Kinds.{Kind, kinds_of, variants}
 use Rattle.definitions.specs.Placements.{Placement, placements_at, placements_of, compile}
-use Rattle.definitions.specs.Refusals.{grid_of, sides_of, placement_count}
+use Rattle.definitions.specs.Refusals.{grid_of, placement_count}
 use Rattle.definitions.specs.declared.Record.{Record}
 use Rattle.placements.specs.declared.Pieces.{Pieces}
-use Rattle.placements.specs.Pieces.{no_record, records_of, lent_in}
+use Rattle.placements.specs.Pieces.{records_of, lent_in}
 use Rattle.placements.specs.Merging.{grid_at, shape_at, AreKinds}
-use Rattle.placements.proofs.RefusalLaws.{cells_end}
-use Rattle.placements.proofs.MergingLaws.{record_fits}
-use Rattle.placements.proofs.CountingLaws.{Lent, sound, kinds_shapes, variants_smallest}
+use Rattle.placements.proofs.CountingLaws.{Lent, kinds_shapes, variants_smallest}
+use Rattle.rows.proofs.RecordLaws.{piece_size}
 
 -- ---- the placements of kind k, given by some grids, and by piece i
 abbrev pub placements_by : List ℕ → Grid → ℕ → List Grid → List Placement
@@ -48,17 +47,10 @@ module _ (order : List ℕ) (g : Grid) (t : Pieces) (bytes first : List ℕ) (ki
       ap (λ (is : List ℕ). joined (numbered_from k is (placements_of_piece order g t bytes))) (drop_of_length-le (take kinds first) {i = k} (omega arith))
 
 -- ---- all placements
-module _ (t : Pieces) (board : Record) (bytes : List ℕ) (lent : Lent t board bytes) (long : length t.records ≡ 16) where
-  piece_size : (i : ℕ) → i < t.count → length (grid_at t bytes i).cells ≡ volume (grid_at t bytes i).sides
-  unfolding grid_at grid_of
-  piece_size i h =
-      let r = get_or t.records i no_record in
-      let e = cells_end bytes r (record_fits t bytes (sound t board bytes lent) long i h).1 in
-      length-take-le (volume (sides_of r)) (drop r.start bytes) (simp length-drop (omega arith))
-
+module _ (t : Pieces) (board : Record) (bytes : List ℕ) (lent : Lent t board bytes) where
   piece_variants : (i : ℕ) → i < t.count → variants (shape_at t bytes i) ≡ variants (grid_at t bytes i)
   unfolding shape_at
-  piece_variants i h = variants_smallest (grid_at t bytes i) (piece_size i h)
+  piece_variants i h = variants_smallest (grid_at t bytes i) (piece_size t board bytes lent i h)
 
   module _ (first : List ℕ) (kinds : ℕ) (are : AreKinds t bytes first kinds) (order : List ℕ) (is-order : axes (grid_of bytes board).sides ≡ order) (g : Grid) (is : g ≡ grid_of bytes board) where
     pub placements_all : left_from order g t bytes first kinds 0 ≡ (compile (lent_in (records_of t) board bytes)).placements

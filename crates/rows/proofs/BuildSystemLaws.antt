@@ -47,6 +47,8 @@ use Rattle.placements.proofs.StageLaws.{refusal_stages}
 use Rattle.rows.specs.Rows.{rows_in, spread, RowsFit, Appended}
 use Rattle.rows.specs.Boards.{Numbered, Pictured, board_images}
 use Rattle.rows.specs.declared.Dims.{Dims}
+use Rattle.rows.specs.declared.chart.Kind.{Kind}
+use Rattle.rows.specs.declared.chart.Owned.{Owned}
 use Rattle.rows.specs.Ranges.{Ranged}
 use Rattle.rows.specs.Built.{BuiltLent}
 use Rattle.rows.specs.Systems.{KindsIn, owned, owned_in, images_in, cell_images, system_over, system_of}
@@ -102,7 +104,7 @@ module _ (t : Pieces) (board : Record) (bytes work : List ℕ) where
       }
 
   pub fast_accepted : Accepted9 t board bytes → placement_count (compile (tray_in (records_of t) board bytes)) ≤ 1024 → 8192 ≤ length work → refusal fast_call ≡ 0
-  unfolding Accepted9 config_rows slice_rows count_rows_by count_rows is_ported is_knuth
+  unfolding config_rows slice_rows count_rows_by count_rows is_ported is_knuth
   fast_accepted ok few long = accepted_call fast_call ok refl (rw (le-ltb (length work) 8192 long)) (rw (le-ltb 1024 (placement_count (compile (tray_in (records_of t) board bytes))) few))
 
 -- ---- the scan numbers of a board's box
@@ -274,7 +276,7 @@ module _ (rs : List Record) (board : Record) (bytes order : List ℕ) (g : Grid)
       }
 
 -- ---- the system of a tray in a frame, which decides nothing of it but the scan numbers: those of the lent box
-pub system_framed : (rs : List Record) (board : Record) (bytes : List ℕ) (f : Frame) (d : Dims) (work after starts images kinds pieces scans : List ℕ)
+pub system_framed : (rs : List Record) (board : Record) (bytes : List ℕ) (f : Frame) (d : Dims) (work after starts images : List ℕ) (kinds : List Kind) (pieces : List Owned) (scans : List ℕ)
     → BuiltLent (compile (lent_in rs board bytes)) d.size (record { rows = d.rows; turns = d.turns; mirrorings = d.mirrorings }) work after starts images
     → KindsIn kinds d.kinds (compile (lent_in rs board bytes)) → owned_in pieces d.pieces ≡ owned (lent_in rs board bytes)
     → take d.places scans ≡ map (scan_number (lent_cells (compile (framed_in rs board bytes f)))) (box (compile (framed_in rs board bytes f)).frame.lent)
@@ -325,21 +327,19 @@ module _ (rs : List Record) (board : Record) (bytes : List ℕ) (f : Frame) (s :
   unfolding compile grid_of
   cells_at = ap (λ (z : Sides). map (cell_at z) (take n places)) is-part ∙ on.cells
 
-  module _ (new : List ℕ) (put : new ≡ map (lent_place s f) (take n places) ++ drop n places) (size : ℕ) (room : volume f.lent ≤ size) where
-    front : take n new ≡ map (lent_place s f) (take n places)
-    front =
-        ap (take n) put
-        ∙ take_at (map (lent_place s f) (take n places)) (drop n places) n (length-map (take n places) (lent_place s f) ∙ length-take-le n places on.within)
+  module _ (new : List ℕ) (put : new ≡ map (lent_place s f) (take n places)) (size : ℕ) (room : volume f.lent ≤ size) where
+    pub new_few : length new ≤ 128
+    new_few = let e = ap length put ∙ length-map (take n places) (lent_place s f) ∙ length-take-le n places on.within in let h = on.few in omega arith
 
-    pub new_below : T (all (λ i. ltb i size) (take n new))
-    new_below = subst (λ (xs : List ℕ). T (all (λ i. ltb i size) xs)) (sym front) (put_back_below s f (take n places) size fits part_below room)
+    pub new_below : T (all (λ i. ltb i size) new)
+    new_below = subst (λ (xs : List ℕ). T (all (λ i. ltb i size) xs)) (sym put) (put_back_below s f (take n places) size fits part_below room)
 
-    pub new_scans : (scans : List ℕ) → scans ≡ map (λ i. before (eqb i) (take n new)) (below size)
+    pub new_scans : (scans : List ℕ) → scans ≡ map (λ i. before (eqb i) new) (below size)
         → take (volume f.lent) scans ≡ map (scan_number (lent_cells (compile (framed_in rs board bytes f)))) (box (compile (framed_in rs board bytes f)).frame.lent)
     unfolding compile
     new_scans scans e =
-        numbers_are f.lent (map (set_down f.at) (compile (framed_in rs board bytes f)).cells) (take n new) scans size
-        (ap (map (cell_at f.lent)) front ∙ put_back_cells s f (take n places) (compile (framed_in rs board bytes f)).cells fits part_below cells_at) room e
+        numbers_are f.lent (map (set_down f.at) (compile (framed_in rs board bytes f)).cells) new scans size
+        (ap (map (cell_at f.lent)) put ∙ put_back_cells s f (take n places) (compile (framed_in rs board bytes f)).cells fits part_below cells_at) room e
 
 -- ---- a tray whose grids are stripped
 module _ (t : Pieces) (board : Record) (bytes : List ℕ) {r : StrippedRecords} {cells : List ℕ} (stripped : StripsTray t board bytes r cells) where

@@ -1,41 +1,41 @@
 -- The kinds and the pieces of a tray, listed: a kind's copies, its mirror partner and how many cells it has, a piece's kind and its count. Assumes nothing.
-use Prim.Native.Nat.{ℕ, zero, suc, ◌+◌, ◌*◌, ◌≤◌, ◌<◌}
+use Prim.Native.Nat.{ℕ, zero, suc, ◌+◌, ◌≤◌, ◌<◌}
 use mathlib.Core.Bool.{Bool, true, false, cond}
 use mathlib.Core.List.{List, [], ◌∷◌, map, map-map}
 use mathlib.Core.Path.{◌≡◌, refl, sym, ap, ap₂, ◌∙◌, subst}
 use native.Mathlib.Omega.{arith}
 use borrow.Author.Count.{below_more}
-use borrow.Author.Tests.{eqb-true, eqb-false}
 use lib.Dec.{T, eqb, ltb, ltb→lt}
-use lib.ListN.{length, get_or, take, drop, set, replicate, get_or-replicate, length-map, length-drop, get_or-map}
-use lib.Seq.{paste, length-take-le, get_or-take}
+use lib.ListN.{length, get_or, take, set, length-map, get_or-map}
+use lib.Seq.{length-take-le, get_or-take, get_or-set_same, get_or-set_other}
 use Rattle.lists.specs.Lists.{all, before, below, how_many, sum}
 use Rattle.lists.proofs.ListLaws.{before_few, all_at, map_same}
-use Rattle.lists.proofs.RangeLaws.{length_below, number_at, map_below}
+use Rattle.lists.proofs.RangeLaws.{map_below}
 use Rattle.definitions.specs.Grid.{Grid, volume, filled_cells}
 use Rattle.definitions.specs.Maps.{Map, map_grid, map_of, mirror, product, identity, maps, turns, mirrorings, transform, permutations, parity, axis_at, flip_at}
 use Rattle.definitions.specs.Kinds.{Piece, Tray, Form, piece_form, same_form, Kind, kind_named, kinds_of, smallest, sorted, forms, mirrored_form, partner_of}
 use Rattle.definitions.specs.Placements.{compile}
 use Rattle.definitions.specs.Packing.{limits}
 use Rattle.definitions.specs.Orders.{sizes}
-use Rattle.definitions.specs.Refusals.{grid_of, sides_of, are_bits, copy_count, piece_of}
+use Rattle.definitions.specs.Refusals.{grid_of, are_bits, copy_count, piece_of}
 use Rattle.definitions.specs.declared.Record.{Record}
 use Rattle.theorems.proofs.GroupLaws.{identity_grid}
 use Rattle.theorems.proofs.ActLaws.{product_on}
 use Rattle.theorems.proofs.MoveLaws.{mirror_in, mapped_whole}
 use Rattle.theorems.proofs.PartnerLaws.{mirror_twice, form_path}
 use Rattle.theorems.proofs.ShapeLaws.{smallest_at, sum_filled}
-use Rattle.shape.proofs.PlaceLaws.{volume_small}
 use Rattle.placements.specs.declared.Pieces.{Pieces}
 use Rattle.placements.specs.Pieces.{no_record, records_of, lent_in}
 use Rattle.placements.specs.Merging.{Sound, grid_at, shape_at, wood_at, form_at, moved_form, forms_of, AreKinds, copies_at}
 use Rattle.placements.specs.Counting.{Accepted9}
-use Rattle.placements.proofs.RefusalLaws.{sides_small, cells_end, all_grids, records_few, records_count, record_passes}
-use Rattle.placements.proofs.MergingLaws.{record_fits, form_in, forms_length, piece-at, counted, copies_all}
+use Rattle.placements.proofs.RefusalLaws.{all_grids}
+use Rattle.placements.proofs.MergingLaws.{form_in, forms_length, counted, copies_all}
 use Rattle.placements.proofs.CountingLaws.{lent_passes, sound, kinds_many, filled_smallest, filled_bytes}
-use Rattle.rows.specs.Built.{KindsSmall}
-use Rattle.rows.specs.Systems.{Owned, KindsIn, owned, owned_in}
-use Rattle.rows.proofs.PairLaws.{pairs, first_stored, second_stored, front_next, set3, set3_first, set3_second, set3_third, set3_other}
+use Rattle.rows.proofs.RecordLaws.{record_is, record_bits, piece_size}
+use Rattle.rows.specs.Charts.{kind_copies, kind_partner, kind_size, no_kind, nothing_owned}
+use Rattle.rows.specs.declared.chart.Kind.{Kind as Entry}
+use Rattle.rows.specs.Systems.{KindsIn, owned, owned_in}
+use Rattle.rows.specs.declared.chart.Owned.{Owned}
 
 -- ---- a tray has at most 128 copies
 pub few-copies : (t : Pieces) (board : Record) (bytes : List ℕ) → Accepted9 t board bytes → copy_count (lent_in (records_of t) board bytes) ≤ 128
@@ -78,35 +78,6 @@ smallest_size g bits e =
     let r = smallest_at g in
     ap (λ (h : Grid). sum h.cells) (sym r.2) ∙ sum_filled r.0 g bits ∙ ap (λ (h : Grid). length (filled_cells h)) r.2 ∙ filled_smallest g ∙ filled_bytes g e
 
--- ---- three numbers of a kind that are small leave the others so
-pub small_next : (old : List ℕ) (k a b c : ℕ) → 3 * k + 2 < length old → KindsSmall old → a < 256 → c ≤ 512 → KindsSmall (set3 old k a b c)
-small_next old k a b c room small p q =
-    record {
-      copies = λ j h. at_first j (eqb j k) refl (small.copies j h);
-      sizes = λ j h. at_third j (eqb j k) refl (small.sizes j h);
-    }
-  where
-    at_first : (j : ℕ) (same : Bool) → eqb j k ≡ same → get_or old (3 * j) 0 < 256 → get_or (set3 old k a b c) (3 * j) 0 < 256
-    at_first j true e h = let s = eqb-true j k e in let f = ap (λ (i : ℕ). get_or (set3 old k a b c) (3 * i) 0) s ∙ set3_first old k a b c room in omega arith
-    at_first j false e h =
-        let f = eqb-false j k e in
-        let s = set3_other old k a b c (3 * j) (λ d. f (omega arith)) (λ d. omega arith) (λ d. omega arith) in
-        omega arith
-
-    at_third : (j : ℕ) (same : Bool) → eqb j k ≡ same → get_or old (3 * j + 2) 0 ≤ 512 → get_or (set3 old k a b c) (3 * j + 2) 0 ≤ 512
-    at_third j true e h = let s = eqb-true j k e in let f = ap (λ (i : ℕ). get_or (set3 old k a b c) (3 * i + 2) 0) s ∙ set3_third old k a b c room in omega arith
-    at_third j false e h =
-        let f = eqb-false j k e in
-        let s = set3_other old k a b c (3 * j + 2) (λ d. omega arith) (λ d. omega arith) (λ d. f (omega arith)) in
-        omega arith
-
-pub zeros_small : KindsSmall (replicate 48 0)
-zeros_small =
-    record {
-      copies = λ k h. let e = get_or-replicate {A = ℕ} 48 (3 * k) 0 0 (omega arith) in omega arith;
-      sizes = λ k h. let e = get_or-replicate {A = ℕ} 48 (3 * k + 2) 0 0 (omega arith) in omega arith;
-    }
-
 -- ---- the form of piece i's mirrored grid; and that of a map that makes the smallest turned grid of it
 unfoldable pub mirrored_at : Pieces → List ℕ → ℕ → Form
 mirrored_at t bytes i = record { grid = smallest (map_grid (map_of 26) (grid_at t bytes i)); wood = wood_at t i }
@@ -122,10 +93,10 @@ partner_at t bytes first n i = before (same_form (mirrored_at t bytes i)) (forms
 abbrev pub size_at : Pieces → List ℕ → ℕ → ℕ
 size_at t bytes i = how_many (eqb 1) (grid_at t bytes i).cells
 
-pub record KindAt (t : Pieces) (bytes first : List ℕ) (n : ℕ) (kinds : List ℕ) (k : ℕ) : Type 0 where
-  pub copies : get_or kinds (3 * k) 0 ≡ copies_at t bytes (get_or first k 0)
-  pub partner : get_or kinds (3 * k + 1) 0 ≡ partner_at t bytes first n (get_or first k 0)
-  pub size : get_or kinds (3 * k + 2) 0 ≡ size_at t bytes (get_or first k 0)
+pub record KindAt (t : Pieces) (bytes first : List ℕ) (n : ℕ) (kinds : List Entry) (k : ℕ) : Type 0 where
+  pub copies : kind_copies kinds k ≡ copies_at t bytes (get_or first k 0)
+  pub partner : kind_partner kinds k ≡ partner_at t bytes first n (get_or first k 0)
+  pub size : kind_size kinds k ≡ size_at t bytes (get_or first k 0)
 
 abbrev pub kind_at : Pieces → List ℕ → List ℕ → ℕ → ℕ → ℕ
 kind_at t bytes first n i = before (same_form (form_at t bytes i)) (forms_of t bytes (take n first))
@@ -133,48 +104,34 @@ kind_at t bytes first n i = before (same_form (form_at t bytes i)) (forms_of t b
 abbrev pub count_at : Pieces → ℕ → ℕ
 count_at t i = (get_or t.records i no_record).count
 
-module _ (t : Pieces) (board : Record) (bytes first : List ℕ) (n : ℕ) (long : length t.records ≡ 16) (ok : Accepted9 t board bytes) (are : AreKinds t bytes first n) (h : n ≤ length first) where
+module _ (t : Pieces) (board : Record) (bytes first : List ℕ) (n : ℕ) (ok : Accepted9 t board bytes) (are : AreKinds t bytes first n) (h : n ≤ length first) where
   pub lent_sound : Sound t bytes
   lent_sound = sound t board bytes (lent_passes t board bytes ok)
 
   all-bits : T (all (λ q. are_bits (grid_of bytes q)) (records_of t))
   all-bits = subst T (all_grids are_bits bytes (records_of t)) (lent_passes t board bytes ok).passed.bits
 
-  pub kind_piece : (k : ℕ) → k < n → get_or first k 0 < t.count
-  kind_piece k l = piece-at t bytes first n h are.ordered k l
-
   whole : (i : ℕ) → i < t.count → length (grid_at t bytes i).cells ≡ volume (grid_at t bytes i).sides
-  unfolding grid_at grid_of
-  whole i l =
-      let r = get_or t.records i no_record in
-      let k = cells_end bytes r (record_fits t bytes lent_sound long i l).1 in
-      length-take-le (volume (sides_of r)) (drop r.start bytes) (simp length-drop (omega arith))
+  whole i l = piece_size t board bytes (lent_passes t board bytes ok) i l
 
   -- they fit a byte
   pub copies_fit : (i : ℕ) → copies_at t bytes i ≤ 128
   unfolding copy_count
   copies_fit i = let a = copies_all t bytes i in let b = counted_few bytes (form_at t bytes i) (records_of t) in let d = few-copies t board bytes ok in omega arith
 
-  record_is : (i : ℕ) → i < t.count → get_or (records_of t) i no_record ≡ get_or t.records i no_record
-  record_is i l = rw (records_few t lent_sound.few) (get_or-take t.count t.records i no_record l)
-
   pub count_fits : (i : ℕ) → i < t.count → count_at t i ≤ 128
   unfolding copy_count
   count_fits i l =
       let a = one_few bytes (records_of t) i in
       let b = few-copies t board bytes ok in
-      let e : (get_or (records_of t) i no_record).count ≡ count_at t i = ap (λ (r : Record). r.count) (record_is i l) in
-      omega arith
-
-  pub size_fits : (r : ℕ) (cells : List ℕ) (i : ℕ) → i < t.count → length cells ≡ volume (sides_of (get_or t.records i no_record)) → r ≤ length cells → r ≤ 512
-  size_fits r cells i l e k =
-      let v = (volume_small (sides_of (get_or t.records i no_record)) (sides_small (get_or t.records i no_record) (record_fits t bytes lent_sound long i l).0)).1 in
+      let e : (get_or (records_of t) i no_record).count ≡ count_at t i = ap (λ (r : Record). r.count) (record_is t lent_sound.few i l) in
       omega arith
 
   pub number_fits : (g : Form) → before (same_form g) (forms_of t bytes (take n first)) ≤ 16
   number_fits g =
       let a = before_few (same_form g) (forms_of t bytes (take n first)) in
-      let b = forms_length t bytes first n h are.ordered in
+      let b = forms_length t bytes (take n first) in
+      let c = length-take-le n first h in
       let d = are.few in
       let e = lent_sound.few in
       omega arith
@@ -186,20 +143,22 @@ module _ (t : Pieces) (board : Record) (bytes first : List ℕ) (n : ℕ) (long 
   size : length xs ≡ n
   size = length-take-le n first h
 
-  -- what the code stores of kind k leaves the kinds before it, and keeps the numbers small
-  pub kind_next : (old : List ℕ) (k a b c : ℕ) → 3 * k + 2 < length old → ((j : ℕ) → j < k → KindAt t bytes first n old j)
-      → a ≡ copies_at t bytes (get_or first k 0) → b ≡ partner_at t bytes first n (get_or first k 0) → c ≡ size_at t bytes (get_or first k 0)
-      → (j : ℕ) → j < k + 1 → KindAt t bytes first n (set3 old k a b c) j
-  kind_next old k a b c room all p q r =
-      below_more (λ (j : ℕ). KindAt t bytes first n (set3 old k a b c) j) k
+  -- what the code stores of kind k leaves the kinds before it
+  pub kind_next : (old : List Entry) (k : ℕ) (e : Entry) → k < length old → ((j : ℕ) → j < k → KindAt t bytes first n old j)
+      → e.copies ≡ copies_at t bytes (get_or first k 0) → e.partner ≡ partner_at t bytes first n (get_or first k 0) → e.size ≡ size_at t bytes (get_or first k 0)
+      → (j : ℕ) → j < k + 1 → KindAt t bytes first n (set old k e) j
+  kind_next old k e room all p q r =
+      below_more (λ (j : ℕ). KindAt t bytes first n (set old k e) j) k
       (λ j l.
       let at = all j l in
+      let s : get_or (set old k e) j no_kind ≡ get_or old j no_kind = get_or-set_other old k j e no_kind (λ d. omega arith) in
       record {
-        copies = set3_other old k a b c (3 * j) (λ e. omega arith) (λ e. omega arith) (λ e. omega arith) ∙ at.copies;
-        partner = set3_other old k a b c (3 * j + 1) (λ e. omega arith) (λ e. omega arith) (λ e. omega arith) ∙ at.partner;
-        size = set3_other old k a b c (3 * j + 2) (λ e. omega arith) (λ e. omega arith) (λ e. omega arith) ∙ at.size;
+        copies = ap (λ (x : Entry). x.copies) s ∙ at.copies;
+        partner = ap (λ (x : Entry). x.partner) s ∙ at.partner;
+        size = ap (λ (x : Entry). x.size) s ∙ at.size;
       })
-      (record { copies = set3_first old k a b c room ∙ p; partner = set3_second old k a b c room ∙ q; size = set3_third old k a b c room ∙ r })
+      (let s : get_or (set old k e) k no_kind ≡ e = get_or-set_same old k e no_kind room in
+      record { copies = ap (λ (x : Entry). x.copies) s ∙ p; partner = ap (λ (x : Entry). x.partner) s ∙ q; size = ap (λ (x : Entry). x.size) s ∙ r })
 
   abbrev tray : Tray
   tray = lent_in (records_of t) board bytes
@@ -234,37 +193,25 @@ module _ (t : Pieces) (board : Record) (bytes first : List ℕ) (n : ℕ) (long 
 
   size_is : (i : ℕ) → i < t.count → sum (form_at t bytes i).grid.cells ≡ size_at t bytes i
   unfolding form_at shape_at grid_at
-  size_is i l = smallest_size (grid_at t bytes i) (record_passes t lent_sound.few long i l (λ q. are_bits (grid_of bytes q)) all-bits) (whole i l)
+  size_is i l = smallest_size (grid_at t bytes i) (record_bits t bytes lent_sound i l (λ r m. all_at (λ (q : Record). are_bits (grid_of bytes q)) (records_of t) all-bits m)) (whole i l)
 
   sizes-are : map (λ (d : Kind). sum d.shape.cells) (kinds_of tray) ≡ map (size_at t bytes) xs
   sizes-are = by_pieces (λ (d : Kind). sum d.shape.cells) (size_at t bytes) size_is
 
-  pub kinds_end : (new : List ℕ) → ((k : ℕ) → k < n → KindAt t bytes first n new k) → KindsIn new n (compile (lent_in (records_of t) board bytes))
+  pub kinds_end : (new : List Entry) → ((k : ℕ) → k < n → KindAt t bytes first n new k) → KindsIn new n (compile (lent_in (records_of t) board bytes))
   unfolding compile limits sizes
   kinds_end new all =
       record {
         count = sym (kinds_many t board bytes first n are h);
-        copies = listed (λ k. get_or new (3 * k) 0) (copies_at t bytes) (λ k l. (all k l).copies) ∙ sym copies_are;
-        partners = listed (λ k. get_or new (3 * k + 1) 0) (partner_at t bytes first n) (λ k l. (all k l).partner) ∙ sym partners_are;
-        sizes_are = listed (λ k. get_or new (3 * k + 2) 0) (size_at t bytes) (λ k l. (all k l).size) ∙ sym sizes-are;
+        copies = listed (kind_copies new) (copies_at t bytes) (λ k l. (all k l).copies) ∙ sym copies_are;
+        partners = listed (kind_partner new) (partner_at t bytes first n) (λ k l. (all k l).partner) ∙ sym partners_are;
+        sizes_are = listed (kind_size new) (size_at t bytes) (λ k l. (all k l).size) ∙ sym sizes-are;
       }
     where
       listed : (f g : ℕ → ℕ) → ((k : ℕ) → k < n → f k ≡ g (get_or first k 0)) → map f (below n) ≡ map g xs
       listed f g e = map_below f n (g 0) (map g xs) (length-map xs g ∙ size) (λ k l. e k l ∙ ap g (sym (get_or-take n first k 0 l)) ∙ sym (get_or-map g xs k 0))
 
   -- ---- pieces
-  abbrev is : List ℕ
-  is = below t.count
-
-  pub piece_next : (old : List ℕ) → 2 * t.count ≤ length old → (i : ℕ) → i < t.count → (new : List ℕ) → new ≡ paste old 0 (pairs (kind_at t bytes first n) (count_at t) (below t.count)) (2 * i)
-      → (a b : ℕ) → a ≡ kind_at t bytes first n i → b ≡ count_at t i
-      → set (set new (2 * i) a) (2 * i + 1) b ≡ paste old 0 (pairs (kind_at t bytes first n) (count_at t) (below t.count)) (2 * (i + 1))
-  piece_next old fits i l new e a b p q =
-      let s = length_below t.count in
-      let x : i ≡ get_or is i 0 = sym (number_at t.count i l) in
-      front_next (kind_at t bytes first n) (count_at t) old is 0 (omega arith) i (omega arith) new e a b
-      (p ∙ ap (kind_at t bytes first n) x) (q ∙ ap (count_at t) x)
-
   forms_here : forms_of t bytes (take n first) ≡ forms (sorted (lent_in (records_of t) board bytes))
   unfolding sorted
   forms_here = are.forms_are
@@ -273,13 +220,23 @@ module _ (t : Pieces) (board : Record) (bytes first : List ℕ) (n : ℕ) (long 
   unfolding form_at shape_at wood_at grid_at
   form_here i = refl
 
-  pub pieces_end : (old : List ℕ) → 2 * t.count ≤ length old → (new : List ℕ) → new ≡ paste old 0 (pairs (kind_at t bytes first n) (count_at t) (below t.count)) (2 * t.count)
-      → owned_in new t.count ≡ owned (lent_in (records_of t) board bytes)
+  -- what stands of piece i
+  abbrev pub piece_entry : ℕ → Owned
+  piece_entry i = record { kind = kind_at t bytes first n i; count = count_at t i }
+
+  pub piece_next : (old : List Owned) (i : ℕ) (e : Owned) → i < length old → ((j : ℕ) → j < i → get_or old j nothing_owned ≡ piece_entry j)
+      → e.kind ≡ kind_at t bytes first n i → e.count ≡ count_at t i → (j : ℕ) → j < i + 1 → get_or (set old i e) j nothing_owned ≡ piece_entry j
+  piece_next old i e room all p q =
+      below_more (λ (j : ℕ). get_or (set old i e) j nothing_owned ≡ piece_entry j) i
+      (λ j l. get_or-set_other old i j e nothing_owned (λ d. omega arith) ∙ all j l)
+      (get_or-set_same old i e nothing_owned room ∙ ap₂ {C = Owned} (λ (a b : ℕ). record { kind = a; count = b }) p q)
+
+  pub pieces_end : length (records_of t) ≡ t.count → (new : List Owned) → ((i : ℕ) → i < t.count → get_or new i nothing_owned ≡ piece_entry i) → owned_in new t.count ≡ owned (lent_in (records_of t) board bytes)
   unfolding owned_in owned
-  pieces_end old fits new e =
-      map_below (λ i. record { kind = get_or new (2 * i) 0; count = get_or new (2 * i + 1) 0 }) t.count (own (piece_of bytes no_record)) (map own (map (piece_of bytes) (records_of t)))
-      (length-map (map (piece_of bytes) (records_of t)) own ∙ length-map (records_of t) (piece_of bytes) ∙ records_count t long)
-      (λ i l. ap₂ (λ (k m : ℕ). record { kind = k; count = m }) (kind_here i l) (count_here i l) ∙ sym (listed i l))
+  pieces_end many new all =
+      map_below (λ i. get_or new i nothing_owned) t.count (own (piece_of bytes no_record)) (map own (map (piece_of bytes) (records_of t)))
+      (length-map (map (piece_of bytes) (records_of t)) own ∙ length-map (records_of t) (piece_of bytes) ∙ many)
+      (λ i l. all i l ∙ ap (λ (k : ℕ). record { kind = k; count = count_at t i }) (ap (before (same_form (form_at t bytes i))) forms_here) ∙ sym (listed i l))
     where
       gs : List Form
       gs = forms (sorted (lent_in (records_of t) board bytes))
@@ -287,21 +244,7 @@ module _ (t : Pieces) (board : Record) (bytes first : List ℕ) (n : ℕ) (long 
       own : Piece → Owned
       own q = record { kind = before (same_form (piece_form q)) gs; count = q.count }
 
-      at : new ≡ paste old 0 (pairs (kind_at t bytes first n) (count_at t) is) (2 * length is)
-      at = e ∙ ap (λ (k : ℕ). paste old 0 (pairs (kind_at t bytes first n) (count_at t) is) (2 * k)) (sym (length_below t.count))
-
-      kind_here : (i : ℕ) → i < t.count → get_or new (2 * i) 0 ≡ before (same_form (form_at t bytes i)) gs
-      kind_here i l =
-          let s = length_below t.count in
-          ap (λ (w : List ℕ). get_or w (2 * i) 0) at ∙ first_stored (kind_at t bytes first n) (count_at t) old is 0 (omega arith) i (omega arith)
-          ∙ ap (kind_at t bytes first n) (number_at t.count i l) ∙ ap (before (same_form (form_at t bytes i))) forms_here
-
-      count_here : (i : ℕ) → i < t.count → get_or new (2 * i + 1) 0 ≡ count_at t i
-      count_here i l =
-          let s = length_below t.count in
-          ap (λ (w : List ℕ). get_or w (2 * i + 1) 0) at ∙ second_stored (kind_at t bytes first n) (count_at t) old is 0 (omega arith) i (omega arith) ∙ ap (count_at t) (number_at t.count i l)
-
       listed : (i : ℕ) → i < t.count → get_or (map own (map (piece_of bytes) (records_of t))) i (own (piece_of bytes no_record)) ≡ record { kind = before (same_form (form_at t bytes i)) gs; count = count_at t i }
       listed i l =
           get_or-map own (map (piece_of bytes) (records_of t)) i (piece_of bytes no_record) ∙ ap own (get_or-map (piece_of bytes) (records_of t) i no_record)
-          ∙ ap (λ (r : Record). own (piece_of bytes r)) (record_is i l) ∙ ap (λ (g : Form). record { kind = before (same_form g) gs; count = count_at t i }) (form_here i)
+          ∙ ap (λ (r : Record). own (piece_of bytes r)) (record_is t lent_sound.few i l) ∙ ap (λ (g : Form). record { kind = before (same_form g) gs; count = count_at t i }) (form_here i)

@@ -6,7 +6,6 @@ pub mod AnswerLaws
 pub mod RowRangeLaws
 pub mod MovedLaws
 pub mod ChartLaws
-pub mod LayingLaws
 pub mod PictureLaws
 pub mod SystemMapLaws
 pub mod SystemLaws
@@ -14,3 +13,5 @@ pub mod RowLaws
 pub mod TellingLaws
 pub mod BuildLaws
 pub mod BuildSystemLaws
+pub mod CountedLaws
+pub mod RecordLaws

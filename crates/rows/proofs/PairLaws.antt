@@ -3,8 +3,8 @@ use Prim.Native.Nat.{ℕ, zero, suc, ◌+◌, ◌-◌, ◌*◌, ◌≤◌, ◌<�
 use mathlib.Core.List.{List, [], ◌∷◌}
 use mathlib.Core.Path.{◌≡◌, refl, sym, ap, ap₂, ◌∙◌}
 use native.Mathlib.Omega.{arith}
-use lib.ListN.{length, get_or, take, drop, set, length-set}
-use lib.Seq.{paste, paste-suc, take-paste, drop-paste, get_or-take, get_or-drop, get_or-set_same, get_or-set_other, set-get_or, lt-length-set}
+use lib.ListN.{length, get_or, drop, set}
+use lib.Seq.{paste, paste-suc, drop-paste, get_or-drop, set-get_or}
 use Rattle.lists.specs.Lists.{each}
 
 -- ---- two numbers for each entry
@@ -41,22 +41,6 @@ module _ {A : Type 0} (f g : A → ℕ) where
         ∙ ap (λ (n : ℕ). set (paste old at s (2 * i + 1)) n (g (get_or xs i d))) {x = at + 2 * i + 1} {y = at + (2 * i + 1)} (omega arith) ∙ two
         ∙ ap (λ (n : ℕ). paste old at s n) {x = suc (2 * i + 1)} {y = 2 * (i + 1)} (omega arith)
 
-  -- what stands at the front of a slice once all pairs are written there
-  module _ (old : List ℕ) (xs : List A) (d : A) (fits : 2 * length xs ≤ length old) (i : ℕ) (h : i < length xs) where
-    front : take (0 + 2 * length xs) (paste old 0 (pairs xs) (2 * length xs)) ≡ take (2 * length xs) (pairs xs)
-    front = take-paste old 0 (pairs xs) (2 * length xs) (omega arith) (let e = length_pairs xs in omega arith)
-
-    at_front : (j : ℕ) → j < 2 * length xs → get_or (paste old 0 (pairs xs) (2 * length xs)) j 0 ≡ get_or (pairs xs) j 0
-    at_front j l =
-        sym (get_or-take (0 + 2 * length xs) (paste old 0 (pairs xs) (2 * length xs)) j 0 (omega arith))
-        ∙ ap (λ (s : List ℕ). get_or s j 0) front ∙ get_or-take (2 * length xs) (pairs xs) j 0 l
-
-    pub first_stored : get_or (paste old 0 (pairs xs) (2 * length xs)) (2 * i) 0 ≡ f (get_or xs i d)
-    first_stored = at_front (2 * i) (omega arith) ∙ pair_first xs i d h
-
-    pub second_stored : get_or (paste old 0 (pairs xs) (2 * length xs)) (2 * i + 1) 0 ≡ g (get_or xs i d)
-    second_stored = at_front (2 * i + 1) (omega arith) ∙ pair_second xs i d h
-
   -- the same two stores at the front of a slice, by what is stored
   pub front_next : (old : List ℕ) (xs : List A) (d : A) → 2 * length xs ≤ length old → (i : ℕ) → i < length xs → (new : List ℕ) → new ≡ paste old 0 (pairs xs) (2 * i)
       → (a b : ℕ) → a ≡ f (get_or xs i d) → b ≡ g (get_or xs i d) → set (set new (2 * i) a) (2 * i + 1) b ≡ paste old 0 (pairs xs) (2 * (i + 1))
@@ -85,30 +69,3 @@ module _ {A : Type 0} (f g : A → ℕ) where
 
       as_it_was : (j : ℕ) → 2 * i ≤ j → set so_far j (get_or old j 0) ≡ so_far
       as_it_was j l = ap (set so_far j) (behind j l) ∙ set-get_or so_far j 0
-
--- ---- three numbers for entry k
-module _ (old : List ℕ) (k a b c : ℕ) where
-  abbrev pub set3 : List ℕ
-  set3 = set (set (set old (3 * k) a) (3 * k + 1) b) (3 * k + 2) c
-
-  pub set3_long : length set3 ≡ length old
-  set3_long = length-set (set (set old (3 * k) a) (3 * k + 1) b) (3 * k + 2) c ∙ length-set (set old (3 * k) a) (3 * k + 1) b ∙ length-set old (3 * k) a
-
-  pub set3_other : (i : ℕ) → (i ≡ 3 * k → ⊥) → (i ≡ 3 * k + 1 → ⊥) → (i ≡ 3 * k + 2 → ⊥) → get_or set3 i 0 ≡ get_or old i 0
-  set3_other i p q r =
-      get_or-set_other (set (set old (3 * k) a) (3 * k + 1) b) (3 * k + 2) i c 0 r ∙ get_or-set_other (set old (3 * k) a) (3 * k + 1) i b 0 q ∙ get_or-set_other old (3 * k) i a 0 p
-
-  module _ (room : 3 * k + 2 < length old) where
-    pub set3_first : get_or set3 (3 * k) 0 ≡ a
-    set3_first =
-        get_or-set_other (set (set old (3 * k) a) (3 * k + 1) b) (3 * k + 2) (3 * k) c 0 (λ e. let d : 3 * k ≡ 3 * k + 2 = e in omega arith)
-        ∙ get_or-set_other (set old (3 * k) a) (3 * k + 1) (3 * k) b 0 (λ e. let d : 3 * k ≡ 3 * k + 1 = e in omega arith) ∙ get_or-set_same old (3 * k) a 0 (omega arith)
-
-    pub set3_second : get_or set3 (3 * k + 1) 0 ≡ b
-    set3_second =
-        get_or-set_other (set (set old (3 * k) a) (3 * k + 1) b) (3 * k + 2) (3 * k + 1) c 0 (λ e. let d : 3 * k + 1 ≡ 3 * k + 2 = e in omega arith)
-        ∙ get_or-set_same (set old (3 * k) a) (3 * k + 1) b 0 (lt-length-set old (3 * k) a (omega arith))
-
-    pub set3_third : get_or set3 (3 * k + 2) 0 ≡ c
-    set3_third =
-        get_or-set_same (set (set old (3 * k) a) (3 * k + 1) b) (3 * k + 2) c 0 (lt-length-set (set old (3 * k) a) (3 * k + 1) b (lt-length-set old (3 * k) a (omega arith)))

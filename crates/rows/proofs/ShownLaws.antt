@@ -1,19 +1,17 @@
 -- A row of a packing is shown by the packing's answer, on each of its cells by one copy of a piece of its kind; and what an answer shows on the cells of
 -- the board, found cell by cell. Assumes nothing.
 use Prim.Native.Nat.{ℕ, suc, ◌+◌, ◌*◌, ◌≤◌, ◌<◌}
-use mathlib.Core.Bool.{Bool, true, false, cond, ◌&&◌, true≢false}
+use mathlib.Core.Bool.{Bool, true, false, cond, ◌&&◌}
 use mathlib.Core.List.Memᴰ
 use mathlib.Core.List.{List, [], ◌∷◌, map, Memᴰ}
 use mathlib.Core.Logic.{◌⊎◌, inl, inr}
 use mathlib.Core.Path.{◌≡◌, refl, sym, ap, ap₂, ◌∙◌, subst}
 use native.Mathlib.Omega.{arith}
-use borrow.Author.Count.{below_more}
 use borrow.Author.Tests.{eqb-true, eqb-false}
 use lib.Dec.{T, eqb, ltb, eqb→eq, eqb_refl, ltb→lt, lt→ltb}
-use lib.ListN.{length, get_or, take, set, length-map}
-use lib.Seq.{length-take-le, get_or-take, get_or-set_same, get_or-set_other, lt-length-set}
+use lib.ListN.{length, get_or, length-map}
 use Rattle.lists.specs.Lists.{all, before, below, head_or, keep, member, numbered, same}
-use Rattle.lists.proofs.TestLaws.{and_left, and_right, and_both, is_true, is_false, holds, eqb_of, lt_or_ge, tests_same}
+use Rattle.lists.proofs.TestLaws.{and_left, and_right, and_both, is_true, is_false, holds, eqb_of, tests_same}
 use Rattle.lists.proofs.ListLaws.{before_is, all_at, all_of, keep_at, keep_of, keep_same, joined_at, joined_of}
 use Rattle.lists.proofs.SortLaws.{same→eq, same_refl}
 use Rattle.lists.proofs.RangeLaws.{below_at, below_of, length_below, member_at, member_of, get_or_of}
@@ -23,13 +21,15 @@ use Rattle.definitions.specs.Kinds.{Copy}
 use Rattle.definitions.specs.Placements.{Placement}
 use Rattle.definitions.specs.Packing.{used}
 use Rattle.definitions.specs.Answers.{Taken, takes, copy_on}
-use Rattle.masks.specs.Masks.{has, FirstIn}
+use Rattle.masks.specs.Masks.{has}
 use Rattle.masks.specs.declared.Mask.{Mask}
 use Rattle.rows.specs.Rows.{cells_of, mask_at, row_at}
-use Rattle.rows.specs.Systems.{Owned, System, owned_in}
+use Rattle.rows.specs.Charts.{nothing_owned}
+use Rattle.rows.specs.Systems.{System, owned_in}
+use Rattle.rows.specs.declared.chart.Owned.{Owned}
 use Rattle.rows.specs.Answering.{no_copy, copies_if, copies_by, taken_by, answers_over, answer_by}
 use Rattle.rows.specs.Lawful.{Lawful}
-use Rattle.rows.specs.Shown.{Shown, nothing_owned, shows_row}
+use Rattle.rows.specs.Shown.{Shown, shows_row}
 use Rattle.rows.proofs.PairLaws.{pair_first, pair_second}
 use Rattle.rows.proofs.AnsweringLaws.{in-mask}
 
@@ -44,33 +44,10 @@ before_found n (x ∷ xs) m = go (eqb n x) refl (Memᴰ.cases_cons m) (λ (k : M
     go false e (inl k) f = absurd (eqb-false n x e k)
     go false e (inr k) f = let r = f k in (omega arith, r.1)
 
-module _ (scans : List ℕ) (places cell : ℕ) (long : places ≤ length scans) where
-  -- no place before i is the cell's
-  pub place_is : (i : ℕ) → i ≤ places → ((k : ℕ) → k < i → get_or scans k 0 ≡ cell → ⊥) → (i < places → get_or scans i 0 ≡ cell) → i ≡ before (eqb cell) (take places scans)
-  place_is i h f g =
-      let s = length-take-le places scans long in
-      sym (before_is (eqb cell) 0 (take places scans) i (omega arith)
-      (λ k l t. f k l (sym (get_or-take places scans k 0 (omega arith)) ∙ sym (eqb→eq cell (get_or (take places scans) k 0) t)))
-      (λ l. let m : i < places = omega arith in eqb_of (sym (get_or-take places scans i 0 m ∙ g m))))
-
--- ---- the two bytes of one cell more
-pub shown_more : (scans last shown : List ℕ) (c i a b : ℕ) → Shown c scans last shown → 2 * c + 1 < length shown → i ≡ before (eqb c) scans
-    → a ≡ get_or last (2 * i) 0 → b ≡ get_or last (2 * i + 1) 0 → Shown (c + 1) scans last (set (set shown (2 * c) a) (2 * c + 1) b)
-shown_more scans last shown c i a b s h e p q =
-    record {
-      piece = below_more (λ k. get_or new (2 * k) 0 ≡ get_or last (2 * before (eqb k) scans) 0) c
-          (λ k l. get_or-set_other one (2 * c + 1) (2 * k) b 0 (λ z. omega arith) ∙ get_or-set_other shown (2 * c) (2 * k) a 0 (λ z. omega arith) ∙ s.piece k l)
-          (get_or-set_other one (2 * c + 1) (2 * c) b 0 (λ z. omega arith) ∙ get_or-set_same shown (2 * c) a 0 (omega arith) ∙ p ∙ ap (λ (j : ℕ). get_or last (2 * j) 0) e);
-      copy = below_more (λ k. get_or new (2 * k + 1) 0 ≡ get_or last (2 * before (eqb k) scans + 1) 0) c
-          (λ k l. get_or-set_other one (2 * c + 1) (2 * k + 1) b 0 (λ z. omega arith) ∙ get_or-set_other shown (2 * c) (2 * k + 1) a 0 (λ z. omega arith) ∙ s.copy k l)
-          (get_or-set_same one (2 * c + 1) b 0 (lt-length-set shown (2 * c) a h) ∙ q ∙ ap (λ (j : ℕ). get_or last (2 * j + 1) 0) e);
-    }
-  where
-    one : List ℕ
-    one = set shown (2 * c) a
-
-    new : List ℕ
-    new = set one (2 * c + 1) b
+-- no place before i is the cell's
+pub place_is : (scans : List ℕ) (cell i : ℕ) → i ≤ length scans → ((k : ℕ) → k < i → get_or scans k 0 ≡ cell → ⊥) → (i < length scans → get_or scans i 0 ≡ cell)
+    → i ≡ before (eqb cell) scans
+place_is scans cell i h f g = sym (before_is (eqb cell) 0 scans i h (λ k l t. f k l (sym (eqb→eq cell (get_or scans k 0) t))) (λ l. eqb_of (sym (g l))))
 
 -- ---- a row shown by one copy, cell by cell
 -- the cells of a mask before cell c show a copy of a piece
@@ -78,18 +55,6 @@ pub record ShownTo (mask : Mask) (shown : List ℕ) (piece copy c : ℕ) : Type 
   pub up_to : c ≤ 128
   pub is_cell : c < 128 → has mask c ≡ true
   pub each : (k : ℕ) → k < c → has mask k ≡ true → (get_or shown (2 * k) 0 ≡ piece) × (get_or shown (2 * k + 1) 0 ≡ copy)
-
-module _ (mask : Mask) (shown : List ℕ) (piece copy : ℕ) where
-  pub shown_on : (n r : ℕ) → FirstIn (has mask) n r → ((k : ℕ) → k < n → has mask k ≡ true → (get_or shown (2 * k) 0 ≡ piece) × (get_or shown (2 * k + 1) 0 ≡ copy)) → ShownTo mask shown piece copy r
-  shown_on n r f g = record { up_to = f.up_to; is_cell = f.stops; each = λ k l e. at k l e (lt_or_ge k n) }
-    where
-      at : (k : ℕ) → k < r → has mask k ≡ true → (k < n) ⊎ (n ≤ k) → (get_or shown (2 * k) 0 ≡ piece) × (get_or shown (2 * k + 1) 0 ≡ copy)
-      at k l e (inl h) = g k h e
-      at k l e (inr h) = absurd (true≢false (sym e ∙ f.passed k h l))
-
-  pub shown_hit : (c r : ℕ) → ShownTo mask shown piece copy c → get_or shown (2 * c) 0 ≡ piece → get_or shown (2 * c + 1) 0 ≡ copy → FirstIn (has mask) (c + 1) r → ShownTo mask shown piece copy r
-  shown_hit c r s p q f =
-      shown_on (c + 1) r f (below_more (λ k. has mask k ≡ true → (get_or shown (2 * k) 0 ≡ piece) × (get_or shown (2 * k + 1) 0 ≡ copy)) c s.each (λ e. (p, q)))
 
 -- whether a row is shown, by the copy that its first cell shows
 module _ (own : List Owned) (shown : List ℕ) (q : Placement) (piece copy : ℕ) (first : piece ≡ get_or shown (2 * q.p) 0) (second : copy ≡ get_or shown (2 * q.p + 1) 0) where
@@ -123,7 +88,7 @@ module _ (own : List Owned) (shown : List ℕ) (q : Placement) (piece copy : ℕ
       shows_is ∙ is_true (p && (of_kind && cs)) (and_both p (of_kind && cs) (lt→ltb piece (length own) h) (and_both of_kind cs (eqb_of e) on))
 
 -- the same of row r of the work slice, whose first cell is p, and the pieces of a slice
-module _ (work pieces shown : List ℕ) (n r p : ℕ) (e : p ≡ (row_at work r).p) where
+module _ (work : List ℕ) (pieces : List Owned) (shown : List ℕ) (n r p : ℕ) (e : p ≡ (row_at work r).p) where
   abbrev own : List Owned
   own = owned_in pieces n
 
@@ -147,16 +112,16 @@ module _ (work pieces shown : List ℕ) (n r p : ℕ) (e : p ≡ (row_at work r)
   unfolding owned_in
   own_length = length-map (below n) _ ∙ length_below n
 
-  own_kind : piece < n → (get_or own piece nothing_owned).kind ≡ get_or pieces (2 * piece) 0
+  own_kind : piece < n → (get_or own piece nothing_owned).kind ≡ (get_or pieces piece nothing_owned).kind
   unfolding owned_in
   own_kind h =
-      ap (λ (o : Owned). o.kind) (get_or_of (λ i. record { kind = get_or pieces (2 * i) 0; count = get_or pieces (2 * i + 1) 0 }) nothing_owned 0 n piece h)
-      ∙ ap (λ (k : ℕ). get_or pieces (2 * k) 0) {x = 0 + piece} {y = piece} (omega arith)
+      ap (λ (o : Owned). o.kind) (get_or_of (λ i. get_or pieces i nothing_owned) nothing_owned 0 n piece h)
+      ∙ ap (λ (k : ℕ). (get_or pieces k nothing_owned).kind) {x = 0 + piece} {y = piece} (omega arith)
 
   pub no_piece : n ≤ piece → false ≡ shows_row own shown row
   no_piece h = sym (not_shown own shown row piece copy first second (λ t u v. let l = ltb→lt piece (length own) t in let e = own_length in omega arith))
 
-  pub no_kind : piece < n → (get_or pieces (2 * piece) 0 ≡ row.kind → ⊥) → false ≡ shows_row own shown row
+  pub no_kind : piece < n → ((get_or pieces piece nothing_owned).kind ≡ row.kind → ⊥) → false ≡ shows_row own shown row
   no_kind h f = sym (not_shown own shown row piece copy first second (λ t u v. f (sym (own_kind h) ∙ eqb→eq (get_or own piece nothing_owned).kind row.kind u)))
 
   module _ (mask : Mask) (is : mask ≡ mask_at work r) where
@@ -177,7 +142,7 @@ module _ (work pieces shown : List ℕ) (n r p : ℕ) (e : p ≡ (row_at work r)
         let x = keep_at (has (mask_at work r)) (below 128) m in
         s.each k (let z = below_at 128 x.0 in omega arith) (ap (λ (m : Mask). has m k) is ∙ is_true (has (mask_at work r) k) x.1)
 
-    pub all_shown : piece < n → get_or pieces (2 * piece) 0 ≡ row.kind → (c : ℕ) → ShownTo mask shown piece copy c → 128 ≤ c → true ≡ shows_row own shown row
+    pub all_shown : piece < n → (get_or pieces piece nothing_owned).kind ≡ row.kind → (c : ℕ) → ShownTo mask shown piece copy c → 128 ≤ c → true ≡ shows_row own shown row
     all_shown h e c s l = sym (is-shown own shown row piece copy first second (let k = own_length in omega arith) (own_kind h ∙ e) (each_on c s l))
 
 -- ---- what the rows of a packing take

@@ -20,13 +20,14 @@ use Rattle.definitions.specs.Packing.{used}
 use Rattle.definitions.specs.Answers.{Taken, copy_on}
 use Rattle.masks.specs.Masks.{has, FirstIn}
 use Rattle.masks.specs.declared.Mask.{Mask}
-use Rattle.rows.specs.Charts.{pieces_part}
 use Rattle.rows.specs.Rows.{row_at, cells_of}
-use Rattle.rows.specs.Systems.{Owned, owned_in}
+use Rattle.rows.specs.Systems.{owned_in}
+use Rattle.rows.specs.declared.chart.Owned.{Owned}
 use Rattle.rows.specs.Answering.{no_copy, copies_by, path_in, taken_by, answers_over, laid, told_of, Held}
 use Rattle.rows.specs.declared.Dims.{Dims}
 use Rattle.rows.proofs.PairLaws.{pairs, length_pairs, pair_first, pair_second, front_next, front_kept}
-use Rattle.rows.proofs.AnsweringLaws.{bytes_over, rows_left, rows_next, rows_end, rows_done, in_cells, used_more, taken_on, taken_in_order, copy_here, copy_past, copy_nowhere}
+use Rattle.rows.proofs.AnsweringLaws.{bytes_over, rows_to, rows_left, rows_next, rows_end, rows_done, rows_whole, in_cells, used_more, taken_on, taken_in_order, copy_here, copy_past, copy_nowhere}
+use Rattle.rows.specs.declared.chart.Chart.{Chart}
 
 -- ---- two bytes for each number below 128
 module _ (ts : List Taken) where
@@ -76,19 +77,19 @@ module _ (ts : List Taken) where
         go n h false e = rw (e, copy_past c cells ts n e, told_first n h, told_second n h)
 
 -- ---- what the rows of a path tell, from the last to the first
-module _ (d : Dims) (work chart path : List ℕ) (n : ℕ) where
+module _ (d : Dims) (work : List ℕ) (chart : Chart) (path : List ℕ) where
   abbrev own : List Owned
-  own = owned_in (pieces_part chart) d.pieces
+  own = owned_in chart.pieces d.pieces
 
   -- what the rows from i on tell
   abbrev pub told_from : ℕ → List ℕ
-  told_from i = told_by (taken_on own (path_in work path i) (rows_left work path n i))
+  told_from i = told_by (taken_on own (rows_to work path i) (rows_left work path i))
 
-  module _ (held : Held d work chart path n) where
-    in_path : taken_by own d.kinds (path_in work path n) ≡ taken_on own [] (path_in work path n)
-    in_path = taken_in_order own d.kinds (path_in work path n) held.ascend held.of_kinds held.enough
+  module _ (held : Held d work chart path) where
+    in_path : taken_by own d.kinds (path_in work path) ≡ taken_on own [] (path_in work path)
+    in_path = taken_in_order own d.kinds (path_in work path) held.ascend held.of_kinds held.enough
 
-    pub told_all : told_from 0 ≡ told_by (taken_by own d.kinds (path_in work path n))
+    pub told_all : told_from 0 ≡ told_by (taken_by own d.kinds (path_in work path))
     unfolding path_in
     told_all = sym (ap told_by in_path)
 
@@ -96,51 +97,54 @@ module _ (d : Dims) (work chart path : List ℕ) (n : ℕ) where
     unfolding answers_over copy_on
     told_nothing = refl
 
-    pub told_none : replicate 256 255 ≡ told_from n
-    told_none = told_nothing ∙ sym (ap (λ (qs : List Placement). told_by (taken_on own (path_in work path n) qs)) (rows_end work path n held.within n (omega arith)))
+    pub told_none : replicate 256 255 ≡ told_from (length path)
+    told_none = told_nothing ∙ sym (ap (λ (qs : List Placement). told_by (taken_on own (rows_to work path (length path)) qs)) (rows_end work path))
 
-    module _ (i : ℕ) (h : i < n) where
+    module _ (i : ℕ) (h : i < length path) where
       abbrev row : Placement
       row = row_at work (get_or path i 0)
 
-      pub told_row : laid row.cells (get_or (copies_by own row.kind) (used (path_in work path i) row.kind) no_copy) (told_from (i + 1)) ≡ told_from i
+      pub told_row : laid row.cells (get_or (copies_by own row.kind) (used (rows_to work path i) row.kind) no_copy) (told_from (i + 1)) ≡ told_from i
       told_row =
-          let rest = rows_left work path n (i + 1) in
-          let c = get_or (copies_by own row.kind) (used (path_in work path i) row.kind) no_copy in
-          ap (λ (done : List Placement). laid row.cells c (told_by (taken_on own done rest))) (rows_done work path n held.within i h)
-          ∙ laid_more (taken_on own (path_in work path i ++ (row ∷ [])) rest) c row.cells
-          ∙ sym (ap (λ (qs : List Placement). told_by (taken_on own (path_in work path i) qs)) (rows_next work path n held.within i h))
+          let rest = rows_left work path (i + 1) in
+          let c = get_or (copies_by own row.kind) (used (rows_to work path i) row.kind) no_copy in
+          ap (λ (done : List Placement). laid row.cells c (told_by (taken_on own done rest))) (rows_done work path i h)
+          ∙ laid_more (taken_on own (rows_to work path i ++ (row ∷ [])) rest) c row.cells
+          ∙ sym (ap (λ (qs : List Placement). told_by (taken_on own (rows_to work path i) qs)) (rows_next work path i h))
 
       -- how many rows of a kind stand before it
-      pub used_here : (k : ℕ) → used (path_in work path (i + 1)) k ≡ used (path_in work path i) k + cond (eqb row.kind k) 1 0
-      used_here k = ap (λ (qs : List Placement). used qs k) (rows_done work path n held.within i h) ∙ used_more (path_in work path i) row k
+      pub used_here : (k : ℕ) → used (rows_to work path (i + 1)) k ≡ used (rows_to work path i) k + cond (eqb row.kind k) 1 0
+      used_here k = ap (λ (qs : List Placement). used qs k) (rows_done work path i h) ∙ used_more (rows_to work path i) row k
 
-    pub used_none : used (path_in work path n) d.kinds ≡ 0
+    none_used : used (path_in work path) d.kinds ≡ 0
     unfolding used
-    used_none =
+    none_used =
         let is : Placement → Bool = λ q. eqb q.kind d.kinds in
-        how_many_length is (path_in work path n)
-        ∙ ap length (keep_fails is (path_in work path n) (λ q m. ne_eqb q.kind d.kinds (λ e.
-        let l = ltb→lt q.kind d.kinds (all_at (λ (r : Placement). ltb r.kind d.kinds) (path_in work path n) held.of_kinds m) in omega arith)))
+        how_many_length is (path_in work path)
+        ∙ ap length (keep_fails is (path_in work path) (λ q m. ne_eqb q.kind d.kinds (λ e.
+        let l = ltb→lt q.kind d.kinds (all_at (λ (r : Placement). ltb r.kind d.kinds) (path_in work path) held.of_kinds m) in omega arith)))
+
+    pub used_none : used (rows_to work path (length path)) d.kinds ≡ 0
+    used_none = ap (λ (qs : List Placement). used qs d.kinds) (rows_whole work path) ∙ none_used
 
     -- no row covers a number that is none of a cell
-    path_none : (cell : ℕ) → d.size ≤ cell → copy_on (taken_by own d.kinds (path_in work path n)) cell ≡ no_copy
+    path_none : (cell : ℕ) → d.size ≤ cell → copy_on (taken_by own d.kinds (path_in work path)) cell ≡ no_copy
     path_none cell h =
         ap (λ (ts : List Taken). copy_on ts cell) in_path
-        ∙ copy_nowhere own cell [] (path_in work path n) (λ q m. is_false (member cell q.cells) (λ t.
+        ∙ copy_nowhere own cell [] (path_in work path) (λ q m. is_false (member cell q.cells) (λ t.
         let l = ltb→lt cell d.size (all_at (λ (k : ℕ). ltb k d.size) q.cells
-        (all_at (λ (r : Placement). all (λ k. ltb k d.size) r.cells) (path_in work path n) held.on_board m) (member_at cell q.cells t)) in
+        (all_at (λ (r : Placement). all (λ k. ltb k d.size) r.cells) (path_in work path) held.on_board m) (member_at cell q.cells t)) in
         omega arith))
 
-    told_at : (cell : ℕ) → told_of (told_by (taken_by own d.kinds (path_in work path n))) cell ≡ copy_on (taken_by own d.kinds (path_in work path n)) cell
-    told_at cell = told-of (taken_by own d.kinds (path_in work path n)) (λ k h. path_none k (let l = held.few_cells in omega arith)) cell
+    told_at : (cell : ℕ) → told_of (told_by (taken_by own d.kinds (path_in work path))) cell ≡ copy_on (taken_by own d.kinds (path_in work path)) cell
+    told_at cell = told-of (taken_by own d.kinds (path_in work path)) (λ k h. path_none k (let l = held.few_cells in omega arith)) cell
 
     -- so the bytes that are told are the answer's
-    pub told_bytes : (told : List ℕ) → told ≡ told_by (taken_by own d.kinds (path_in work path n)) → (xs : List ℕ)
-        → bytes_over (told_of told) xs ≡ answers_over (taken_by own d.kinds (path_in work path n)) xs
+    pub told_bytes : (told : List ℕ) → told ≡ told_by (taken_by own d.kinds (path_in work path)) → (xs : List ℕ)
+        → bytes_over (told_of told) xs ≡ answers_over (taken_by own d.kinds (path_in work path)) xs
     unfolding answers_over
     told_bytes told e xs =
-        let on = copy_on (taken_by own d.kinds (path_in work path n)) in
+        let on = copy_on (taken_by own d.kinds (path_in work path)) in
         each_same (λ k. (told_of told k).piece ∷ (told_of told k).copy ∷ []) (λ k. (on k).piece ∷ (on k).copy ∷ []) xs
         (λ k. ap {B = List ℕ} (λ (c : Copy). c.piece ∷ c.copy ∷ []) (ap (λ (l : List ℕ). told_of l k) e ∙ told_at k))
 

@@ -1,14 +1,15 @@
 -- Answers from the rows of a packing.
-use Rattle.std.specs.Prelude.{ℕ, ◌+◌, ◌*◌, ◌≤◌, ◌<◌, Bool, true, false, cond, List, [], ◌∷◌, map, T, eqb, ltb, length, get_or, take}
+use Rattle.std.specs.Prelude.{ℕ, ◌+◌, ◌*◌, ◌≤◌, ◌<◌, Bool, true, false, cond, List, [], ◌∷◌, map, T, eqb, ltb, length, get_or}
 use Rattle.lists.specs.Lists.{all, keep, each, below, member, numbered, joined, ascending}
 use Rattle.definitions.specs.Kinds.{Copy}
 use Rattle.definitions.specs.Placements.{Placement}
 use Rattle.definitions.specs.Packing.{ahead, used}
 use Rattle.definitions.specs.Answers.{Taken, takes, copy_on}
-use Rattle.rows.specs.Systems.{System, Owned, owned_in}
-use Rattle.rows.specs.Charts.{Charted, pieces_part}
+use Rattle.rows.specs.Systems.{System, owned_in}
 use Rattle.rows.specs.Rows.{row_at}
 use Rattle.rows.specs.declared.Dims.{Dims}
+use Rattle.rows.specs.declared.chart.Chart.{Chart}
+use Rattle.rows.specs.declared.chart.Owned.{Owned}
 use Rattle.rows.specs.declared.answers.Copied.{Copied}
 
 -- no copy: what is written where the board is unfilled
@@ -27,15 +28,15 @@ unfoldable pub copies_by : List Owned → ℕ → List Copy
 copies_by pieces k = joined (numbered pieces (λ i q. copies_if (eqb q.kind k) i q.count))
 
 -- the rows of a path
-unfoldable pub path_in : List ℕ → List ℕ → ℕ → List Placement
-path_in work path n = map (row_at work) (take n path)
+unfoldable pub path_in : List ℕ → List ℕ → List Placement
+path_in work path = map (row_at work) path
 
 unfoldable pub taken_by : List Owned → ℕ → List Placement → List Taken
 taken_by pieces kinds P = joined (map (λ k. takes (copies_by pieces k) (keep (λ q. eqb q.kind k) P)) (below kinds))
 
 -- what the rows of a path take, of the pieces of a chart
-abbrev pub taken_in : Dims → List ℕ → List ℕ → List ℕ → ℕ → List Taken
-taken_in d work chart path n = taken_by (owned_in (pieces_part chart) d.pieces) d.kinds (path_in work path n)
+abbrev pub taken_in : Dims → List ℕ → Chart → List ℕ → List Taken
+taken_in d work chart path = taken_by (owned_in chart.pieces d.pieces) d.kinds (path_in work path)
 
 -- two bytes for each of a list of scan numbers
 unfoldable pub answers_over : List Taken → List ℕ → List ℕ
@@ -55,13 +56,11 @@ answer_by s P = answers_over (taken_by s.pieces (length s.copies) P) s.scans
 
 -- what an answer asks of a path: its rows stand in the work slice, ascend by kind, are of kinds below a number, cover cells below another, and of each
 -- kind there are enough copies
-pub record Held (d : Dims) (work chart path : List ℕ) (n : ℕ) : Type 0 where
-  pub within : n ≤ length path
-  pub are_rows : T (all (λ r. ltb (8 * r + 7) (length work)) (take n path))
+pub record Held (d : Dims) (work : List ℕ) (chart : Chart) (path : List ℕ) : Type 0 where
+  pub are_rows : T (all (λ r. ltb (8 * r + 7) (length work)) path)
   pub few_cells : d.size ≤ 128
   pub few_pieces : d.pieces ≤ 16
-  pub charted : Charted chart
-  pub ascend : T (ascending ahead (path_in work path n))
-  pub of_kinds : T (all (λ q. ltb q.kind d.kinds) (path_in work path n))
-  pub on_board : T (all (λ q. all (λ m. ltb m d.size) q.cells) (path_in work path n))
-  pub enough : (k : ℕ) → k < d.kinds → used (path_in work path n) k ≤ length (copies_by (owned_in (pieces_part chart) d.pieces) k)
+  pub ascend : T (ascending ahead (path_in work path))
+  pub of_kinds : T (all (λ q. ltb q.kind d.kinds) (path_in work path))
+  pub on_board : T (all (λ q. all (λ m. ltb m d.size) q.cells) (path_in work path))
+  pub enough : (k : ℕ) → k < d.kinds → used (path_in work path) k ≤ length (copies_by (owned_in chart.pieces d.pieces) k)

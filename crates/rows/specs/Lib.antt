@@ -3,6 +3,7 @@ pub mod Built
 pub mod Rows
 pub mod Systems
 pub mod Boards
+pub mod NumberedBoards
 pub mod Ranges
 pub mod Answering
 pub mod Lawful

@@ -2,15 +2,13 @@
 use Rattle.std.specs.Prelude.{ℕ, ◌+◌, ◌*◌, ◌<◌, Bool, ◌&&◌, List, ◌≡◌, eqb, ltb, length, get_or}
 use Rattle.lists.specs.Lists.{all, before}
 use Rattle.definitions.specs.Placements.{Placement}
-use Rattle.rows.specs.Systems.{Owned}
+use Rattle.rows.specs.Charts.{nothing_owned}
+use Rattle.rows.specs.declared.chart.Owned.{Owned}
 
 -- for each of so many cells the two bytes that an answer has at its place, 0 past the answer's end
 pub record Shown (cells : ℕ) (scans last shown : List ℕ) : Type 0 where
   pub piece : (c : ℕ) → c < cells → get_or shown (2 * c) 0 ≡ get_or last (2 * before (eqb c) scans) 0
   pub copy : (c : ℕ) → c < cells → get_or shown (2 * c + 1) 0 ≡ get_or last (2 * before (eqb c) scans + 1) 0
-
-abbrev pub nothing_owned : Owned
-nothing_owned = record { kind = 0; count = 0 }
 
 -- one copy, of a piece of the row's kind, is shown on all cells of a row
 unfoldable pub shows_row : List Owned → List ℕ → Placement → Bool

@@ -1,5 +1,5 @@
 -- The wall between geometry and search: a row system is all that the engines see of a tray. Nothing of grids, sides or coordinates is in it.
-use Rattle.std.specs.Prelude.{ℕ, ◌+◌, ◌*◌, Bool, cond, List, ◌∷◌, map, ◌≡◌, ltb, length, get_or, take, drop}
+use Rattle.std.specs.Prelude.{ℕ, ◌*◌, Bool, cond, List, ◌∷◌, map, ◌≡◌, ltb, length, get_or, take, drop}
 use Rattle.lists.specs.Lists.{below, from, before, sort, same}
 use Rattle.definitions.specs.Grid.{box}
 use Rattle.definitions.specs.Maps.{Map, map_cell, turns, mirrorings}
@@ -11,13 +11,11 @@ use Rattle.definitions.specs.Packing.{limits}
 use Rattle.definitions.specs.Kept.{cell_after, symmetries}
 use Rattle.definitions.specs.Orders.{sizes}
 use Rattle.rows.specs.Rows.{rows_in}
-use Rattle.rows.specs.Charts.{images_part, scans_part, kinds_part, pieces_part}
+use Rattle.rows.specs.Charts.{kind_copies, kind_partner, kind_size, nothing_owned}
 use Rattle.rows.specs.declared.Dims.{Dims}
-
--- a piece of the box: the number of its kind, and how many copies of it there are
-pub record Owned : Type 0 where
-  pub kind : ℕ
-  pub count : ℕ
+use Rattle.rows.specs.declared.chart.Chart.{Chart}
+use Rattle.rows.specs.declared.chart.Kind.{Kind}
+use Rattle.rows.specs.declared.chart.Owned.{Owned}
 
 pub record System : Type 0 where
   -- how many filled board cells there are, and the placements
@@ -58,28 +56,28 @@ system_of t =
       pieces = owned t;
     }
 
--- The system that stands in slices. A map takes 128 numbers of its slice, a kind three (copies, partner, cells), a piece two (kind, count).
+-- The system that stands in slices. A map takes 128 numbers of its slice.
 unfoldable pub images_in : List ℕ → ℕ → ℕ → ℕ → List (List ℕ)
 images_in images size i n = map (λ m. take size (drop (128 * m) images)) (from i n)
 
-unfoldable pub owned_in : List ℕ → ℕ → List Owned
-owned_in pieces n = map (λ i. record { kind = get_or pieces (2 * i) 0; count = get_or pieces (2 * i + 1) 0 }) (below n)
+unfoldable pub owned_in : List Owned → ℕ → List Owned
+owned_in pieces n = map (λ i. get_or pieces i nothing_owned) (below n)
 
 -- the copies and the partners of a tray's kinds stand in a slice
-pub record KindsIn (kinds : List ℕ) (n : ℕ) (c : Compiled) : Type 0 where
+pub record KindsIn (kinds : List Kind) (n : ℕ) (c : Compiled) : Type 0 where
   pub count : n ≡ length c.kinds
-  pub copies : map (λ k. get_or kinds (3 * k) 0) (below n) ≡ limits c
-  pub partners : map (λ k. get_or kinds (3 * k + 1) 0) (below n) ≡ map (λ d. d.partner) c.kinds
-  pub sizes_are : map (λ k. get_or kinds (3 * k + 2) 0) (below n) ≡ sizes c
+  pub copies : map (kind_copies kinds) (below n) ≡ limits c
+  pub partners : map (kind_partner kinds) (below n) ≡ map (λ d. d.partner) c.kinds
+  pub sizes_are : map (kind_size kinds) (below n) ≡ sizes c
 
-unfoldable pub system_over : Dims → List ℕ → List ℕ → List ℕ → List ℕ → List ℕ → System
+unfoldable pub system_over : Dims → List ℕ → List ℕ → List ℕ → List Kind → List Owned → System
 system_over d work images scans kinds pieces =
     record {
       size = d.size;
       rows = rows_in work d.rows;
-      copies = map (λ k. get_or kinds (3 * k) 0) (below d.kinds);
-      partners = map (λ k. get_or kinds (3 * k + 1) 0) (below d.kinds);
-      sizes = map (λ k. get_or kinds (3 * k + 2) 0) (below d.kinds);
+      copies = map (kind_copies kinds) (below d.kinds);
+      partners = map (kind_partner kinds) (below d.kinds);
+      sizes = map (kind_size kinds) (below d.kinds);
       turned = images_in images d.size 0 d.turns;
       mirrored = images_in images d.size d.turns d.mirrorings;
       scans = take d.places scans;
@@ -87,8 +85,8 @@ system_over d work images scans kinds pieces =
     }
 
 -- the system whose rows stand in the work slice, and all else in a chart
-unfoldable pub system_in : Dims → List ℕ → List ℕ → System
-system_in d work chart = system_over d work (images_part chart) (scans_part chart) (kinds_part chart) (pieces_part chart)
+unfoldable pub system_in : Dims → List ℕ → Chart → System
+system_in d work chart = system_over d work chart.images chart.scans chart.kinds chart.pieces
 
 -- ---- what a map makes of a row
 -- the kind after a map, by the partners; the cells of a placement after a map, by where it takes each cell; both, as the image has them

@@ -4,6 +4,7 @@
 #![tactic(auto)]
 
 pub mod answers;
+mod board;
 mod building;
 pub mod chart;
 pub mod images;

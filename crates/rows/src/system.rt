@@ -1,125 +1,62 @@
 // A tray's row system, whole.
-ghost use Rattle.std.specs.Prelude.{◌≡◌, ◌++◌, map, ◌+◌, ◌*◌, ◌≤◌, drop, length, take};
+ghost use Rattle.std.specs.Prelude.{◌≡◌, ◌≤◌, length};
 ghost use Rattle.definitions.specs.Placements.{compile};
 ghost use Rattle.definitions.specs.Refusals.{sides_of};
 ghost use Rattle.definitions.specs.Stripping.{FitsIn};
 ghost use Rattle.shape.specs.Coords.{Fit, as_sides};
-ghost use Rattle.placements.specs.Counting.{Accepted9, Counted};
-ghost use Rattle.placements.specs.Merging.{AreKinds, Smallest};
-ghost use Rattle.placements.specs.Stripping.{lent_place};
-ghost use Rattle.placements.specs.Pieces.{framed_in, lent_in, records_of};
-ghost use Rattle.rows.specs.Built.{AreBytes, BuiltLent, BuiltSystem, KindsSmall, Laid, LaidAt, frame_at};
-ghost use Rattle.rows.specs.Charts.{chart_length};
+ghost use Rattle.placements.specs.Pieces.{framed_in, records_of};
+ghost use Rattle.placements.specs.Trays.{lent_tray};
+ghost use Rattle.rows.specs.Built.{BuiltLent, BuiltSystem, frame_at};
 ghost use Rattle.rows.specs.Rows.{RowsFit};
 ghost use Rattle.rows.specs.Systems.{KindsIn, owned, owned_in};
 
-use super::{Dims, building, chart, images};
-use definitions::Record;
-use placements::counting::Counts;
-use placements::{Pieces, board, merging, records};
+use super::board::NumberedBoard;
+use super::chart::{Chart, Kind, Owned};
+use super::{Dims, building, images};
+use placements::counted::CountedTray;
+use placements::planned::PlannedBoard;
+use placements::trays::LentTray;
+use placements::{board, merging, records};
 use shape::maps::Map;
-use shape::{Coord, cells, grids, scan, variants};
+use shape::{Coord, cells, grids, variants};
 
 // For each kind its copies, its mirror partner and how many cells it has.
-fn list_kinds(
-    t: Pieces,
-    board: Record,
-    bytes: &[u8],
-    small: &[u8],
-    first: &[u8],
-    n: usize,
-    kinds: &mut [u16],
-)
-    requires { Accepted9 t board bytes.now × Smallest t bytes.now small.now × AreKinds t bytes.now first.now n × (n ≤ length first.now)
-        × (3 * n ≤ length kinds.old) × KindsSmall kinds.old }
-    ensures { KindsIn kinds.new n (compile (lent_in (records_of t) board bytes.now)) × KindsSmall kinds.new }
+fn list_kinds(counted: &CountedTray, kinds: &mut [Kind])
+    requires { 16 ≤ length kinds.old }
+    ensures { let c = counted.now in KindsIn kinds.new c.counts.kinds (compile (lent_tray c.tray)) }
 {
-    let mut k = 0;
-    // the numbers of the kinds before k stand there
-    while k < n {
-        let i = first[k] as usize;
-        let p = t.records[i];
-        let cells = records::cells_of(bytes, p);
-        let m = variants::smallest_of(cells, records::sides_of(p), Map(merging::MIRROR));
-        kinds[3 * k] = merging::copies_of(t, bytes, small, i) as u16;
-        kinds[3 * k + 1] = merging::kind_of(t, bytes, small, i, m, first, n) as u16;
-        kinds[3 * k + 2] = grids::count_filled(cells) as u16;
-        k += 1;
+    // the kinds before k stand there
+    for (k, &first) in counted.kinds().iter().enumerate() {
+        let i = first as usize;
+        let piece = counted.tray.piece_grid(i);
+        let m = variants::smallest_of(&piece, Map(merging::MIRROR));
+        kinds[k] = Kind {
+            copies: counted.copies_of(i) as u8,
+            partner: counted.kind_of(i, m) as u8,
+            size: grids::count_filled(piece.cells) as u16,
+        };
     }
+}
+
+// How many pieces a tray has: as many as records.
+fn count_pieces(tray: &LentTray) -> usize
+    ensures { (result ≡ tray.now.pieces.count) × (length (records_of tray.now.pieces) ≡ result) }
+{
+    tray.pieces.count
 }
 
 // For each piece its kind and its count.
-fn list_pieces(
-    t: Pieces,
-    board: Record,
-    bytes: &[u8],
-    small: &[u8],
-    first: &[u8],
-    n: usize,
-    pieces: &mut [u8],
-)
-    requires { Accepted9 t board bytes.now × Smallest t bytes.now small.now × AreKinds t bytes.now first.now n × (n ≤ length first.now)
-        × (32 ≤ length pieces.old) }
-    ensures { owned_in pieces.new t.count ≡ owned (lent_in (records_of t) board bytes.now) }
+fn list_pieces(counted: &CountedTray, pieces: &mut [Owned])
+    requires { 16 ≤ length pieces.old }
+    ensures { let t = counted.now.tray in owned_in pieces.new t.pieces.count ≡ owned (lent_tray t) }
 {
-    let m = t.count;
-    let mut i = 0;
     // the kinds and the counts of the pieces before i stand there
-    while i < m {
-        let p = t.records[i];
-        let k = small[i];
-        pieces[2 * i] = merging::kind_of(t, bytes, small, i, Map(k), first, n) as u8;
-        pieces[2 * i + 1] = p.count as u8;
-        i += 1;
+    for i in 0..count_pieces(&counted.tray) {
+        pieces[i] = Owned {
+            kind: counted.kind_of(i, Map(counted.small[i])) as u8,
+            count: counted.tray.piece(i).count as u8,
+        };
     }
-}
-
-// The first n bytes of a slice into another from a place on.
-fn lay_bytes(numbers: &[u8], n: usize, out: &mut [u16], at: usize)
-    requires { (n ≤ length numbers.now) × (at + n ≤ length out.old) }
-    ensures { LaidAt at n numbers.now out.old out.new }
-{
-    let mut i = 0;
-    // the numbers before i stand there
-    while i < n {
-        out[at + i] = numbers[i] as u16;
-        i += 1;
-    }
-}
-
-// The same of numbers of 16 bits.
-fn lay_numbers(numbers: &[u16], n: usize, out: &mut [u16], at: usize)
-    requires { (n ≤ length numbers.now) × (at + n ≤ length out.old) }
-    ensures { LaidAt at n numbers.now out.old out.new }
-{
-    let mut i = 0;
-    // the numbers before i stand there
-    while i < n {
-        out[at + i] = numbers[i];
-        i += 1;
-    }
-}
-
-// The parts of a chart into it; of the images those of as many maps as there are.
-fn lay_chart(
-    d: Dims,
-    starts: &[u16],
-    images: &[u8],
-    scans: &[u8],
-    kinds: &[u16],
-    pieces: &[u8],
-    chart: &mut [u16],
-)
-    requires { (length starts.now ≡ 2049) × (length images.now ≡ 6144) × (length scans.now ≡ 512) × (length kinds.now ≡ 48)
-        × (length pieces.now ≡ 32) × (length chart.old ≡ chart_length) × (d.turns + d.mirrorings ≤ 48) }
-    ensures { Laid d starts.now images.now scans.now kinds.now pieces.now chart.new
-        × AreBytes pieces.now }
-{
-    lay_numbers(starts, chart::IMAGES, chart, 0);
-    lay_bytes(images, 128 * (d.turns + d.mirrorings), chart, chart::IMAGES);
-    lay_bytes(scans, 512, chart, chart::SCANS);
-    lay_numbers(kinds, 48, chart, chart::KINDS);
-    lay_bytes(pieces, 32, chart, chart::PIECES);
 }
 
 // How many rows, allowed turns and allowed mirrorings there are.
@@ -132,35 +69,28 @@ struct Placed {
 
 // The rows of a tray, where those of each kind at each cell begin, and the images of its board's cells, by what was counted of it.
 fn build_lent(
-    t: Pieces,
-    board: Record,
-    bytes: &[u8],
-    counts: Counts,
-    places: &[u16],
-    first: &[u8],
-    turnings: &[u8],
+    counted: &CountedTray,
     work: &mut [u64],
     starts: &mut [u16],
     images: &mut [u8],
 ) -> Placed
-    requires accepted9 { Accepted9 t board bytes.now × Counted t board bytes.now places.now first.now turnings.now counts
-        × (counts.placements ≤ 1024) × RowsFit (compile (lent_in (records_of t) board bytes.now)) }
-    requires first_len { (length first.now ≡ 16) × (length turnings.now ≡ 400) × (8192 ≤ length work.old) × (length starts.old ≡ 2049)
-        × (length images.old ≡ 6144) }
-    ensures { let c = compile (lent_in (records_of t) board bytes.now) in
-        BuiltLent c counts.size result work.old work.new starts.new images.new }
+    requires counted { let c = counted.now in (c.counts.placements ≤ 1024) × RowsFit (compile (lent_tray c.tray)) }
+    requires room { (8192 ≤ length work.old) × (length starts.old ≡ 2049) × (length images.old ≡ 6144) }
+    ensures { let c = counted.now in
+        BuiltLent (compile (lent_tray c.tray)) c.counts.size result work.old work.new starts.new images.new }
 {
-    let b = records::sides_of(board);
-    let grid = records::cells_of(bytes, board);
-    let order = scan::plan_axis_order(b);
-    let size = counts.size;
     let mut scans = [0u8; 512];
-    board::number_places(places, size, &mut scans);
-    let turns = images::board_images(grid, b, order, places, &scans, size, 0, 24, images, 0);
-    let maps = images::board_images(grid, b, order, places, &scans, size, 24, 48, images, turns);
-    let rows = building::build_rows(
-        t, board, bytes, counts, places, first, turnings, &scans, order, work,
-    );
+    board::number_places(counted.places(), &mut scans);
+    let grid = counted.tray.board_grid();
+    let planned = PlannedBoard {
+        grid,
+        order: counted.tray.order(),
+        places: counted.places(),
+    };
+    let board = NumberedBoard { planned, scans };
+    let turns = images::board_images(&board, 0, 24, images, 0);
+    let maps = images::board_images(&board, 24, 48, images, turns);
+    let rows = building::build_rows(&board, counted, work);
     building::range_rows(work, rows, starts);
     Placed {
         rows,
@@ -169,64 +99,37 @@ fn build_lent(
     }
 }
 
-// The row system of a tray whose grids are stripped and that is not refused, by what was counted of it, into slices; and how large it is. Its board lies in
-// the lent box with its corner at a cell. The places of the board's filled cells become those of the lent box, in which answers are written.
+// The row system of a tray whose grids are stripped and that is not refused, by what was counted of it, into work slice and chart; and how large it is. Its
+// board lies in the lent box, in which answers are written, with its corner at a cell.
 pub fn build_system(
-    t: Pieces,
-    board: Record,
-    bytes: &[u8],
-    counts: Counts,
-    places: &mut [u16],
-    small: &[u8],
-    first: &[u8],
-    turnings: &[u8],
+    counted: &CountedTray,
     lent: Coord,
     at: Coord,
     work: &mut [u64],
-    chart: &mut [u16],
+    chart: &mut Chart,
 ) -> Dims
-    requires accepted9 { Accepted9 t board bytes.now × Counted t board bytes.now places.old first.now turnings.now counts
-        × (counts.placements ≤ 1024) × RowsFit (compile (lent_in (records_of t) board bytes.now)) }
-    requires fit { Fit (as_sides lent) × FitsIn (frame_at lent at) (sides_of board) × Smallest t bytes.now small.now }
-    requires first_len { (length first.now ≡ 16) × (length turnings.now ≡ 400) × (8192 ≤ length work.old) × (length chart.old ≡ chart_length) }
-    ensures { let tray = framed_in (records_of t) board bytes.now (frame_at lent at) in
-        let put = lent_place (sides_of board) (frame_at lent at) in
-        let n = counts.size in
-        BuiltSystem tray result work.old work.new chart.new
-        × (places.new ≡ map put (take n places.old) ++ drop n places.old) }
+    requires counted { let c = counted.now in (c.counts.placements ≤ 1024) × RowsFit (compile (lent_tray c.tray)) }
+    requires fit { Fit (as_sides lent) × FitsIn (frame_at lent at) (sides_of counted.now.tray.board) }
+    requires room { 8192 ≤ length work.old }
+    ensures { let t = counted.now.tray in
+        let tray = framed_in (records_of t.pieces) t.board t.bytes.now (frame_at lent at) in
+        BuiltSystem tray result work.old work.new chart.new }
 {
-    let mut starts = [0u16; 2049];
-    let mut images = [0u8; 6144];
-    let r = build_lent(
-        t,
-        board,
-        bytes,
-        counts,
-        places,
-        first,
-        turnings,
-        work,
-        &mut starts,
-        &mut images,
-    );
-    let n = counts.kinds;
-    let mut kinds = [0u16; 48];
-    list_kinds(t, board, bytes, small, first, n, &mut kinds);
-    let mut pieces = [0u8; 32];
-    list_pieces(t, board, bytes, small, first, n, &mut pieces);
-    let size = counts.size;
-    board::put_back(places, size, records::sides_of(board), at, lent);
-    let mut scans = [0u8; 512];
-    board::number_places(places, size, &mut scans);
-    let d = Dims {
+    let placed = build_lent(counted, work, &mut chart.starts, &mut chart.images);
+    list_kinds(counted, &mut chart.kinds);
+    list_pieces(counted, &mut chart.pieces);
+    let size = counted.counts.size;
+    let mut places = counted.places;
+    let put = &mut places[..size];
+    board::put_back(put, records::sides_of(counted.tray.board), at, lent);
+    board::number_places(put, &mut chart.scans);
+    Dims {
         size,
-        rows: r.rows,
-        kinds: n,
-        turns: r.turns,
-        mirrorings: r.mirrorings,
+        rows: placed.rows,
+        kinds: counted.counts.kinds,
+        turns: placed.turns,
+        mirrorings: placed.mirrorings,
         places: cells::volume_of(lent),
-        pieces: t.count,
-    };
-    lay_chart(d, &starts, &images, &scans, &kinds, &pieces, chart);
-    d
+        pieces: counted.tray.pieces.count,
+    }
 }

@@ -1,53 +1,44 @@
-// Runs of `pack`: what it prints for each of these files, one after the other, held to the stored output. A file that is missing and a folder in place of a file make reads
-// that fail.
+// Runs of `pack`: what it prints for each of these files, one after the other, held to the stored output. A file that is missing and a
+// folder in place of a file make reads that fail.
 #![tactic(auto)]
 
 use std::fs;
+use streams::Room;
 
-// The file descriptor of standard output.
-const STDOUT_FILENO: i32 = 1;
+const NAMES: [&str; 19] = [
+    "listing.tray",
+    "listing_knuth.tray",
+    "no_packing.tray",
+    "unfilled_cell.tray",
+    "empty_box_unfilled.tray",
+    "empty_box_filled.tray",
+    "woods.tray",
+    "woods_handed.tray",
+    "wood_256.tray",
+    "empty_layers.tray",
+    "side_8.tray",
+    "side_9.tray",
+    "too_many_links.tray",
+    "malformed.tray",
+    "16384_bytes.tray",
+    "16385_bytes.tray",
+    "soma_knuth.tray",
+    "missing.tray",
+    ".",
+];
 
 // What `pack` prints for a file; one that cannot be opened counts as one whose first read fails.
-fn list(rt: &HostRuntime, name: &str) {
-    let mut text = [0u8; 16385];
-    let mut cells = [0u8; 16384];
-    let mut answers = [0u8; 262144];
-    let mut work = [0u64; 8192];
-    let mut links = [0u16; 32768];
-    let mut out = [0u8; 65536];
-    let n = match fs::open(rt, name) {
-        Ok(mut file) => streams::read_text(&mut file, &mut text),
-        Err(_) => text.len(),
+fn list(rt: &HostRuntime, room: &mut Room, name: &str) {
+    let read = match fs::open(rt, name) {
+        Ok(mut file) => room.read(&mut file),
+        Err(_) => Room::TEXT,
     };
-    streams::print(
-        STDOUT_FILENO,
-        &text[..n],
-        &mut cells,
-        &mut answers,
-        &mut work,
-        &mut links,
-        &mut out,
-    );
+    let _ = room.print(read, &mut rt.stdout());
 }
 
 fn main(rt: HostRuntime) {
-    list(&rt, "listing.tray");
-    list(&rt, "listing_knuth.tray");
-    list(&rt, "no_packing.tray");
-    list(&rt, "unfilled_cell.tray");
-    list(&rt, "empty_box_unfilled.tray");
-    list(&rt, "empty_box_filled.tray");
-    list(&rt, "woods.tray");
-    list(&rt, "woods_handed.tray");
-    list(&rt, "wood_256.tray");
-    list(&rt, "empty_layers.tray");
-    list(&rt, "side_8.tray");
-    list(&rt, "side_9.tray");
-    list(&rt, "too_many_links.tray");
-    list(&rt, "malformed.tray");
-    list(&rt, "16384_bytes.tray");
-    list(&rt, "16385_bytes.tray");
-    list(&rt, "soma_knuth.tray");
-    list(&rt, "missing.tray");
-    list(&rt, ".");
+    let mut room = Room::new();
+    for name in NAMES {
+        list(&rt, &mut room, name);
+    }
 }

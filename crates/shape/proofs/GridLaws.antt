@@ -1,66 +1,76 @@
 -- Grids: how numbers, sides and grids compare, and the cells of a box by their places. Assumes nothing.
-use Prim.Native.Nat.{ℕ, suc, ◌+◌, ◌≤◌, ◌<◌}
-use mathlib.Core.Bool.{Bool, true, false, not, ◌&&◌, ◌||◌}
+use Prim.Native.Nat.{ℕ, ◌+◌, ◌<◌}
+use mathlib.Core.Bool.{Bool, true, false, cond, not, ◌&&◌, ◌||◌}
 use mathlib.Core.List.{List, [], ◌∷◌, map, Memᴰ, map-id, map-map}
 use mathlib.Core.Path.{◌≡◌, refl, sym, ap, ap₂, ◌∙◌, subst}
-use mathlib.Core.Logic.{◌⊎◌, inl, inr}
-use native.Mathlib.Numerals.{add-one}
+use mathlib.Core.Logic.{◌≢◌, ◌⊎◌, inl, inr}
 use native.Mathlib.Omega.{arith}
-use borrow.Author.Tests.{lt-ltb, le-ltb, eq-eqb, ne_eqb, eqb-true, eqb-false}
+use borrow.Author.Tests.{lt-ltb, le-ltb, eq-eqb, ne_eqb}
 use lib.Dec.{T, ltb, eqb}
-use lib.ListN.{length, get_or, take, drop, length-drop, drop_of_length-le}
-use lib.Seq.{drop-cons, length-take-le, get_or-take, get_or-drop}
-use Rattle.lists.specs.Lists.{all, less, same, below}
+use lib.ListN.{length}
+use Rattle.std.proofs.lemmas.List.Recursion.{is_count_by}
+use Rattle.std.specs.List.{list_all, count_by}
+use Rattle.lists.specs.Lists.{all, how_many, less, same, below}
 use Rattle.lists.proofs.TestLaws.{holds, decide}
 use Rattle.lists.proofs.ListLaws.{map_same}
 use Rattle.lists.proofs.RangeLaws.{length_below, get_or_number}
 use Rattle.lists.proofs.NameLaws.{StrictOrder, ahead_other}
 use Rattle.definitions.specs.Grid.{Sides, Cell, Grid, box, volume, place_of, byte_at, sides_then_cells, same_grid, grid_ahead}
-use Rattle.definitions.specs.Maps.{maps, turns, transform, parity, permutations, map_of, identity, map_sides, map_grid}
+use Rattle.definitions.specs.Maps.{map_of, map_sides, map_grid}
 use Rattle.theorems.proofs.PartnerLaws.{grids_ordered}
 use Rattle.theorems.proofs.MapLaws.{box_at, mapped_sides}
 use Rattle.theorems.proofs.MoveLaws.{mapped_whole}
-use Rattle.theorems.proofs.GroupLaws.{bytes_whole, identity_grid, same_grid→eq}
-use Rattle.shape.specs.Coords.{as_sides, Fit}
+use Rattle.theorems.proofs.GroupLaws.{bytes_whole, identity_grid}
+use Rattle.shape.specs.Coords.{as_sides}
 use Rattle.shape.specs.Places.{cell_at}
-use Rattle.shape.specs.Grids.{Decided, Whole, order_by, list_order, number_order, side_list, sides_order, grid_order}
+use Rattle.shape.specs.Grids.{order_by, list_order, number_order, sides_order, grid_order}
 use Rattle.shape.specs.declared.Coord.{Coord}
-use Rattle.shape.specs.declared.Ordering.{Ordering}
-use Rattle.shape.specs.declared.Ordering.TheVariants.{Less, Equal, Greater}
+use Rattle.std.specs.declared.cmp.Ordering.{Ordering}
+use Rattle.std.specs.declared.cmp.Ordering.TheVariants.{Less, Equal, Greater}
+use Rattle.std.specs.Ordering.{nat_cmp, ordering_then, is_eq}
+use Rattle.std.specs.Cmp.Lexicographic.{slice_cmp}
+use Rattle.shape.proofs.MapTableLaws.{zero_identity}
 use Rattle.shape.proofs.PlaceLaws.{cell_at_place, place_lt, map_volume}
 
--- ---- as many bytes as cells
-pub whole_test : (s : Coord) (cells : List ℕ) (v : ℕ) → Fit (as_sides s) → v ≡ volume (as_sides s) → Decided (eqb (length cells) v) (Whole s cells)
-whole_test s cells v f e = go (eqb (length cells) v) refl
-  where
-    go : (b : Bool) → eqb (length cells) v ≡ b → Decided b (Whole s cells)
-    go true h = record { fit = f; size = eqb-true (length cells) v h ∙ e }
-    go false h = λ w. eqb-false (length cells) v h (w.size ∙ sym e)
+-- ---- orders: those of std
+then_assoc : (o p q : Ordering) → ordering_then (ordering_then o p) q ≡ ordering_then o (ordering_then p q)
+then_assoc Less p q = refl
+then_assoc Equal p q = refl
+then_assoc Greater p q = refl
 
--- ---- orders: of two in a row, the first that is not Equal decides
-abbrev pub chain : Ordering → Ordering → Ordering
-chain Less o = Less
-chain Equal o = o
-chain Greater o = Greater
+then_equal : (o : Ordering) → ordering_then o Equal ≡ o
+then_equal Less = refl
+then_equal Equal = refl
+then_equal Greater = refl
 
-chain_assoc : (o p q : Ordering) → chain (chain o p) q ≡ chain o (chain p q)
-chain_assoc Less p q = refl
-chain_assoc Equal p q = refl
-chain_assoc Greater p q = refl
+pub then_decides : (o p : Ordering) → o ≢ Equal → ordering_then o p ≡ o
+then_decides Less p n = refl
+then_decides Equal p n = absurd (n refl)
+then_decides Greater p n = refl
 
-chain_equal : (o : Ordering) → chain o Equal ≡ o
-chain_equal Less = refl
-chain_equal Equal = refl
-chain_equal Greater = refl
-
-order_bits : (x y l e : Bool) → order_by (x || (y && l)) (y && e) ≡ chain (order_by x y) (order_by l e)
+order_bits : (x y l e : Bool) → order_by (x || (y && l)) (y && e) ≡ ordering_then (order_by x y) (order_by l e)
 order_bits true y l e = refl
 order_bits false true l e = refl
 order_bits false false l e = refl
 
-pub order_cons : (a b : ℕ) (xs ys : List ℕ) → list_order (a ∷ xs) (b ∷ ys) ≡ chain (number_order a b) (list_order xs ys)
+order_cons : (a b : ℕ) (xs ys : List ℕ) → list_order (a ∷ xs) (b ∷ ys) ≡ ordering_then (number_order a b) (list_order xs ys)
 unfolding number_order
 order_cons a b xs ys = order_bits (ltb a b) (eqb a b) (less xs ys) (same xs ys)
+
+pub number_cmp : (a b : ℕ) → nat_cmp a b ≡ number_order a b
+unfolding number_order
+number_cmp a b = go (ltb a b) (eqb a b)
+  where
+    go : (x y : Bool) → cond x Less (cond y Equal Greater) ≡ order_by x y
+    go true y = refl
+    go false true = refl
+    go false false = refl
+
+pub list_cmp : (xs ys : List ℕ) → slice_cmp nat_cmp xs ys ≡ list_order xs ys
+list_cmp [] [] = refl
+list_cmp [] (y ∷ ys) = refl
+list_cmp (x ∷ xs) [] = refl
+list_cmp (x ∷ xs) (y ∷ ys) = ap₂ ordering_then (number_cmp x y) (list_cmp xs ys) ∙ sym (order_cons x y xs ys)
 
 -- numbers
 pub number_less : {a b : ℕ} → a < b → number_order a b ≡ Less
@@ -75,31 +85,23 @@ pub number_equal : {a b : ℕ} → a ≡ b → number_order a b ≡ Equal
 unfolding number_order
 number_equal {a} {b} h = ap₂ order_by (le-ltb a b (omega arith)) (eq-eqb a b h)
 
-pub number_decides : {a b : ℕ} → (a ≡ b → ⊥) → (o : Ordering) → chain (number_order a b) o ≡ number_order a b
-unfolding number_order
-number_decides {a} {b} h o = ap (λ (y : Bool). chain (order_by (ltb a b) y) o) e ∙ go (ltb a b) ∙ ap (order_by (ltb a b)) (sym e)
-  where
-    e : eqb a b ≡ false
-    e = ne_eqb a b h
-
-    go : (x : Bool) → chain (order_by x false) o ≡ order_by x false
-    go true = refl
-    go false = refl
-
 -- sides, and grids: by sides, then cells
-pub sides-order : (s t : Sides) → sides_order s t ≡ chain (number_order s.a t.a) (chain (number_order s.b t.b) (number_order s.c t.c))
+pub sides-order : (s t : Sides) → sides_order s t ≡ ordering_then (number_order s.a t.a) (ordering_then (number_order s.b t.b) (number_order s.c t.c))
 unfolding sides_order
 sides-order s t =
     order_cons s.a t.a (s.b ∷ s.c ∷ []) (t.b ∷ t.c ∷ [])
-    ∙ ap (chain (number_order s.a t.a))
-    (order_cons s.b t.b (s.c ∷ []) (t.c ∷ []) ∙ ap (chain (number_order s.b t.b)) (order_cons s.c t.c [] [] ∙ chain_equal (number_order s.c t.c)))
+    ∙ ap (ordering_then (number_order s.a t.a))
+    (order_cons s.b t.b (s.c ∷ []) (t.c ∷ []) ∙ ap (ordering_then (number_order s.b t.b)) (order_cons s.c t.c [] [] ∙ then_equal (number_order s.c t.c)))
 
-pub grid-order : (g h : Grid) → grid_order g h ≡ chain (sides_order g.sides h.sides) (list_order g.cells h.cells)
+pub coord_cmp : (s t : Coord) → ordering_then (nat_cmp s.0 t.0) (ordering_then (nat_cmp s.1 t.1) (nat_cmp s.2 t.2)) ≡ sides_order (as_sides s) (as_sides t)
+coord_cmp s t = ap₂ ordering_then (number_cmp s.0 t.0) (ap₂ ordering_then (number_cmp s.1 t.1) (number_cmp s.2 t.2)) ∙ sym (sides-order (as_sides s) (as_sides t))
+
+pub grid-order : (g h : Grid) → grid_order g h ≡ ordering_then (sides_order g.sides h.sides) (list_order g.cells h.cells)
 unfolding grid_order same_grid grid_ahead sides_then_cells
 grid-order g h =
     order_cons s.a t.a (s.b ∷ s.c ∷ g.cells) (t.b ∷ t.c ∷ h.cells)
-    ∙ ap (chain x) (order_cons s.b t.b (s.c ∷ g.cells) (t.c ∷ h.cells) ∙ ap (chain y) (order_cons s.c t.c g.cells h.cells))
-    ∙ sym (ap (λ (o : Ordering). chain o r) (sides-order s t) ∙ chain_assoc x (chain y z) r ∙ ap (chain x) (chain_assoc y z r))
+    ∙ ap (ordering_then x) (order_cons s.b t.b (s.c ∷ g.cells) (t.c ∷ h.cells) ∙ ap (ordering_then y) (order_cons s.c t.c g.cells h.cells))
+    ∙ sym (ap (λ (o : Ordering). ordering_then o r) (sides-order s t) ∙ then_assoc x (ordering_then y z) r ∙ ap (ordering_then x) (then_assoc y z r))
   where
     s : Sides
     s = g.sides
@@ -121,47 +123,13 @@ grid-order g h =
 
 sides_same : (s : Sides) → sides_order s s ≡ Equal
 sides_same s =
-    sides-order s s ∙ ap₂ chain (number_equal {a = s.a} refl) (ap₂ chain (number_equal {a = s.b} refl) (number_equal {a = s.c} refl))
+    sides-order s s ∙ ap₂ ordering_then (number_equal {a = s.a} refl) (ap₂ ordering_then (number_equal {a = s.b} refl) (number_equal {a = s.c} refl))
 
 -- grids with equal sides, by their cells
 pub cells_order : (g h : Grid) → g.sides ≡ h.sides → grid_order g h ≡ list_order g.cells h.cells
 cells_order g h e =
     grid-order g h
-    ∙ ap (λ (o : Ordering). chain o (list_order g.cells h.cells)) (ap (λ (t : Sides). sides_order g.sides t) (sym e) ∙ sides_same g.sides)
-
--- lists from place j on
-module _ (xs ys : List ℕ) (j : ℕ) where
-  order_at : j < length xs → j < length ys
-      → list_order (drop j xs) (drop j ys) ≡ chain (number_order (get_or xs j 0) (get_or ys j 0)) (list_order (drop (j + 1) xs) (drop (j + 1) ys))
-  order_at h k = rw (add-one, drop-cons xs j 0, drop-cons ys j 0) (order_cons (get_or xs j 0) (get_or ys j 0) (drop (suc j) xs) (drop (suc j) ys))
-
-  order_end : length xs ≤ j → length ys ≤ j → list_order (drop j xs) (drop j ys) ≡ Equal
-  order_end h k = ap₂ list_order (drop_of_length-le xs h) (drop_of_length-le ys k)
-
--- parts of lists, n numbers from a place on
-module _ (xs : List ℕ) (a n : ℕ) (h : a + n ≤ length xs) where
-  part_length : length (take n (drop a xs)) ≡ n
-  part_length = length-take-le n (drop a xs) (simp length-drop (omega arith))
-
-  part_at : (j : ℕ) → j < n → get_or (take n (drop a xs)) j 0 ≡ get_or xs (a + j) 0
-  part_at j k = get_or-take n (drop a xs) j 0 k ∙ get_or-drop a xs j 0
-
-module _ (xs ys : List ℕ) (a b n : ℕ) (hx : a + n ≤ length xs) (hy : b + n ≤ length ys) where
-  pub part_order_at : (j : ℕ) → j < n → (o : Ordering) → number_order (get_or xs (a + j) 0) (get_or ys (b + j) 0) ≡ o
-      → list_order (drop j (take n (drop a xs))) (drop j (take n (drop b ys)))
-      ≡ chain o (list_order (drop (j + 1) (take n (drop a xs))) (drop (j + 1) (take n (drop b ys))))
-  part_order_at j k o e =
-      let p = part_length xs a n hx in
-      let q = part_length ys b n hy in
-      order_at (take n (drop a xs)) (take n (drop b ys)) j (omega arith) (omega arith)
-      ∙ ap (λ (o : Ordering). chain o (list_order (drop (j + 1) (take n (drop a xs))) (drop (j + 1) (take n (drop b ys)))))
-      (ap₂ number_order (part_at xs a n hx j k) (part_at ys b n hy j k) ∙ e)
-
-  pub part_order_end : (j : ℕ) → n ≤ j → list_order (drop j (take n (drop a xs))) (drop j (take n (drop b ys))) ≡ Equal
-  part_order_end j k =
-      let p = part_length xs a n hx in
-      let q = part_length ys b n hy in
-      order_end (take n (drop a xs)) (take n (drop b ys)) j (omega arith) (omega arith)
+    ∙ ap (λ (o : Ordering). ordering_then o (list_order g.cells h.cells)) (ap (λ (t : Sides). sides_order g.sides t) (sym e) ∙ sides_same g.sides)
 
 -- what an order tells of being the same
 order_less : (x y : Bool) → order_by x y ≡ Less → x ≡ true
@@ -208,19 +176,12 @@ module _ {A : Type 0} (ahead same : A → A → Bool) (o : StrictOrder A ahead s
   pub other_greater : order_by (ahead x y) (same x y) ≡ Greater → same x y ≡ false
   other_greater e = order_greater (ahead x y) (same x y) e
 
-pub sides_equal : (s t : Sides) → sides_order s t ≡ Equal → s ≡ t
-unfolding sides_order same_grid sides_then_cells
-sides_equal s t e =
-    ap (λ (g : Grid). g.sides)
-    (same_grid→eq (record { sides = s; cells = [] }) (record { sides = t; cells = [] })
-    (holds (same (side_list s) (side_list t)) (order_equal (less (side_list s) (side_list t)) (same (side_list s) (side_list t)) e)))
-
 -- the order of mapped grids, by the mapped sides
 pub turned_order : (m n : ℕ) (g h : Grid) (o : Ordering) → sides_order (map_sides (map_of m) g.sides) (map_sides (map_of n) h.sides) ≡ o
-    → grid_order (map_grid (map_of m) g) (map_grid (map_of n) h) ≡ chain o (list_order (map_grid (map_of m) g).cells (map_grid (map_of n) h).cells)
+    → grid_order (map_grid (map_of m) g) (map_grid (map_of n) h) ≡ ordering_then o (list_order (map_grid (map_of m) g).cells (map_grid (map_of n) h).cells)
 turned_order m n g h o e =
     grid-order (map_grid (map_of m) g) (map_grid (map_of n) h)
-    ∙ ap (λ (o : Ordering). chain o (list_order (map_grid (map_of m) g).cells (map_grid (map_of n) h).cells))
+    ∙ ap (λ (o : Ordering). ordering_then o (list_order (map_grid (map_of m) g).cells (map_grid (map_of n) h).cells))
     (ap₂ sides_order (mapped_sides (map_of m) g) (mapped_sides (map_of n) h) ∙ e)
 
 module _ (g h : Grid) where
@@ -236,11 +197,15 @@ module _ (g h : Grid) where
   unfolding grid_order
   same_greater e = order_greater (grid_ahead g h) (same_grid g h) e
 
--- map 0 moves nothing
-zero_identity : map_of 0 ≡ identity
-unfolding map_of maps turns parity permutations transform identity
-zero_identity = refl
+  pub is_same : is_eq (grid_order g h) ≡ same_grid g h
+  is_same = go (grid_order g h) refl
+    where
+      go : (o : Ordering) → grid_order g h ≡ o → is_eq o ≡ same_grid g h
+      go Less e = sym (same_less e)
+      go Equal e = sym (same_equal e)
+      go Greater e = sym (same_greater e)
 
+-- map 0 moves nothing
 pub map_zero : (g : Grid) → length g.cells ≡ volume g.sides → map_grid (map_of 0) g ≡ g
 map_zero g e = ap (λ m. map_grid m g) zero_identity ∙ identity_grid g e
 
@@ -251,13 +216,17 @@ turned_length n g = mapped_whole (map_of n) g ∙ ap volume (mapped_sides (map_o
 pub same_volume : (m n : ℕ) (s t : Sides) → map_sides (map_of m) s ≡ map_sides (map_of n) t → volume s ≡ volume t
 same_volume m n s t e = sym (map_volume m s) ∙ ap volume e ∙ map_volume n t
 
--- ---- tests of the entries from place i on
-module _ (p : ℕ → Bool) (xs : List ℕ) (i : ℕ) where
-  pub all_from : i < length xs → all p (drop i xs) ≡ p (get_or xs i 0) && all p (drop (i + 1) xs)
-  all_from h = rw (add-one, drop-cons xs i 0)
+-- ---- tests and counts of entries are those of std
+pub all_is : (p : ℕ → Bool) (xs : List ℕ) → all p xs ≡ list_all p xs
+all_is p [] = refl
+all_is p (x ∷ xs) = ap (λ (b : Bool). p x && b) (all_is p xs)
 
-  pub all_end : length xs ≤ i → all p (drop i xs) ≡ true
-  all_end h = ap (all p) (drop_of_length-le xs h)
+pub how_many_is : (p : ℕ → Bool) (xs : List ℕ) → how_many p xs ≡ count_by p xs
+how_many_is p = is_count_by (how_many p) p refl (λ x xs. counted (p x) (how_many p xs))
+  where
+    counted : (b : Bool) (n : ℕ) → cond b 1 0 + n ≡ cond b (1 + n) n
+    counted true n = refl
+    counted false n = omega arith
 
 -- ---- the cells of a box by their places
 pub box_places : (s : Sides) → box s ≡ map (cell_at s) (below (volume s))

@@ -1,31 +1,19 @@
 -- Tests of sides, grids and cells: they tell what the code's tests decide, so what is read is the byte, or 0. Assumes nothing.
-use Prim.Native.Nat.{ℕ, ◌<◌}
-use mathlib.Core.Bool.{Bool, true, false, cond, ◌&&◌, true≢false, false≢true}
+use Prim.Native.Nat.{ℕ}
+use mathlib.Core.Bool.{Bool, true, false, cond, ◌&&◌}
 use mathlib.Core.List.{List}
 use mathlib.Core.Path.{◌≡◌, refl, sym, ap, ap₂, ◌∙◌}
 use borrow.Author.Tests.{ltb-true, lt-ltb, leb-true, le-leb, eqb-true, eq-eqb}
+use denote.Ref.{Bor}
 use lib.Dec.{ltb, leb}
 use lib.ListN.{length}
 use Rattle.lists.proofs.TestLaws.{and_true_right, and_true_left, not_true}
 use Rattle.definitions.specs.Grid.{Sides, Cell, volume, InBox}
-use Rattle.shape.specs.Coords.{as_sides, as_cell, Fit, is_fit, lies_in}
-use Rattle.shape.specs.Grids.{as_grid, Decided, Whole, is_whole}
+use Rattle.shape.specs.Coords.{as_sides, Fit, is_fit, lies_in}
+use Rattle.shape.specs.Grids.{as_grid, Whole, is_whole}
+use Rattle.shape.specs.CubicGrids.{grid_of}
 use Rattle.shape.specs.declared.Coord.{Coord}
-
--- ---- what decides a fact
-pub told : {P : Type 0} (r : Bool) → r ≡ true → Decided r P → P
-told true e d = d
-told false e d = absurd (false≢true e)
-
-pub untold : {P : Type 0} (r : Bool) → r ≡ false → Decided r P → P → ⊥
-untold true e d = absurd (true≢false e)
-untold false e d = d
-
--- a test that is true where a fact holds, and nowhere else, agrees with it
-agrees : {P : Type 0} (t r : Bool) → (t ≡ true → P) → (P → t ≡ true) → Decided r P → t ≡ r
-agrees t true f g d = g d
-agrees true false f g d = absurd (d (f refl))
-agrees false false f g d = refl
+use Rattle.shape.specs.declared.cubic_grid.CubicGrid.{CubicGrid}
 
 -- ---- sides
 fit_told : (s : Sides) → is_fit s ≡ true → Fit s
@@ -45,62 +33,70 @@ pub no_cells : (s : Sides) → (Fit s → ⊥) → 0 ≡ cond (is_fit s) (volume
 no_cells s n = sym (ap (λ (b : Bool). cond b (volume s) 0) (not_true (is_fit s) (λ e. n (fit_told s e))))
 
 -- ---- cells in a box
-pub box_test : (s u : Coord) → u.0 < s.0 → u.1 < s.1 → Decided (ltb u.2 s.2) (InBox (as_sides s) (as_cell u))
-box_test s u h k = go (ltb u.2 s.2) refl
-  where
-    go : (b : Bool) → ltb u.2 s.2 ≡ b → Decided b (InBox (as_sides s) (as_cell u))
-    go true e = (h, k, ltb-true u.2 s.2 e)
-    go false e = λ w. told false (sym e ∙ lt-ltb u.2 s.2 w.2) (λ x. x)
-
-pub lies_decided : (s : Sides) (u : Cell) (r : Bool) → Decided r (InBox s u) → lies_in s u ≡ r
+lies_told : (s : Sides) (u : Cell) → lies_in s u ≡ true → InBox s u
 unfolding lies_in
-lies_decided s u r d =
-    agrees (lies_in s u) r
-    (λ e.
-    let f = and_true_right (ltb u.x s.a) _ e in (
-      ltb-true u.x s.a (and_true_left _ _ e),
-      ltb-true u.y s.b (and_true_left _ _ f),
-      ltb-true u.z s.c (and_true_right (ltb u.y s.b) _ f),
-    ))
-    (λ w. ap₂ ◌&&◌ (lt-ltb u.x s.a w.0) (ap₂ ◌&&◌ (lt-ltb u.y s.b w.1) (lt-ltb u.z s.c w.2))) d
+lies_told s u e =
+    let f = and_true_right (ltb u.x s.a) _ e in
+    (ltb-true u.x s.a (and_true_left _ _ e), ltb-true u.y s.b (and_true_left _ _ f), ltb-true u.z s.c (and_true_right (ltb u.y s.b) _ f))
+
+pub lies_yes : (s : Sides) (u : Cell) → InBox s u → lies_in s u ≡ true
+unfolding lies_in
+lies_yes s u w = ap₂ ◌&&◌ (lt-ltb u.x s.a w.0) (ap₂ ◌&&◌ (lt-ltb u.y s.b w.1) (lt-ltb u.z s.c w.2))
+
+pub lies_no : (s : Sides) (u : Cell) → (InBox s u → ⊥) → lies_in s u ≡ false
+lies_no s u n = not_true (lies_in s u) (λ e. n (lies_told s u e))
 
 -- ---- grids
-pub whole_decided : (s : Coord) (cells : List ℕ) (r : Bool) → Decided r (Whole s cells) → is_whole (as_grid s cells) ≡ r
+whole_told : (s : Coord) (cells : List ℕ) → is_whole (as_grid s cells) ≡ true → Whole s cells
 unfolding is_whole
-whole_decided s cells r d =
-    agrees (is_whole (as_grid s cells)) r
-    (λ e.
-    record {
-      fit = fit_told (as_sides s) (and_true_left _ _ e);
-      size = eqb-true (length cells) (volume (as_sides s)) (and_true_right (is_fit (as_sides s)) _ e);
-    })
-    (λ w. ap₂ ◌&&◌ (fit_yes (as_sides s) w.fit) (eq-eqb (length cells) (volume (as_sides s)) w.size)) d
+whole_told s cells e = record {
+  fit = fit_told (as_sides s) (and_true_left _ _ e);
+  size = eqb-true (length cells) (volume (as_sides s)) (and_true_right (is_fit (as_sides s)) _ e);
+}
+
+whole_yes : (s : Coord) (cells : List ℕ) → Whole s cells → is_whole (as_grid s cells) ≡ true
+unfolding is_whole
+whole_yes s cells w = ap₂ ◌&&◌ (fit_yes (as_sides s) w.fit) (eq-eqb (length cells) (volume (as_sides s)) w.size)
+
+whole_no : (s : Coord) (cells : List ℕ) → (Whole s cells → ⊥) → is_whole (as_grid s cells) ≡ false
+whole_no s cells n = not_true (is_whole (as_grid s cells)) (λ e. n (whole_told s cells e))
+
+-- what is read of a cell that the box has
+pub seen : {t : Sides} {u : Cell} {n r : ℕ} → InBox t u → r ≡ cond (lies_in t u) n 0 → r ≡ n
+seen {t} {u} {n} i e = e ∙ ap (λ (b : Bool). cond b n 0) (lies_yes t u i)
+
+-- the grid that is lent is that of the cells and sides that it was made of
+pub lent_grid : (grid : CubicGrid) {cells : Bor (List ℕ)} {s : Coord} → (grid.cells ≡ cells) × (grid.sides ≡ s) → grid_of grid ≡ as_grid s cells.now
+lent_grid grid f = λ i. as_grid (f.1 i) (f.0 i).now
 
 -- what is told of a grid that is whole, and of one that is not
 module _ (s : Coord) (cells : List ℕ) where
   module _ (whole : Whole s cells) where
     pub whole_reads : (n : ℕ) → cond (is_whole (as_grid s cells)) n 0 ≡ n
-    whole_reads n = ap (λ (b : Bool). cond b n 0) (whole_decided s cells true whole)
+    whole_reads n = ap (λ (b : Bool). cond b n 0) (whole_yes s cells whole)
 
     pub whole_tells : (b : Bool) → (is_whole (as_grid s cells) && b) ≡ b
-    whole_tells b = ap (λ (a : Bool). a && b) (whole_decided s cells true whole)
+    whole_tells b = ap (λ (a : Bool). a && b) (whole_yes s cells whole)
+
+    pub whole_cell : (b : Bool) (n : ℕ) → cond (is_whole (as_grid s cells) && b) n 0 ≡ cond b n 0
+    whole_cell b n = ap (λ (a : Bool). cond (a && b) n 0) (whole_yes s cells whole)
 
     pub cell_reads : (t : Sides) (u : Cell) (n : ℕ) → InBox t u → cond (is_whole (as_grid s cells) && lies_in t u) n 0 ≡ n
-    cell_reads t u n i = ap₂ (λ (a b : Bool). cond (a && b) n 0) (whole_decided s cells true whole) (lies_decided t u true i)
+    cell_reads t u n i = ap₂ (λ (a b : Bool). cond (a && b) n 0) (whole_yes s cells whole) (lies_yes t u i)
 
   module _ (broken : Whole s cells → ⊥) where
     pub broken_reads : (n : ℕ) → 0 ≡ cond (is_whole (as_grid s cells)) n 0
-    broken_reads n = sym (ap (λ (b : Bool). cond b n 0) (whole_decided s cells false broken))
+    broken_reads n = sym (ap (λ (b : Bool). cond b n 0) (whole_no s cells broken))
 
     pub broken_tells : (b : Bool) → false ≡ is_whole (as_grid s cells) && b
-    broken_tells b = sym (ap (λ (a : Bool). a && b) (whole_decided s cells false broken))
+    broken_tells b = sym (ap (λ (a : Bool). a && b) (whole_no s cells broken))
 
     pub broken_cell : (b : Bool) (n : ℕ) → 0 ≡ cond (is_whole (as_grid s cells) && b) n 0
-    broken_cell b n = sym (ap (λ (a : Bool). cond (a && b) n 0) (whole_decided s cells false broken))
+    broken_cell b n = sym (ap (λ (a : Bool). cond (a && b) n 0) (whole_no s cells broken))
 
   pub no_cell : (t : Sides) (u : Cell) (n : ℕ) → (InBox t u → ⊥) → 0 ≡ cond (is_whole (as_grid s cells) && lies_in t u) n 0
   no_cell t u n o = go (is_whole (as_grid s cells))
     where
       go : (a : Bool) → 0 ≡ cond (a && lies_in t u) n 0
-      go true = sym (ap (λ (b : Bool). cond b n 0) (lies_decided t u false o))
+      go true = sym (ap (λ (b : Bool). cond b n 0) (lies_no t u o))
       go false = refl

@@ -1,13 +1,13 @@
 -- Lines of a turned box: a map's lines reach the cells that the map takes to the places of the turned box. Assumes nothing.
-use Prim.Native.Nat.{ℕ, ◌+◌, ◌*◌, ◌≤◌, ◌<◌}
-use mathlib.Core.Bool.{Bool, true, false, ◌||◌}
+use Prim.Native.Nat.{ℕ, ◌+◌, ◌-◌, ◌*◌, ◌≤◌, ◌<◌}
+use mathlib.Core.Bool.{Bool, true, false, cond, not, ◌||◌}
 use mathlib.Core.List.{List, map, map-map}
-use mathlib.Core.Path.{◌≡◌, sym, ap, ap₂, ◌∙◌, subst}
+use mathlib.Core.Path.{◌≡◌, refl, sym, ap, ap₂, ◌∙◌, subst}
 use mathlib.Core.Logic.{⊎_elim}
-use native.Mathlib.Nat.{mul_assoc}
+use native.Mathlib.Nat.{mul_assoc, mul-le-mul}
 use native.Mathlib.Numerals.{add-one}
 use native.Mathlib.Omega.{arith}
-use lib.Dec.{T}
+use lib.Dec.{T, eqb}
 use lib.ListN.{length, get_or, set, length-map}
 use lib.Seq.{paste, paste-suc}
 use Rattle.lists.specs.Lists.{all, each, below}
@@ -15,24 +15,34 @@ use Rattle.lists.proofs.TestLaws.{or_cases}
 use Rattle.lists.proofs.ListLaws.{map_same, map_each, each_same, all_at}
 use Rattle.lists.proofs.RangeLaws.{length_below, get_or_below}
 use Rattle.lists.proofs.PartLaws.{parts_length, parts_next}
-use Rattle.definitions.specs.Grid.{Sides, Cell, Grid, box, volume, place_of, byte_at, grid_with}
-use Rattle.definitions.specs.Maps.{Map, map_of, side, coordinate, map_sides, map_cell, map_grid, inverse, axis_of, flip_of, turns, mirrorings, transform, permutations, parity}
+use Rattle.definitions.specs.Grid.{Sides, Cell, Grid, box, volume, place_of, InBox, byte_at, grid_with}
+use Rattle.definitions.specs.Maps.{Map, map_of, side, coordinate, from_end, map_sides, map_cell, map_grid, inverse, axis_of, flip_of, turns, mirrorings, transform, permutations, parity}
 use Rattle.theorems.proofs.MapLaws.{Fits}
 use Rattle.theorems.proofs.GroupLaws.{same_map, same_map→eq, code_of}
 use Rattle.theorems.proofs.ActLaws.{maps_of}
 use Rattle.theorems.proofs.MapNumberLaws.{map_in, map_fits}
-use Rattle.shape.specs.Lines.{stride_of, line_by, step_to, line_of, layer_of, box_of, LayerIn}
+use Rattle.shape.specs.Coords.{flip_number}
+use Rattle.shape.specs.Lines.{stride_of, RunsAlong, step_to, line_of, layer_of, box_of, LayerIn}
 use Rattle.shape.specs.declared.lines.Line.{Line}
-use Rattle.shape.proofs.MapTableLaws.{third}
 use Rattle.shape.proofs.PlaceLaws.{place_lt, map_volume}
 
--- ---- strides, by the tests of the code
-pub stride_last : (s : Sides) (i : ℕ) → (i ≡ 0 → ⊥) → (i ≡ 1 → ⊥) → stride_of s i ≡ 1
-unfolding stride_of
-stride_last s i = third (s.b * s.c) s.c 1 i
+-- ---- lines along the axes of a box
+-- how far cell i of the line that runs along an axis lies from the line's place
+abbrev along_line : Sides → ℕ → ℕ → ℕ → ℕ
+along_line s axis flip i = from_end flip (side s axis) i * stride_of s axis
 
-pub line_path : {f n m i j : ℕ} → n ≡ m → i ≡ j → ◌≡◌ {A = Line} (record { flip = f; n = n; step = i }) (record { flip = f; n = m; step = j })
-line_path {f} e k = λ i. record { flip = f; n = e i; step = k i }
+step_by : {l : Line} {s : Sides} {axis flip : ℕ} → RunsAlong l s axis flip → (i : ℕ) → step_to l i ≡ along_line s axis flip i
+unfolding step_to from_end
+step_by {l} {s} {axis} {flip} r i =
+    ap₂ (λ (k d : ℕ). k * d) (ap₂ (λ (b : Bool) (n : ℕ). from_end (flip_number b) n i) r.flipped r.cells ∙ go (eqb flip 0)) r.apart
+  where
+    go : (b : Bool) → cond (eqb (flip_number (not b)) 0) i (side s axis - 1 - i) ≡ cond b i (side s axis - 1 - i)
+    go true = refl
+    go false = refl
+
+-- a line has at most 8 cells, at most 64 apart
+pub step_small : (k step : ℕ) → k ≤ 8 → step ≤ 64 → k * step ≤ 512
+step_small k step h l = mul-le-mul h l
 
 -- ---- lines of bytes: one more byte of a line, one more line of a layer, one more layer of a box
 module _ (cells : List ℕ) (start : ℕ) (z : Line) where
@@ -71,18 +81,9 @@ box_next cells x y z d l new at i start fits h is e made =
     (made ∙ ap (λ (p : ℕ). paste l (at + i * (y.n * z.n)) (layer_of cells p y z) (y.n * z.n)) e)
 
 -- ---- the lines of a map reach the cells that come to the places of the turned box: for each order of the axes
-abbrev line_x : Map → Sides → Line
-line_x m s = line_by s m.axis_x m.flip_x
-
-abbrev line_y : Map → Sides → Line
-line_y m s = line_by s m.axis_y m.flip_y
-
-abbrev line_z : Map → Sides → Line
-line_z m s = line_by s m.axis_z m.flip_z
-
 abbrev Reach : Map → Type 0
 Reach m = (s : Sides) (i j k : ℕ)
-    → place_of s (map_cell (inverse m) (map_sides m s) (record { x = i; y = j; z = k })) ≡ step_to (line_x m s) i + step_to (line_y m s) j + step_to (line_z m s) k
+    → place_of s (map_cell (inverse m) (map_sides m s) (record { x = i; y = j; z = k })) ≡ along_line s m.axis_x m.flip_x i + along_line s m.axis_y m.flip_y j + along_line s m.axis_z m.flip_z k
 
 with_axes : ℕ → ℕ → ℕ → Map → Map
 with_axes p q r m = record { axis_x = p; axis_y = q; axis_z = r; flip_x = m.flip_x; flip_y = m.flip_y; flip_z = m.flip_z }
@@ -137,51 +138,46 @@ reach m t =
     (or_cases (is_by 1 2 0 m) _ t)) (or_cases (is_by 1 0 2 m) _ t)) (or_cases (is_by 0 2 1 m) _ t)) (or_cases (is_by 0 1 2 m) _ t)
 
 -- ---- so the lines of a map that has a number, which the code reads from a table, make the mapped grid, and all their cells lie in the box
-module _ (n : ℕ) (m : Map) (e : m ≡ map_of n) where
-  reached : Reach m
-  reached = subst Reach (sym e) (reach (map_of n) (all_at ordered (maps_of (map_in n).0) (each_ordered (map_in n).0) (map_in n).1))
+pub record Turning (n : ℕ) (g : Grid) (x y z : Line) : Type 0 where
+  pub volume_is : x.n * (y.n * z.n) ≡ volume g.sides
+  pub inside : (i : ℕ) → i < x.n → LayerIn (volume g.sides) (step_to x i) y z
+  pub make : box_of g.cells x y z ≡ (map_grid (map_of n) g).cells
 
-  lines_in : (s : Sides) (i : ℕ) → i < (line_x m s).n → LayerIn (volume s) (step_to (line_x m s) i) (line_y m s) (line_z m s)
+module _ (n : ℕ) (m : Map) (e : m ≡ map_of n) (g : Grid) {x y z : Line}
+    (rx : RunsAlong x g.sides m.axis_x m.flip_x) (ry : RunsAlong y g.sides m.axis_y m.flip_y) (rz : RunsAlong z g.sides m.axis_z m.flip_z) where
+  reached : (i j k : ℕ)
+      → place_of g.sides (map_cell (inverse m) (map_sides m g.sides) (record { x = i; y = j; z = k })) ≡ step_to x i + step_to y j + step_to z k
+  reached i j k =
+      rw (step_by rx i, step_by ry j, step_by rz k)
+      (subst Reach (sym e) (reach (map_of n) (all_at ordered (maps_of (map_in n).0) (each_ordered (map_in n).0) (map_in n).1)) g.sides i j k)
+
+  lines_inside : (i : ℕ) → i < x.n → LayerIn (volume g.sides) (step_to x i) y z
   unfolding map_sides
-  lines_in s i hi j hj k hk =
+  lines_inside i hi j hj k hk =
       let u : Cell = record { x = i; y = j; z = k } in
       let fits : Fits m = subst Fits (sym e) (map_fits n) in
-      subst (λ (p : ℕ). p < volume s) (reached s i j k) (place_lt s (map_cell (inverse m) (map_sides m s) u) (fits.back s u (hi, hj, hk)))
+      let b : InBox (map_sides m g.sides) u = (omega (arith, rx.cells), omega (arith, ry.cells), omega (arith, rz.cells)) in
+      subst (λ (p : ℕ). p < volume g.sides) (reached i j k) (place_lt g.sides (map_cell (inverse m) (map_sides m g.sides) u) (fits.back g.sides u b))
 
-  lines_make : (g : Grid) → box_of g.cells (line_x m g.sides) (line_y m g.sides) (line_z m g.sides) ≡ (map_grid (map_of n) g).cells
+  lines_make : box_of g.cells x y z ≡ (map_grid (map_of n) g).cells
   unfolding box_of layer_of line_of map_grid grid_with box byte_at map_sides
-  lines_make g =
+  lines_make =
       each_same _ _ (below x.n) (λ i. each_same _ _ (below y.n) (λ j.
-      map_same _ _ (below z.n) (λ k h. ap (λ (p : ℕ). get_or g.cells p 0) (sym (reached g.sides i j k)))
+      map_same _ _ (below z.n) (λ k h. ap (λ (p : ℕ). get_or g.cells p 0) (sym (reached i j k)))
       ∙ sym (map-map f (λ k. record { x = i; y = j; z = k }) (below z.n)))
       ∙ sym (map_each f (λ j. map (λ k. record { x = i; y = j; z = k }) (below z.n)) (below y.n)))
       ∙ sym (map_each f (λ i. each (below y.n) (λ j. map (λ k. record { x = i; y = j; z = k }) (below z.n))) (below x.n))
-      ∙ ap (λ (m : Map). (map_grid m g).cells) e
+      ∙ (λ i. map f (box (record { a = rx.cells i; b = ry.cells i; c = rz.cells i }))) ∙ ap (λ (m : Map). (map_grid m g).cells) e
     where
-      x : Line
-      x = line_x m g.sides
-
-      y : Line
-      y = line_y m g.sides
-
-      z : Line
-      z = line_z m g.sides
-
       f : Cell → ℕ
       f u = byte_at g (map_cell (inverse m) (map_sides m g.sides) u)
 
-  lines_volume : (s : Sides) → (line_x m s).n * ((line_y m s).n * (line_z m s).n) ≡ volume s
+  lines_volume : x.n * (y.n * z.n) ≡ volume g.sides
   unfolding volume map_sides
-  lines_volume s =
-      ap (λ (m : Map). side s m.axis_x * (side s m.axis_y * side s m.axis_z)) e
-      ∙ sym (mul_assoc (side s (map_of n).axis_x) (side s (map_of n).axis_y) (side s (map_of n).axis_z)) ∙ map_volume n s
+  lines_volume =
+      (λ i. rx.cells i * (ry.cells i * rz.cells i))
+      ∙ ap (λ (m : Map). side g.sides m.axis_x * (side g.sides m.axis_y * side g.sides m.axis_z)) e
+      ∙ sym (mul_assoc (side g.sides (map_of n).axis_x) (side g.sides (map_of n).axis_y) (side g.sides (map_of n).axis_z)) ∙ map_volume n g.sides
 
-  module _ (g : Grid) (x y z : Line) (ex : x ≡ line_x m g.sides) (ey : y ≡ line_y m g.sides) (ez : z ≡ line_z m g.sides) where
-    pub box_in : (i : ℕ) → i < x.n → LayerIn (volume g.sides) (step_to x i) y z
-    box_in = rw (ex, ey, ez) (lines_in g.sides)
-
-    pub box_makes : box_of g.cells x y z ≡ (map_grid (map_of n) g).cells
-    box_makes = rw (ex, ey, ez) (lines_make g)
-
-    pub box_volume : x.n * (y.n * z.n) ≡ volume g.sides
-    box_volume = rw (ex, ey, ez) (lines_volume g.sides)
+  pub turning : Turning n g x y z
+  turning = record { volume_is = lines_volume; inside = lines_inside; make = lines_make }

@@ -1,44 +1,24 @@
 -- The code's constants, each by one computed test: an entry is the number of the product, or of the inverse. And the laws of map numbers and of mapped
 -- places that later code cites. Assumes nothing.
-use Prim.Native.Nat.{ℕ, zero, suc, ◌+◌, ◌*◌, ◌-◌, ◌<◌}
-use mathlib.Core.Bool.{Bool, true, false, cond, not, ◌&&◌}
-use mathlib.Core.List.{List, [], ◌∷◌, ◌++◌, map, Memᴰ}
-use mathlib.Core.Path.{◌≡◌, refl, ap, ap₂, ◌∙◌, subst}
+use Prim.Native.Nat.{ℕ, zero, suc, ◌<◌}
+use mathlib.Core.Bool.{Bool, true, false, ◌&&◌}
+use mathlib.Core.List.{List, [], map, Memᴰ}
+use mathlib.Core.Path.{◌≡◌, refl, ap, ◌∙◌}
 use native.Mathlib.Omega.{arith}
-use native.Mathlib.Nat.{suc-mul, zero-mul}
-use lib.Dec.{T, eqb, ltb, eqb→eq, ltb→lt}
-use lib.ListN.{length, get_or, length-map, get_or-append}
-use lib.Seq.{get_or-append-add}
-use Rattle.lists.specs.Lists.{all, each, before}
-use Rattle.lists.proofs.TestLaws.{and_left, and_right, is_true, is_false, not_T}
+use lib.Dec.{T, eqb, ltb, ltb→lt}
+use lib.ListN.{length, get_or}
+use Rattle.lists.specs.Lists.{all, before}
+use Rattle.lists.proofs.TestLaws.{and_left, and_right}
 use Rattle.lists.proofs.ListLaws.{get_or_map, all_at}
-use Rattle.definitions.specs.Grid.{Sides, Cell}
-use Rattle.definitions.specs.Maps.{Map, side, coordinate, from_end, map_of, maps, identity, inverse, product, axis_at, flip_at, axis_of, flip_of, turns, mirrorings, transform, permutations, parity, is_mirroring}
+use Rattle.definitions.specs.Grid.{Sides}
+use Rattle.definitions.specs.Maps.{Map, map_of, maps, identity, inverse, product, axis_at, flip_at, axis_of, flip_of, turns, mirrorings, transform, permutations, parity}
 use Rattle.theorems.proofs.GroupLaws.{same_map, same_map→eq, code_of}
 use Rattle.theorems.proofs.ActLaws.{plus, maps_of, product_in}
 use Rattle.theorems.proofs.MapNumberLaws.{map_in}
 use Rattle.shape.specs.Coords.{as_map}
+use Rattle.shape.specs.declared.Axis.{Axis}
+use Rattle.shape.specs.declared.Axis.TheVariants.{X, Y, Z}
 use Rattle.shape.specs.declared.constants.Axes.{Axes}
-
--- ---- one axis
-pub third : {A : Type 0} (a b c : A) (i : ℕ) → (i ≡ 0 → ⊥) → (i ≡ 1 → ⊥) → cond (eqb i 0) a (cond (eqb i 1) b c) ≡ c
-third a b c i x y = ap₂ (λ (p q : Bool). cond p a (cond q b c)) (is_false (eqb i 0) (λ t. x (eqb→eq i 0 t))) (is_false (eqb i 1) (λ t. y (eqb→eq i 1 t)))
-
-pub side_last : (s : Sides) (i : ℕ) → (i ≡ 0 → ⊥) → (i ≡ 1 → ⊥) → side s i ≡ s.c
-unfolding side
-side_last s i = third s.a s.b s.c i
-
-pub coordinate_last : (u : Cell) (i : ℕ) → (i ≡ 0 → ⊥) → (i ≡ 1 → ⊥) → coordinate u i ≡ u.z
-unfolding coordinate
-coordinate_last u i = third u.x u.y u.z i
-
-pub from_start : (f n i : ℕ) → f ≡ 0 → from_end f n i ≡ i
-unfolding from_end
-from_start f n i e = ap (λ (k : ℕ). from_end k n i) e
-
-pub from-end : (f n i : ℕ) → (f ≡ 0 → ⊥) → from_end f n i ≡ n - 1 - i
-unfolding from_end
-from-end f n i h = ap (λ (b : Bool). cond b i (n - 1 - i)) (is_false (eqb f 0) (λ t. h (eqb→eq f 0 t)))
 
 pub sides_path : {s t : Sides} → s.a ≡ t.a → s.b ≡ t.b → s.c ≡ t.c → s ≡ t
 sides_path x y z = λ i. record { a = x i; b = y i; c = z i }
@@ -55,49 +35,37 @@ times m n = number_of (product (map_of m) (map_of n))
 unfoldable pub inverse_number : ℕ → ℕ
 inverse_number n = number_of (inverse (map_of n))
 
--- by the whole table: a map stands at its number, below 24 if it is a turn, and from 24 on if it is a mirroring; so does its inverse
-abbrev is_in : Bool → ℕ → Bool
-is_in false n = not (is_mirroring n)
-is_in true n = is_mirroring n
+-- by the whole table: a map stands at its number, and so does its inverse
+numbered : Map → Bool
+numbered m = ltb (number_of m) 48 && same_map (map_of (number_of m)) m
 
-numbered : Bool → Map → Bool
-numbered odd m = ltb (number_of m) 48 && (same_map (map_of (number_of m)) m && is_in odd (number_of m))
-
-each_numbered : (odd : Bool) → T (all (numbered odd) (maps_of odd))
-unfolding numbered number_of is_mirroring same_map code_of map_of maps identity turns mirrorings transform permutations parity
+each_numbered : (odd : Bool) → T (all numbered (maps_of odd))
+unfolding numbered number_of same_map code_of map_of maps identity turns mirrorings transform permutations parity
 each_numbered false = tt
 each_numbered true = tt
 
-each_inverse : (odd : Bool) → T (all (λ m. numbered odd (inverse m)) (maps_of odd))
-unfolding numbered number_of is_mirroring same_map code_of map_of maps inverse axis_of flip_of identity turns mirrorings transform permutations parity
+each_inverse : (odd : Bool) → T (all (λ m. numbered (inverse m)) (maps_of odd))
+unfolding numbered number_of same_map code_of map_of maps inverse axis_of flip_of identity turns mirrorings transform permutations parity
 each_inverse false = tt
 each_inverse true = tt
 
-pub record IsNumber (odd : Bool) (m : Map) : Type 0 where
+pub record IsNumber (m : Map) : Type 0 where
   pub small : number_of m < 48
   pub right : map_of (number_of m) ≡ m
-  pub mirrors : is_mirroring (number_of m) ≡ odd
 
-is-number : (odd : Bool) (m : Map) → T (numbered odd m) → IsNumber odd m
+is-number : (m : Map) → T (numbered m) → IsNumber m
 unfolding numbered
-is-number odd m t =
-    let u = and_right (ltb (number_of m) 48) _ t in
-    record {
-      small = ltb→lt (number_of m) 48 (and_left (ltb (number_of m) 48) _ t);
-      right = same_map→eq (map_of (number_of m)) m (and_left (same_map (map_of (number_of m)) m) (is_in odd (number_of m)) u);
-      mirrors = told odd (and_right (same_map (map_of (number_of m)) m) (is_in odd (number_of m)) u);
-    }
-  where
-    told : (o : Bool) → T (is_in o (number_of m)) → is_mirroring (number_of m) ≡ o
-    told false k = not_T (is_mirroring (number_of m)) k
-    told true k = is_true (is_mirroring (number_of m)) k
+is-number m t = record {
+  small = ltb→lt (number_of m) 48 (and_left (ltb (number_of m) 48) _ t);
+  right = same_map→eq (map_of (number_of m)) m (and_right (ltb (number_of m) 48) _ t);
+}
 
-pub number_is : (odd : Bool) (m : Map) → Memᴰ m (maps_of odd) → IsNumber odd m
-number_is odd m k = is-number odd m (all_at (numbered odd) (maps_of odd) (each_numbered odd) k)
+number_is : (odd : Bool) (m : Map) → Memᴰ m (maps_of odd) → IsNumber m
+number_is odd m k = is-number m (all_at numbered (maps_of odd) (each_numbered odd) k)
 
 -- ---- products and inverses of numbers
 module _ (m n : ℕ) where
-  product_number : IsNumber (plus (map_in m).0 (map_in n).0) (product (map_of m) (map_of n))
+  product_number : IsNumber (product (map_of m) (map_of n))
   product_number = number_is (plus (map_in m).0 (map_in n).0) (product (map_of m) (map_of n)) (product_in (map_in m).0 (map_in n).0 (map_of m) (map_of n) (map_in m).1 (map_in n).1)
 
   pub times_lt : times m n < 48
@@ -109,8 +77,8 @@ module _ (m n : ℕ) where
   times_is = product_number.right
 
 module _ (n : ℕ) where
-  inverse-number : IsNumber (map_in n).0 (inverse (map_of n))
-  inverse-number = is-number (map_in n).0 (inverse (map_of n)) (all_at (λ (m : Map). numbered (map_in n).0 (inverse m)) (maps_of (map_in n).0) (each_inverse (map_in n).0) (map_in n).1)
+  inverse-number : IsNumber (inverse (map_of n))
+  inverse-number = is-number (inverse (map_of n)) (all_at (λ (m : Map). numbered (inverse m)) (maps_of (map_in n).0) (each_inverse (map_in n).0) (map_in n).1)
 
   pub inverse_lt : inverse_number n < 48
   unfolding inverse_number
@@ -121,27 +89,27 @@ module _ (n : ℕ) where
   inverse_is = inverse-number.right
 
 -- ---- the code's constants as lists, and what stands at a place of each
-row_at : {A : Type 0} (d : A) (f : A → A → ℕ) (ys xs : List A) (i j : ℕ) → i < length xs → j < length ys
-    → get_or (each xs (λ x. map (f x) ys)) (i * length ys + j) 0 ≡ f (get_or xs i d) (get_or ys j d)
-row_at d f ys [] i j h k = absurd (omega arith)
-row_at d f ys (x ∷ xs) zero j h k =
-    ap (λ (n : ℕ). get_or (map (f x) ys ++ each xs (λ x. map (f x) ys)) n 0) (let z = zero-mul (length ys) in omega arith)
-    ∙ get_or-append (map (f x) ys) (each xs (λ x. map (f x) ys)) 0 j (let e = length-map ys (f x) in omega arith)
-    ∙ get_or_map d 0 (f x) ys j k
-row_at d f ys (x ∷ xs) (suc i) j h k =
-    ap (λ (n : ℕ). get_or (map (f x) ys ++ each xs (λ x. map (f x) ys)) n 0) (let z = suc-mul i (length ys) in let e = length-map ys (f x) in omega arith)
-    ∙ get_or-append-add (map (f x) ys) (each xs (λ x. map (f x) ys)) (i * length ys + j) 0
-    ∙ row_at d f ys xs i j (omega arith) k
-
 maps_length : length maps ≡ 48
 unfolding maps turns mirrorings transform permutations parity
 maps_length = refl
 
+abbrev pub axis_of_number : ℕ → Axis
+axis_of_number zero = X
+axis_of_number (suc zero) = Y
+axis_of_number (suc (suc n)) = Z
+
 abbrev pub row_of : Map → Axes
-row_of m = record { x = m.axis_x; y = m.axis_y; z = m.axis_z; flip_x = m.flip_x; flip_y = m.flip_y; flip_z = m.flip_z }
+row_of m = record {
+  x = axis_of_number m.axis_x;
+  y = axis_of_number m.axis_y;
+  z = axis_of_number m.axis_z;
+  flip_x = eqb m.flip_x 1;
+  flip_y = eqb m.flip_y 1;
+  flip_z = eqb m.flip_z 1;
+}
 
 abbrev pub none : Axes
-none = record { x = 0; y = 0; z = 0; flip_x = 0; flip_y = 0; flip_z = 0 }
+none = record { x = X; y = X; z = X; flip_x = false; flip_y = false; flip_z = false }
 
 unfoldable pub rows : List Axes
 unfolding maps turns mirrorings transform permutations parity
@@ -151,24 +119,32 @@ unfoldable pub inverses : List ℕ
 unfolding number_of inverse axis_of flip_of maps turns mirrorings transform permutations parity
 inverses = map (λ m. number_of (inverse m)) maps
 
-unfoldable pub products : List ℕ
+unfoldable pub products : List (List ℕ)
 unfolding number_of product axis_at flip_at maps turns mirrorings transform permutations parity
-products = each maps (λ m. map (λ n. number_of (product m n)) maps)
+products = map (λ m. map (λ n. number_of (product m n)) maps) maps
+
+each_row : (odd : Bool) → T (all (λ m. same_map (as_map (row_of m)) m) (maps_of odd))
+unfolding same_map code_of turns mirrorings transform permutations parity
+each_row false = tt
+each_row true = tt
 
 pub rows_at : (n : ℕ) → n < 48 → as_map (get_or rows n none) ≡ map_of n
 unfolding rows map_of
-rows_at n h = ap as_map (get_or_map identity none row_of maps n (let e = maps_length in omega arith))
+rows_at n h =
+    ap as_map (get_or_map identity none row_of maps n (let e = maps_length in omega arith))
+    ∙ same_map→eq (as_map (row_of (map_of n))) (map_of n) (all_at (λ m. same_map (as_map (row_of m)) m) (maps_of (map_in n).0) (each_row (map_in n).0) (map_in n).1)
 
 pub inverses_at : (n : ℕ) → n < 48 → get_or inverses n 0 ≡ inverse_number n
 unfolding inverses inverse_number map_of
 inverses_at n h = get_or_map identity 0 (λ m. number_of (inverse m)) maps n (let e = maps_length in omega arith)
 
-pub products_at : (m n : ℕ) → m < 48 → n < 48 → get_or products (m * 48 + n) 0 ≡ times m n
+pub products_at : (m n : ℕ) → m < 48 → n < 48 → get_or (get_or products m []) n 0 ≡ times m n
 unfolding products times map_of
 products_at m n h k =
-    subst (λ (l : ℕ). get_or products (m * l + n) 0 ≡ times m n) maps_length
-    (row_at identity (λ a b. number_of (product a b)) maps maps m n (let e = maps_length in omega arith) (let e = maps_length in omega arith))
+    let e = maps_length in
+    ap (λ (row : List ℕ). get_or row n 0) (get_or_map identity [] (λ a. map (λ b. number_of (product a b)) maps) maps m (omega arith))
+    ∙ get_or_map identity 0 (λ b. number_of (product (get_or maps m identity) b)) maps n (omega arith)
 
-pub map_zero : map_of 0 ≡ identity
+pub zero_identity : map_of 0 ≡ identity
 unfolding map_of maps turns mirrorings transform permutations parity identity
-map_zero = refl
+zero_identity = refl

@@ -161,19 +161,12 @@ pub mapped_fit : (m : Map) (s : Sides) → Fit s → Fit (map_sides m s)
 unfolding map_sides
 mapped_fit m s h = record { a = side_fit s h m.axis_x; b = side_fit s h m.axis_y; c = side_fit s h m.axis_z }
 
--- the parts of a place stay small
-pub record Small (s : Sides) (u : Cell) : Type 0 where
-  pub first : u.x * s.b ≤ 64
-  pub second : (u.x * s.b + u.y) * s.c ≤ 576
-  pub third : s.b * s.c ≤ 64
-
-pub place_small : (s : Sides) (u : Cell) → InBox s u → Fit s → Small s u
-place_small s u w h =
-    let hx : u.x ≤ 8 = let a = w.0 in let b = h.a in omega arith in
-    let first : u.x * s.b ≤ 64 = mul-le-mul hx h.b in
-    let both : u.x * s.b + u.y ≤ 72 = let a = w.1 in let b = h.b in omega arith in
-    record { first = first; second = mul-le-mul both h.c; third = mul-le-mul h.b h.c }
+pub two_sides : (b c : ℕ) → b ≤ 8 → c ≤ 8 → b * c ≤ 64
+two_sides b c h k = mul-le-mul h k
 
 pub volume_small : (s : Sides) → Fit s → (s.a * s.b ≤ 64) × (volume s ≤ 512)
 unfolding volume
 volume_small s h = let f : s.a * s.b ≤ 64 = mul-le-mul h.a h.b in (f, mul-le-mul f h.c)
+
+pub volume_fits : (s : Sides) → Fit s → volume s ≤ 512
+volume_fits s h = (volume_small s h).1

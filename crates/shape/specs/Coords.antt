@@ -1,7 +1,9 @@
 -- What the code's values stand for among the definitions of document 01.
-use Rattle.std.specs.Prelude.{◌≤◌, Bool, ◌&&◌, ltb, leb}
+use Rattle.std.specs.Prelude.{ℕ, ◌≤◌, Bool, true, false, ◌&&◌, ltb, leb}
 use Rattle.definitions.specs.Grid.{Sides, Cell}
 use Rattle.definitions.specs.Maps.{Map}
+use Rattle.shape.specs.declared.Axis.{Axis}
+use Rattle.shape.specs.declared.Axis.TheVariants.{X, Y, Z}
 use Rattle.shape.specs.declared.Coord.{Coord}
 use Rattle.shape.specs.declared.constants.Axes.{Axes}
 
@@ -11,8 +13,26 @@ as_sides s = record { a = s.0; b = s.1; c = s.2 }
 abbrev pub as_cell : Coord → Cell
 as_cell u = record { x = u.0; y = u.1; z = u.2 }
 
+-- an axis and a flip, as the numbers that a map has for them
+abbrev pub axis_number : Axis → ℕ
+axis_number X = 0
+axis_number Y = 1
+axis_number Z = 2
+
+abbrev pub flip_number : Bool → ℕ
+flip_number false = 0
+flip_number true = 1
+
 abbrev pub as_map : Axes → Map
-as_map e = record { axis_x = e.x; axis_y = e.y; axis_z = e.z; flip_x = e.flip_x; flip_y = e.flip_y; flip_z = e.flip_z }
+as_map e =
+    record {
+      axis_x = axis_number e.x;
+      axis_y = axis_number e.y;
+      axis_z = axis_number e.z;
+      flip_x = flip_number e.flip_x;
+      flip_y = flip_number e.flip_y;
+      flip_z = flip_number e.flip_z;
+    }
 
 -- no side is above 8
 pub record Fit (s : Sides) : Type 0 where

@@ -4,8 +4,8 @@ use Rattle.lists.specs.Lists.{less, same}
 use Rattle.definitions.specs.Grid.{Sides, Grid, volume, same_grid, grid_ahead}
 use Rattle.shape.specs.Coords.{as_sides, Fit, is_fit}
 use Rattle.shape.specs.declared.Coord.{Coord}
-use Rattle.shape.specs.declared.Ordering.{Ordering}
-use Rattle.shape.specs.declared.Ordering.TheVariants.{Less, Equal, Greater}
+use Rattle.std.specs.declared.cmp.Ordering.{Ordering}
+use Rattle.std.specs.declared.cmp.Ordering.TheVariants.{Less, Equal, Greater}
 
 abbrev pub as_grid : Coord → List ℕ → Grid
 as_grid s cells = record { sides = as_sides s; cells = cells }
@@ -18,11 +18,6 @@ pub record Whole (s : Coord) (cells : List ℕ) : Type 0 where
 -- whether that is so of a grid
 unfoldable pub is_whole : Grid → Bool
 is_whole g = is_fit g.sides && eqb (length g.cells) (volume g.sides)
-
--- what an answer tells: the fact, or that it does not hold
-abbrev pub Decided : Bool → Type 0 → Type 0
-Decided true P = P
-Decided false P = P → ⊥
 
 -- how two things compare, by a test that says whether one stands ahead, and one that says whether they are the same
 abbrev pub order_by : Bool → Bool → Ordering

@@ -1,6 +1,8 @@
 pub mod Coords
 pub mod Places
 pub mod Grids
+pub mod CubicGrids
+pub mod Orders
 pub mod Scans
 pub mod Lines
 pub mod Variants

@@ -1,21 +1,21 @@
 -- Scan order, cell by cell.
-use Rattle.std.specs.Prelude.{ℕ, ◌*◌, ◌/◌, ◌%◌, ◌≤◌, Bool, cond, ◌&&◌, ◌||◌, List, [], ◌∷◌, map, ◌≡◌, ltb, eqb, length, take, drop, get_or}
+use Rattle.std.specs.Prelude.{ℕ, ◌*◌, ◌/◌, ◌%◌, ◌≤◌, Bool, cond, ◌&&◌, ◌||◌, List, map, ◌≡◌, ltb, eqb, length, take, drop, get_or}
 use Rattle.lists.specs.Lists.{same}
 use Rattle.definitions.specs.Grid.{Sides, Cell, Grid}
 use Rattle.definitions.specs.Maps.{side, coordinate}
-use Rattle.definitions.specs.Scan.{axes, cell_ahead, scan}
+use Rattle.definitions.specs.Scan.{cell_ahead, scan}
+pub use Rattle.shape.specs.Orders.{EachOnce, IsOrder, axis_list}
 use Rattle.shape.specs.Places.{cell_at}
 use Rattle.shape.specs.Grids.{order_by}
-use Rattle.shape.specs.declared.Ordering.{Ordering}
-use Rattle.shape.specs.declared.scan.AxisOrder.{AxisOrder}
+use Rattle.std.specs.declared.cmp.Ordering.{Ordering}
+use Rattle.shape.specs.declared.orders.AxisOrder.{AxisOrder}
 
 abbrev pub as_order : AxisOrder → List ℕ
-as_order o = o.0 ∷ o.1 ∷ o.2 ∷ []
+as_order o = axis_list o.first o.second o.third
 
--- the order of some box's axes
-pub record IsOrder (order : List ℕ) : Type 0 where
-  pub box : Sides
-  pub is_its : axes box ≡ order
+-- a cell's coordinates along the axes of an order
+abbrev pub cell_along : List ℕ → Cell → Cell
+cell_along order u = record { x = coordinate u (get_or order 0 0); y = coordinate u (get_or order 1 0); z = coordinate u (get_or order 2 0) }
 
 -- how two cells compare in an order of the axes
 unfoldable pub cell_order : List ℕ → Cell → Cell → Ordering

@@ -1,15 +1,16 @@
-// Cells of a box and their places: x slowest, z fastest.
-ghost use Rattle.std.specs.Prelude.{cond, ◌≡◌, ◌+◌, ◌<◌, ◌≤◌};
+// Cells of a box and their places: x slowest, z fastest. Sides are a plain `Coord` that each function asks to fit: those of a grid that is lent whole
+// do, but so do a part's, a mapped box's and a record's that was let pass, and a type for sides would be made anew at each such call.
+ghost use Rattle.std.specs.Prelude.{cond, ◌≡◌, ◌+◌, ◌<◌, ◌≤◌, ◌↔◌, IsTrue};
 ghost use Rattle.definitions.specs.Grid.{volume, place_of, InBox};
 ghost use Rattle.definitions.specs.Maps.{map_of};
 ghost use Rattle.shape.specs.Coords.{as_sides, as_cell, Fit, is_fit};
-ghost use Rattle.shape.specs.Grids.{Decided};
 ghost use Rattle.shape.specs.Places.{cell_at, image_place, source_place};
 
 use super::Coord;
 use super::maps::Map;
 
 // How many cells a box has whose sides are at most 8.
+#[tactic(auto, using(crate::proofs::PlaceLaws::volume_fits), unfolding(definitions::specs::Grid::volume))]
 pub(crate) fn fit_volume(s: Coord) -> usize
     requires { Fit (as_sides s) }
     ensures { (result ≡ volume (as_sides s)) × (result ≤ 512) }
@@ -17,35 +18,28 @@ pub(crate) fn fit_volume(s: Coord) -> usize
     s.0 * s.1 * s.2
 }
 
+// Whether no side of a box is above 8.
+pub(crate) fn is_fit(s: Coord) -> bool
+    ensures { IsTrue result ↔ Fit (as_sides s) }
+{
+    s.0 <= 8 && s.1 <= 8 && s.2 <= 8
+}
+
 // How many cells a box has; 0 where a side is above 8.
 pub fn volume_of(s: Coord) -> usize
     ensures { (result ≡ cond (is_fit (as_sides s)) (volume (as_sides s)) 0) × (result ≤ 512) }
 {
-    if 8 < s.0 {
-        return 0;
-    }
-    if 8 < s.1 {
-        return 0;
-    }
-    if 8 < s.2 {
-        return 0;
-    }
-    fit_volume(s)
+    if is_fit(s) { fit_volume(s) } else { 0 }
 }
 
 // Whether a box has a cell.
 pub fn in_box(s: Coord, u: Coord) -> bool
-    ensures { Decided result (InBox (as_sides s) (as_cell u)) }
+    ensures { IsTrue result ↔ InBox (as_sides s) (as_cell u) }
 {
-    if s.0 <= u.0 {
-        return false;
-    }
-    if s.1 <= u.1 {
-        return false;
-    }
-    u.2 < s.2
+    u.0 < s.0 && u.1 < s.1 && u.2 < s.2
 }
 
+// The place of a cell of a box.
 pub fn place(s: Coord, u: Coord) -> usize
     requires { Fit (as_sides s) × InBox (as_sides s) (as_cell u) }
     ensures { (result ≡ place_of (as_sides s) (as_cell u)) × (result < volume (as_sides s)) }
@@ -53,6 +47,7 @@ pub fn place(s: Coord, u: Coord) -> usize
     (u.0 * s.1 + u.1) * s.2 + u.2
 }
 
+// The cell at a place of a box.
 pub fn cell_at(s: Coord, i: usize) -> Coord
     requires { Fit (as_sides s) × (i < volume (as_sides s)) }
     ensures { (as_cell result ≡ cell_at (as_sides s) i) × InBox (as_sides s) (as_cell result) }

@@ -2,23 +2,48 @@
 // kinds (utils.rs and shape.rs of the original). A grid is lent as its cells, a slice with one byte a cell, and its three sides.
 #![tactic(auto)]
 
+ghost use Rattle.std.specs.Prelude.{◌≡◌};
+ghost use Rattle.definitions.specs.Maps.{side, coordinate};
+ghost use Rattle.shape.specs.Coords.{as_sides, as_cell, axis_number};
+
 pub mod cells;
 mod constants;
+mod cubic_grid;
 pub mod grids;
 mod lines;
 pub mod maps;
+mod orders;
 pub mod scan;
 pub mod stripping;
+mod turns;
 pub mod variants;
 
+pub use cubic_grid::CubicGrid;
+pub use orders::AxisOrder;
+
+// An axis of a box.
+#[derive(Clone, Copy, PartialEq, Eq, PartialOrd, Ord)]
+pub enum Axis {
+    X,
+    Y,
+    Z,
+}
+
 // Three sides of a box, or the three coordinates of a cell.
-#[derive(Clone, Copy)]
+#[derive(Clone, Copy, PartialEq, Eq, PartialOrd, Ord)]
 pub struct Coord(pub usize, pub usize, pub usize);
 
-// How two things compare.
-#[derive(Clone, Copy)]
-pub enum Ordering {
-    Less,
-    Equal,
-    Greater,
+impl Coord {
+    // What stands along an axis.
+    #[tactic(auto, unfolding(definitions::specs::Maps::side, definitions::specs::Maps::coordinate))]
+    pub fn pick(self, axis: Axis) -> usize
+        ensures of_sides { result ≡ side (as_sides self) (axis_number axis) }
+        ensures of_cell { result ≡ coordinate (as_cell self) (axis_number axis) }
+    {
+        match axis {
+            Axis::X => self.0,
+            Axis::Y => self.1,
+            Axis::Z => self.2,
+        }
+    }
 }

@@ -1,10 +1,10 @@
 // The 48 signed axis permutations, by number.
 ghost use Rattle.std.specs.Prelude.{◌≡◌, ◌<◌};
 ghost use Rattle.definitions.specs.Maps.{map_of, inverse, product, map_sides, map_cell, side, coordinate, from_end};
-ghost use Rattle.shape.specs.Coords.{as_sides, as_cell, as_map};
+ghost use Rattle.shape.specs.Coords.{as_sides, as_cell, as_map, axis_number, flip_number};
 
-use super::Coord;
 use super::constants::{Axes, INVERSES, MAPS, PRODUCTS};
+use super::{Axis, Coord};
 
 // A map, by its number: below 24 a turn, from 24 to 47 a mirroring. A larger number stands for the map that moves nothing.
 #[derive(Clone, Copy)]
@@ -15,17 +15,14 @@ impl Map {
     pub fn inverse(self) -> Map
         ensures { (result.0 < 48) × (map_of result.0 ≡ inverse (map_of self.0)) }
     {
-        let n = self.index();
-        Map(INVERSES[n])
+        Map(INVERSES[self.index()])
     }
 
     // `Mul` of the original: first other, then self.
     pub fn compose(self, other: Map) -> Map
         ensures { (result.0 < 48) × (map_of result.0 ≡ product (map_of self.0) (map_of other.0)) }
     {
-        let m = self.index();
-        let n = other.index();
-        Map(PRODUCTS[m * 48 + n])
+        Map(PRODUCTS[self.index()][other.index()])
     }
 
     // The number as an index into the constants.
@@ -33,15 +30,14 @@ impl Map {
         ensures { (result < 48) × (map_of result ≡ map_of self.0) }
     {
         let n = self.0;
-        if n < 48 { n as usize } else { 0 }
+        if n < 48 { usize::from(n) } else { 0 }
     }
 
     // The axes and flips of the map.
     pub(crate) fn axes_of(self) -> Axes
         ensures { as_map result ≡ map_of self.0 }
     {
-        let n = self.index();
-        MAPS[n]
+        MAPS[self.index()]
     }
 
     // The sides of a box after the map.
@@ -49,7 +45,7 @@ impl Map {
         ensures { as_sides result ≡ map_sides (map_of self.0) (as_sides s) }
     {
         let e = self.axes_of();
-        Coord(pick(e.x, s), pick(e.y, s), pick(e.z, s))
+        Coord(s.pick(e.x), s.pick(e.y), s.pick(e.z))
     }
 
     // Where the map takes a cell of a box with the sides s.
@@ -65,30 +61,15 @@ impl Map {
     }
 }
 
-// What stands at an axis number.
-pub fn pick(axis: u8, s: Coord) -> usize
-    ensures { (result ≡ side (as_sides s) axis) × (result ≡ coordinate (as_cell s) axis) }
-{
-    if axis == 0 {
-        s.0
-    } else if axis == 1 {
-        s.1
-    } else {
-        s.2
-    }
-}
-
 // A cell's coordinate along an axis, counted from the other end where the flip is set.
-fn along(axis: u8, flip: u8, s: Coord, u: Coord) -> usize
-    ensures { result ≡ from_end flip (side (as_sides s) axis) (coordinate (as_cell u) axis) }
+#[tactic(auto, unfolding(definitions::specs::Maps::from_end))]
+fn along(axis: Axis, flip: bool, s: Coord, u: Coord) -> usize
+    ensures { result ≡ from_end (flip_number flip) (side (as_sides s) (axis_number axis)) (coordinate (as_cell u) (axis_number axis)) }
 {
-    let n = pick(axis, s);
-    let i = pick(axis, u);
-    if flip == 0 {
-        i
-    } else if i < n {
-        n - 1 - i
+    let i = u.pick(axis);
+    if flip {
+        s.pick(axis).saturating_sub(1).saturating_sub(i)
     } else {
-        0
+        i
     }
 }

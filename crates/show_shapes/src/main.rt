@@ -2,199 +2,135 @@
 // and how the grids compare by their smallest turned grids. The stored output is the original's (oracle, `shapes`).
 #![tactic(auto)]
 
-ghost use Rattle.std.specs.Prelude.{◌≤◌, length};
-ghost use Rattle.shape.specs.Grids.{Whole};
-ghost use Rattle.shape.specs.Scans.{IsOrder, as_order};
-
 use shape::maps::Map;
-use shape::scan::AxisOrder;
-use shape::{Coord, Ordering, cells, grids, scan, variants};
+use shape::{AxisOrder, Coord, CubicGrid, grids, scan, variants};
+use std::cmp::Ordering;
+use std::io;
 
-// The file descriptor of standard output.
-const STDOUT_FILENO: i32 = 1;
-
-fn number(n: usize) {
-    io::write_all(STDOUT_FILENO, b" ");
-    io::print_decimal(STDOUT_FILENO, n as u64);
-}
-
-fn bit(b: u8) {
-    if b == 1 {
-        io::write_all(STDOUT_FILENO, b"1");
-    } else {
-        io::write_all(STDOUT_FILENO, b"0");
-    }
-}
-
-fn end() {
-    io::write_all(STDOUT_FILENO, b"\n");
-}
-
-fn coord(s: Coord) {
-    number(s.0);
-    number(s.1);
-    number(s.2);
+fn show_coord(rt: &impl Print, s: Coord) -> io::Result<()> {
+    print!(rt; " {} {} {}", s.0, s.1, s.2)
 }
 
 // A turned grid: sides, then cells.
-fn turned(cells: &[u8], s: Coord, m: Map)
-    requires { Whole s cells.now }
-{
-    coord(m.sides(s));
-    io::write_all(STDOUT_FILENO, b" ");
-    let v = cells::volume_of(s);
-    let mut j = 0;
-    while j < v {
-        bit(grids::turned_byte(cells, s, m, j));
-        j += 1;
+fn show_turned(rt: &impl Print, grid: &CubicGrid, m: Map) -> io::Result<()> {
+    show_coord(rt, m.sides(grid.sides))?;
+    print!(rt; " ")?;
+    for j in 0..grid.cells.len() {
+        let cell = grids::turned_byte(grid.cells, grid.sides, m, j);
+        print!(rt; "{cell}")?;
     }
-    end();
+    println!(rt)
 }
 
-fn all_turned(cells: &[u8], s: Coord)
-    requires { Whole s cells.now }
-{
-    let mut m: u8 = 0;
-    while m < 48 {
-        io::write_all(STDOUT_FILENO, b"map");
-        number(m as usize);
-        turned(cells, s, Map(m));
-        m += 1;
+fn show_maps(rt: &impl Print, grid: &CubicGrid) -> io::Result<()> {
+    for m in 0..48 {
+        print!(rt; "map {m}")?;
+        show_turned(rt, grid, Map(m))?;
     }
+    Ok(())
 }
 
-fn symmetries(cells: &[u8], s: Coord)
-    requires { Whole s cells.now }
-{
-    io::write_all(STDOUT_FILENO, b"symmetries");
-    let mut m: u8 = 0;
-    while m < 48 {
-        if grids::keeps(cells, s, Map(m)) {
-            number(m as usize);
-        }
-        m += 1;
+fn show_variants(rt: &impl Print, grid: &CubicGrid, order: AxisOrder) -> io::Result<()> {
+    let mut turned = [0; 12288];
+    variants::turn_all(grid, &mut turned);
+    let mut turnings = [0; 24];
+    let n = variants::variants_of(grid, &turned, &mut turnings);
+    for &m in &turnings[..n] {
+        print!(rt; "variant")?;
+        show_coord(rt, scan::origin_of(grid, Map(m), order))?;
+        show_turned(rt, grid, Map(m))?;
     }
-    end();
+    Ok(())
 }
 
-fn all_variants(cells: &[u8], s: Coord, order: AxisOrder)
-    requires { Whole s cells.now × IsOrder (as_order order) }
-{
-    let mut grids = [0u8; 12288];
-    variants::turn_all(cells, s, &mut grids);
-    let mut turnings = [0u8; 24];
-    let n = variants::variants_of(cells, s, &grids, &mut turnings);
-    let mut i = 0;
-    while i < n {
-        let k = turnings[i];
-        let m = Map(k);
-        io::write_all(STDOUT_FILENO, b"variant");
-        coord(scan::origin_of(cells, s, m, order));
-        turned(cells, s, m);
-        i += 1;
-    }
-}
-
-// The first n of some places.
-fn listed(places: &[u16], n: usize)
-    requires { n ≤ length places.now }
-{
-    let mut i = 0;
-    while i < n {
-        number(places[i] as usize);
-        i += 1;
-    }
-}
-
-fn scanned(cells: &[u8], s: Coord, order: AxisOrder)
-    requires { Whole s cells.now × IsOrder (as_order order) }
-{
-    let mut places = [0u16; 512];
-    let n = scan::plan_coords(cells, s, order, &mut places);
-    io::write_all(STDOUT_FILENO, b"scan");
-    listed(&places, n);
-    end();
-}
-
-fn show(cells: &[u8], a: usize, b: usize, c: usize) {
-    let s = Coord(a, b, c);
-    if !grids::is_whole(cells, s) {
-        return;
-    }
-    let order = scan::plan_axis_order(s);
-    all_turned(cells, s);
-    all_variants(cells, s, order);
-    symmetries(cells, s);
-    scanned(cells, s, order);
-}
-
-fn ordering(o: Ordering) {
-    match o {
-        Ordering::Less => {
-            io::write_all(STDOUT_FILENO, b" less");
-        }
-        Ordering::Equal => {
-            io::write_all(STDOUT_FILENO, b" equal");
-        }
-        Ordering::Greater => {
-            io::write_all(STDOUT_FILENO, b" greater");
+fn show_symmetries(rt: &impl Print, grid: &CubicGrid) -> io::Result<()> {
+    print!(rt; "symmetries")?;
+    for m in 0..48 {
+        if grids::keeps(grid.cells, grid.sides, Map(m)) {
+            print!(rt; " {m}")?;
         }
     }
+    println!(rt)
 }
 
-// Two grids by their smallest turned grids, then the first's mirror image and the second.
+fn show_scan(rt: &impl Print, grid: &CubicGrid, order: AxisOrder) -> io::Result<()> {
+    let mut places = [0; 512];
+    let n = scan::plan_coords(grid, order, &mut places);
+    print!(rt; "scan")?;
+    for place in &places[..n] {
+        print!(rt; " {place}")?;
+    }
+    println!(rt)
+}
+
+// All of a grid; nothing where the cells do not make one.
+fn show(rt: &impl Print, cells: &[u8], sides: Coord) -> io::Result<()> {
+    let Some(grid) = CubicGrid::new(cells, sides) else {
+        return Ok(());
+    };
+    let order = scan::plan_axis_order(sides);
+    show_maps(rt, &grid)?;
+    show_variants(rt, &grid, order)?;
+    show_symmetries(rt, &grid)?;
+    show_scan(rt, &grid, order)
+}
+
+fn name_of(order: Ordering) -> &'static str {
+    match order {
+        Ordering::Less => "less",
+        Ordering::Equal => "equal",
+        Ordering::Greater => "greater",
+    }
+}
+
+// Two grids by their smallest turned grids, then the first's mirror image and the second; nothing where one of them is none.
 fn compare(
+    rt: &impl Print,
     cells: &[u8],
-    a: usize,
-    b: usize,
-    c: usize,
+    sides: Coord,
     others: &[u8],
-    d: usize,
-    e: usize,
-    f: usize,
-) {
-    let s = Coord(a, b, c);
-    let t = Coord(d, e, f);
-    if !grids::is_whole(cells, s) {
-        return;
-    }
-    if !grids::is_whole(others, t) {
-        return;
-    }
-    io::write_all(STDOUT_FILENO, b"kinds");
-    ordering(variants::compare_smallest(cells, s, Map(0), others, t, Map(0)));
-    ordering(variants::compare_smallest(cells, s, Map(26), others, t, Map(0)));
-    end();
+    other_sides: Coord,
+) -> io::Result<()> {
+    let Some(grid) = CubicGrid::new(cells, sides) else {
+        return Ok(());
+    };
+    let Some(other) = CubicGrid::new(others, other_sides) else {
+        return Ok(());
+    };
+    let order = name_of(variants::compare_smallest(&grid, Map(0), &other, Map(0)));
+    let mirrored = name_of(variants::compare_smallest(&grid, Map(26), &other, Map(0)));
+    println!(rt; "kinds {order} {mirrored}")
 }
 
-fn main() {
-    let one = [1u8];
-    let domino = [1u8, 1];
-    let corner = [1u8, 1, 1, 0];
-    let handed = [1u8, 1, 1, 0, 0, 1, 0, 0];
-    let partner = [1u8, 1, 1, 0, 0, 0, 1, 0];
-    let apart = [1u8, 0, 1];
-    let hollow = [1u8, 1, 1, 1, 0, 1, 1, 1, 1];
-    let row = [1u8, 1, 1, 0];
+fn main(rt: HostRuntime) -> io::Result<()> {
+    let one = [1];
+    let domino = [1, 1];
+    let corner = [1, 1, 1, 0];
+    let handed = [1, 1, 1, 0, 0, 1, 0, 0];
+    let partner = [1, 1, 1, 0, 0, 0, 1, 0];
+    let apart = [1, 0, 1];
+    let hollow = [1, 1, 1, 1, 0, 1, 1, 1, 1];
+    let row = [1, 1, 1, 0];
     let mixed = [
-        1u8, 1, 0, 1, 0, 0, 1, 0, 0, 0, 1, 0, 0, 1, 0, 0, 1, 0, 0, 0, 0, 0, 0, 1,
+        1, 1, 0, 1, 0, 0, 1, 0, 0, 0, 1, 0, 0, 1, 0, 0, 1, 0, 0, 0, 0, 0, 0, 1,
     ];
-    show(&one, 1, 1, 1);
-    show(&domino, 1, 1, 2);
-    show(&corner, 1, 2, 2);
-    show(&handed, 2, 2, 2);
-    show(&partner, 2, 2, 2);
-    show(&apart, 1, 1, 3);
-    show(&hollow, 1, 3, 3);
-    show(&row, 1, 1, 4);
-    show(&mixed, 2, 3, 4);
-    compare(&one, 1, 1, 1, &domino, 1, 1, 2);
-    compare(&domino, 1, 1, 2, &domino, 2, 1, 1);
-    compare(&corner, 1, 2, 2, &corner, 2, 2, 1);
-    compare(&handed, 2, 2, 2, &partner, 2, 2, 2);
-    compare(&partner, 2, 2, 2, &handed, 2, 2, 2);
-    compare(&handed, 2, 2, 2, &handed, 2, 2, 2);
-    compare(&hollow, 1, 3, 3, &hollow, 3, 1, 3);
-    compare(&apart, 1, 1, 3, &row, 1, 1, 4);
-    compare(&mixed, 2, 3, 4, &mixed, 4, 3, 2);
+    let cube = Coord(2, 2, 2);
+    show(&rt, &one, Coord(1, 1, 1))?;
+    show(&rt, &domino, Coord(1, 1, 2))?;
+    show(&rt, &corner, Coord(1, 2, 2))?;
+    show(&rt, &handed, cube)?;
+    show(&rt, &partner, cube)?;
+    show(&rt, &apart, Coord(1, 1, 3))?;
+    show(&rt, &hollow, Coord(1, 3, 3))?;
+    show(&rt, &row, Coord(1, 1, 4))?;
+    show(&rt, &mixed, Coord(2, 3, 4))?;
+    compare(&rt, &one, Coord(1, 1, 1), &domino, Coord(1, 1, 2))?;
+    compare(&rt, &domino, Coord(1, 1, 2), &domino, Coord(2, 1, 1))?;
+    compare(&rt, &corner, Coord(1, 2, 2), &corner, Coord(2, 2, 1))?;
+    compare(&rt, &handed, cube, &partner, cube)?;
+    compare(&rt, &partner, cube, &handed, cube)?;
+    compare(&rt, &handed, cube, &handed, cube)?;
+    compare(&rt, &hollow, Coord(1, 3, 3), &hollow, Coord(3, 1, 3))?;
+    compare(&rt, &apart, Coord(1, 1, 3), &row, Coord(1, 1, 4))?;
+    compare(&rt, &mixed, Coord(2, 3, 4), &mixed, Coord(4, 3, 2))
 }

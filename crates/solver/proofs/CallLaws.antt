@@ -4,8 +4,10 @@ use Prim.Native.Nat.{ℕ, ◌*◌, ◌/◌, ◌≤◌, ◌<◌}
 use mathlib.Core.Bool.{true, false, cond}
 use mathlib.Core.List.{List}
 use mathlib.Core.Path.{◌≡◌, refl, sym, ap, ◌∙◌, subst}
+use mathlib.Core.Logic.{◌⊎◌, inl, inr}
 use native.Mathlib.Omega.{arith}
 use lib.ListN.{length}
+use Rattle.std.specs.Prelude.{Err}
 use Rattle.placements.proofs.RefusalLaws.{sides_some}
 use Rattle.definitions.specs.Kept.{Identify}
 use Rattle.definitions.specs.Emission.{Emitted, answers_in, begin, emits}
@@ -14,18 +16,19 @@ use Rattle.definitions.specs.Outcomes.{answers_of, cleared, number_of, outcome_o
 use Rattle.definitions.specs.Refusals.{Call, identify_of, is_knuth, lent_of, refusal, tray_of}
 use Rattle.definitions.specs.Starts.{PageIs, list_of, outcome_from, reply_of, skip_at, skipping, waits_at}
 use Rattle.definitions.specs.declared.Config.{Config}
-use Rattle.definitions.specs.declared.Listing.TheVariants as listing
 use Rattle.definitions.specs.declared.Record.{Record}
 use Rattle.definitions.specs.declared.Refusal.{Refusal}
 use Rattle.definitions.specs.declared.SolverKind.{SolverKind}
 use Rattle.definitions.specs.declared.SolverKind.TheVariants.{Auto, Naive, Fast, KnuthAlgorithm}
 use Rattle.definitions.specs.declared.Start.{Start}
+use Rattle.theorems.proofs.EmissionLaws.{emits_none}
 use Rattle.theorems.proofs.RefusalLaws.{board_sides, passed}
 use Rattle.theorems.proofs.StartLaws.{cleared_again, from_refused, page_is, page_outcome}
 use Rattle.placements.specs.Pieces.{tray_in}
 use Rattle.placements.proofs.CountingLaws.{refused_some}
 use Rattle.placements.proofs.StageLaws.{refusal_stages}
 use Rattle.rows.specs.declared.Dims.{Dims}
+use Rattle.rows.specs.declared.chart.Chart.{Chart}
 use Rattle.rows.specs.Systems.{System, system_in, system_of}
 use Rattle.kept.specs.Emission.{emitted_of}
 use Rattle.kept.specs.declared.emission.Emission.{Emission}
@@ -48,6 +51,13 @@ pub by_engine : {solver engine : SolverKind} → solver ≡ engine → (s : Syst
     → new ≡ emits room (answers_by s i engine) old → LinksAfter engine links links' → (new ≡ emits room (answers_by s i solver) old) × LinksAfter solver links links'
 by_engine e s i room old new links links' f k = subst (λ (x : SolverKind). (new ≡ emits room (answers_by s i x) old) × LinksAfter x links links') (sym e) (f, k)
 
+-- an engine that is not ported lists nothing
+pub unported : {solver : SolverKind} → (solver ≡ Auto) ⊎ (solver ≡ Naive) → (s : System) (i : Identify) (room : ℕ) (old : Emitted) (links : List ℕ)
+    → (old ≡ emits room (answers_by s i solver) old) × LinksAfter solver links links
+unfolding answers_by LinksAfter
+unported (inl e) s i room old links = by_engine e s i room old old links links (sym (emits_none room old)) refl
+unported (inr e) s i room old links = by_engine e s i room old old links links (sym (emits_none room old)) refl
+
 -- an engine builds links and they are cleared, or it leaves them
 links_cleared : (e : SolverKind) (old mid new : List ℕ) → LinksAfter e old mid → new ≡ cond (is_knuth e) (cleared 32768 mid) mid → new ≡ cond (is_knuth e) (cleared 32768 old) old
 unfolding LinksAfter is_knuth
@@ -65,13 +75,13 @@ module _ (rs : List Record) (board : Record) (bytes : List ℕ) (config : Config
   refusal_is = refusal_stages (call_with rs board bytes config answers work links)
 
   pub refused_outcome : (start : Start) (last : List ℕ) (why : Refusal) → number_of why ≡ refusal_by rs board bytes config (length work) (length links)
-      → outcome_of (listing.Refused why) answers work links ≡ outcome_from start last (call_with rs board bytes config answers work links)
+      → outcome_of (Err why) answers work links ≡ outcome_from start last (call_with rs board bytes config answers work links)
   unfolding outcome_of refused call_with
   refused_outcome start last why e =
       ap (λ (n : ℕ). refused n call) (e ∙ sym refusal_is) ∙ sym (from_refused start last call (λ z. refused_some why (e ∙ sym refusal_is ∙ z)))
 
   -- ---- a call that is not refused
-  module _ (d : Dims) (after chart : List ℕ) (s : Stands d rs board bytes config (length links) work after chart) where
+  module _ (d : Dims) (after : List ℕ) (chart : Chart) (s : Stands d rs board bytes config (length links) work after chart) where
     ok : refusal (call_with rs board bytes config answers work links) ≡ 0
     ok = refusal_is ∙ s.accepted
 
@@ -99,21 +109,18 @@ module _ (rs : List Record) (board : Record) (bytes : List ℕ) (config : Config
     answers-are = ap (λ (x : System). answers_in (answers_by x (identify_of config) config.solver)) s.system ∙ lists call ok (identify_of config) config.solver
 
     -- what an engine emits from where the page starts, and the slices once they are cleared
-    module _ (start : Start) (last : List ℕ) (e r : Emission) (waits : e.waiting ≡ waits_at start) (skips : e.skip ≡ skip_at start) (none : e.written ≡ 0) (goes : e.further ≡ false)
-        (new : List ℕ) (is : emitted_of r last new ≡ emits (length answers / (2 * d.places)) (answers_by (system_in d after chart) (identify_of config) config.solver) (emitted_of e last answers)) where
-      begins : emitted_of e last answers ≡ begin last (waits_at start) (skip_at start) answers
-      begins = λ i. record { last = last; waiting = waits i; skip = skips i; written = none i; further = goes i; answers = answers }
-
-      page : PageIs last (waits_at start) (skipping (skip_at start) (call_with rs board bytes config answers work links)) r.waiting r.written r.further new
+    module _ (start : Start) (last : List ℕ) (r : Emission) (new : List ℕ)
+        (is : emitted_of r last new ≡ emits (length answers / (2 * d.places)) (answers_by (system_in d after chart) (identify_of config) config.solver)
+        (emitted_of (record { start = start; written = 0; further = false }) last answers)) where
+      page : PageIs last (waits_at start) (skipping (skip_at start) (call_with rs board bytes config answers work links)) (waits_at r.start) r.written r.further new
       unfolding call_with lent_of tray_of
       page =
           let list = answers_by (system_in d after chart) (identify_of config) config.solver in
-          page_is (skipping (skip_at start) call) last (waits_at start) d.places s.places list answers-are (emitted_of r last new)
-          (is ∙ ap (emits (length answers / (2 * d.places)) list) begins)
+          page_is (skipping (skip_at start) call) last (waits_at start) d.places s.places list answers-are (emitted_of r last new) is
 
       pub page_left : (work' links₁ links₂ : List ℕ) → work' ≡ cleared 8192 after → LinksAfter config.solver links links₁
           → links₂ ≡ cond (is_knuth config.solver) (cleared 32768 links₁) links₁
-          → outcome_of (reply_of r.waiting r.written r.further) new work' links₂ ≡ outcome_from start last (call_with rs board bytes config answers work links)
+          → outcome_of (reply_of (waits_at r.start) r.written r.further) new work' links₂ ≡ outcome_from start last (call_with rs board bytes config answers work links)
       page_left work' links₁ links₂ w k m =
-          page_outcome start last call ok r.waiting r.written r.further new work' links₂ page
+          page_outcome start last call ok (waits_at r.start) r.written r.further new work' links₂ page
           (unfold call_with in (w ∙ cleared_again 8192 work after s.behind)) (unfold call_with in (links_cleared config.solver links links₁ links₂ k m))

@@ -1,4 +1,3 @@
-pub mod Calls
 pub mod CallLaws
 pub mod ClearingLaws
 pub mod PreparedLaws

@@ -1,8 +1,9 @@
--- The slices in which a tray's row system stands are as the engines ask. Assumes nothing.
+-- Which part of the table refuses a call; and where none does, the slices in which its row system stands are as the engines ask. Assumes nothing.
 use Prim.Native.Nat.{ℕ, ◌≤◌, ◌<◌}
 use mathlib.Core.Bool.{◌&&◌}
-use mathlib.Core.List.{List, map}
-use mathlib.Core.Path.{◌≡◌, sym, ap, ◌∙◌, subst}
+use mathlib.Core.List.{List, ◌++◌, map}
+use mathlib.Core.Path.{◌≡◌, refl, sym, ap, ◌∙◌, subst}
+use Rattle.std.specs.Prelude.{Result, Err}
 use native.Mathlib.Nat.{mul-pos}
 use native.Mathlib.Omega.{arith}
 use lib.Dec.{T}
@@ -18,7 +19,9 @@ use Rattle.definitions.specs.Kinds.{Tray}
 use Rattle.definitions.specs.Placements.{Compiled, compile}
 use Rattle.definitions.specs.Kept.{symmetries}
 use Rattle.definitions.specs.Orders.{start}
-use Rattle.definitions.specs.Refusals.{Call, lent_of, strip_piece, strip_tray, tray_of, sides_of, is_side, sides_fit, placement_count, refusal, piece_of, grid_of}
+use Rattle.definitions.specs.Refusals.{Call, lent_of, strip_piece, strip_tray, tray_of, sides_of, is_side, sides_fit, placement_count, first_that_applies, refusal, piece_of, grid_of}
+use Rattle.definitions.specs.Outcomes.{number_of}
+use Rattle.definitions.specs.declared.Refusal.{Refusal}
 use Rattle.definitions.specs.Framing.{unframed}
 use Rattle.definitions.specs.Stripping.{frame_of}
 use Rattle.definitions.specs.declared.Config.{Config}
@@ -28,15 +31,18 @@ use Rattle.placements.specs.declared.Pieces.{Pieces}
 use Rattle.placements.specs.Pieces.{framed_in, records_of, tray_in}
 use Rattle.placements.specs.Stripping.{StripsTray}
 use Rattle.placements.specs.declared.stripping.StrippedRecords.{StrippedRecords}
-use Rattle.placements.specs.Counting.{Accepted9}
-use Rattle.placements.proofs.CountingLaws.{lent_passes, board_fits}
+use Rattle.placements.specs.Counting.{Accepted9, Counted}
+use Rattle.placements.specs.Stages.{config_rows, count_rows_by, lent_rows, slice_rows}
+use Rattle.placements.specs.declared.counting.Counts.{Counts}
+use Rattle.placements.proofs.AcceptedLaws.{placements_few}
+use Rattle.placements.proofs.CountingLaws.{board_fits, config_decides, count-rows, counts_decide, counts_stripped, early_decides, lent_decides, lent_passes, refused_some, slices_decide}
 use Rattle.rows.specs.declared.Dims.{Dims}
 use Rattle.rows.specs.Built.{BuiltSystem, frame_at}
 use Rattle.rows.specs.Ranges.{Ranged}
 use Rattle.shape.specs.Coords.{as_sides}
 use Rattle.shape.specs.declared.Coord.{Coord}
-use Rattle.solver.specs.Preparing.{Stands, refusal_by}
-use Rattle.rows.specs.Charts.{Charted, images_of}
+use Rattle.solver.specs.Preparing.{Prepares, Stands, refusal_by}
+use Rattle.rows.specs.declared.chart.Chart.{Chart}
 use Rattle.rows.specs.Systems.{System, owned, owned_in, images_in, cell_images, system_in, system_over, system_of}
 use Rattle.rows.specs.Lawful.{Lawful}
 use Rattle.rows.proofs.SystemLaws.{lawful}
@@ -98,7 +104,7 @@ module _ (t : Pieces) (board : Record) (bytes : List ℕ) (ok : Accepted9 t boar
       omega arith
 
   -- ---- the slices that the system stands in
-  module _ (d : Dims) (work chart : List ℕ) (is : system_in d work chart ≡ system_of (tray_in (records_of t) board bytes)) where
+  module _ (d : Dims) (work : List ℕ) (chart : Chart) (is : system_in d work chart ≡ system_of (tray_in (records_of t) board bytes)) where
     abbrev S : System
     S = system_in d work chart
 
@@ -106,9 +112,9 @@ module _ (t : Pieces) (board : Record) (bytes : List ℕ) (ok : Accepted9 t boar
     law = subst Lawful (sym is) system_lawful
 
     turns_few : d.turns ≤ 24
-    unfolding system_in system_over system_of images_in images_of
+    unfolding system_in system_over system_of images_in
     turns_few =
-        let a = length-map (from 0 d.turns) (λ m. images_of chart d.size m) in
+        let a : length S.turned ≡ length (from 0 d.turns) = length-map (from 0 d.turns) _ in
         let b = length_from 0 d.turns in
         let e = ap (λ (s : System). length s.turned) is in
         let f = length-map (symmetries C.board turns) (cell_images C) in
@@ -116,9 +122,9 @@ module _ (t : Pieces) (board : Record) (bytes : List ℕ) (ok : Accepted9 t boar
         omega arith
 
     mirrorings_few : d.mirrorings ≤ 24
-    unfolding system_in system_over system_of images_in images_of
+    unfolding system_in system_over system_of images_in
     mirrorings_few =
-        let a = length-map (from d.turns d.mirrorings) (λ m. images_of chart d.size m) in
+        let a : length S.mirrored ≡ length (from d.turns d.mirrorings) = length-map (from d.turns d.mirrorings) _ in
         let b = length_from d.turns d.mirrorings in
         let e = ap (λ (s : System). length s.mirrored) is in
         let f = length-map (symmetries C.board mirrorings) (cell_images C) in
@@ -134,8 +140,8 @@ module _ (t : Pieces) (board : Record) (bytes : List ℕ) (ok : Accepted9 t boar
         let f = pieces_few in
         omega arith
 
-    pub ready : Ranged work chart d.rows → Charted chart → 8192 ≤ length work → d.places ≡ volume (sides_of board) → Ready d work chart
-    ready ch c w v =
+    pub ready : Ranged work chart.starts d.rows → 8192 ≤ length work → d.places ≡ volume (sides_of board) → Ready d work chart
+    ready ch w v =
         let r = few-rows d work chart law in
         let a = turns_few in
         let b = mirrorings_few in
@@ -144,7 +150,6 @@ module _ (t : Pieces) (board : Record) (bytes : List ℕ) (ok : Accepted9 t boar
         record {
           lawful = law;
           ranged = ch;
-          charted = c;
           rows_fit = omega arith;
           few_maps = omega arith;
           few_places = omega arith;
@@ -159,7 +164,7 @@ framed_tray t board bytes s lent e = λ i. record { board = (s.tray i).board; pi
 
 -- what was built of it is the row system of the tray, ready for the engines
 pub system_stands : (t : Pieces) (board : Record) (bytes : List ℕ) {r : StrippedRecords} {cells : List ℕ} (s : StripsTray t board bytes r cells) (config : Config) (links : ℕ) (lent : Coord)
-    → as_sides lent ≡ sides_of board → (work after chart : List ℕ) (d : Dims) → Accepted9 t board bytes → length after ≡ length work → 8192 ≤ length work
+    → as_sides lent ≡ sides_of board → (work after : List ℕ) (chart : Chart) (d : Dims) → Accepted9 t board bytes → length after ≡ length work → 8192 ≤ length work
     → refusal_by (records_of t) board bytes config (length work) links ≡ 0 → placement_count (compile (tray_in (records_of t) board bytes)) ≤ 1024
     → BuiltSystem (framed_in (records_of r.pieces) r.board cells (frame_at lent r.at)) d work after chart
     → Stands d (records_of t) board bytes config links work after chart
@@ -168,8 +173,60 @@ system_stands t board bytes s config links lent e work after chart d ok same lon
     let v : d.places ≡ volume (sides_of board) = b.places ∙ ap volume e in
     record {
       accepted = accepted;
-      ready = ready t board bytes ok few work long d after chart is b.ranged b.charted (omega arith) v;
+      ready = ready t board bytes ok few work long d after chart is b.ranged (omega arith) v;
       system = is;
       places = v;
       behind = b.behind;
     }
+
+-- ---- refusals
+-- a call that is refused finds nothing written
+pub refuses : {r : Result Dims Refusal} {why : Refusal} (rs : List Record) (board : Record) (bytes : List ℕ) (config : Config) (links : ℕ) (work : List ℕ) (chart : Chart)
+    → (x : Refusal) × (r ≡ Err x) × (x ≡ why) → number_of why ≡ refusal_by rs board bytes config (length work) links
+    → Prepares r rs board bytes config links work chart work chart
+unfolding Prepares
+refuses rs board bytes config links work chart is first =
+    subst (λ (r : Result Dims Refusal). Prepares r rs board bytes config links work chart work chart) (sym (is.1 ∙ ap (λ (x : Refusal). Err x) is.2))
+    (record { first = first; untouched = refl; uncharted = refl })
+
+-- the part of the table that refuses, where those before it do not, decides
+module _ (t : Pieces) (board : Record) (bytes : List ℕ) (config : Config) (work links : ℕ) where
+  early_refused : (why : Refusal) → number_of why ≡ first_that_applies (lent_rows (records_of t) board bytes ++ config_rows config ++ slice_rows config work links)
+      → number_of why ≡ refusal_by (records_of t) board bytes config work links
+  unfolding refusal_by
+  early_refused why e = e ∙ sym (early_decides t board bytes config work links _ (λ z. refused_some why (e ∙ z)))
+
+  pub lent_refused : (why : Refusal) → number_of why ≡ first_that_applies (lent_rows (records_of t) board bytes)
+      → number_of why ≡ refusal_by (records_of t) board bytes config work links
+  lent_refused why e = early_refused why (e ∙ sym (lent_decides t board bytes config work links (λ z. refused_some why (e ∙ z))))
+
+  module _ (lent : 0 ≡ first_that_applies (lent_rows (records_of t) board bytes)) where
+    pub config_refused : (why : Refusal) → number_of why ≡ first_that_applies (config_rows config) → number_of why ≡ refusal_by (records_of t) board bytes config work links
+    config_refused why e = early_refused why (e ∙ sym (config_decides t board bytes config work links (sym lent) (λ z. refused_some why (e ∙ z))))
+
+    module _ (chosen : 0 ≡ first_that_applies (config_rows config)) where
+      pub slices_refused : (why : Refusal) → number_of why ≡ first_that_applies (slice_rows config work links) → number_of why ≡ refusal_by (records_of t) board bytes config work links
+      slices_refused why e = early_refused why (e ∙ sym (slices_decide t board bytes config work links (sym lent) (sym chosen)))
+
+      -- rows 14 and 15, of what is counted of the stripped tray
+      module _ (slices : 0 ≡ first_that_applies (slice_rows config work links)) {r : StrippedRecords} {cells : List ℕ} (s : StripsTray t board bytes r cells)
+          {places first turnings : List ℕ} {counts : Counts} (counted : Counted r.pieces r.board cells places first turnings counts) where
+        past : first_that_applies (lent_rows (records_of t) board bytes ++ config_rows config ++ slice_rows config work links) ≡ 0
+        past = slices_decide t board bytes config work links (sym lent) (sym chosen) ∙ sym slices
+
+        number_is : first_that_applies (count_rows_by counts.placements counts.links config) ≡ refusal_by (records_of t) board bytes config work links
+        unfolding refusal_by
+        number_is =
+            ap first_that_applies (count-rows config (counts_stripped t board bytes s counted)) ∙ sym (counts_decide t board bytes config work links _ past)
+
+        pub counts_refused : (why : Refusal) → number_of why ≡ first_that_applies (count_rows_by counts.placements counts.links config)
+            → number_of why ≡ refusal_by (records_of t) board bytes config work links
+        counts_refused why e = e ∙ number_is
+
+        module _ (few : 0 ≡ first_that_applies (count_rows_by counts.placements counts.links config)) where
+          pub accepted_by : refusal_by (records_of t) board bytes config work links ≡ 0
+          accepted_by = sym (few ∙ number_is)
+
+          pub few_placements : placement_count (compile (tray_in (records_of t) board bytes)) ≤ 1024
+          few_placements =
+              placements_few _ config (sym (ap first_that_applies (count-rows config (counts_stripped t board bytes s counted))) ∙ sym few)

@@ -1,16 +1,12 @@
 -- The pieces made of a list of records stand for the list as far as a call's outcome reads it: of at most 16 records they have all, and a call with more is
 -- refused with 2, whatever the records are. Assumes nothing.
-use Prim.Native.Nat.{ℕ, zero, suc, ◌+◌, ◌≤◌, ◌<◌}
-use mathlib.Core.Bool.{Bool, true, false}
-use mathlib.Core.List.{List, [], ◌∷◌, map}
-use mathlib.Core.Path.{◌≡◌, refl, sym, ap, ◌∙◌}
-use native.Mathlib.Omega.{arith}
-use borrow.Author.Tests.{leb-true, leb-false, lt-ltb}
-use lib.Dec.{leb}
-use lib.ListN.{length, get_or, take, length-map}
-use lib.Seq.{length-take-le, get_or-take, ext_get_or}
-use Rattle.lists.specs.Lists.{below, is_empty}
-use Rattle.lists.proofs.RangeLaws.{length_below, get_or_of}
+use Rattle.std.proofs.Common.{◌≡◌, ℕ, ◌+◌, ◌-◌, ◌≤◌, ◌<◌, min, leb, ltb, Bool, true, false, List, [], ◌∷◌, ◌++◌, map, length, get_or, take, drop, replicate, refl, sym, ap, ◌∙◌, arith}
+use Rattle.std.proofs.Common.{ext_get_or, get_or-take, get_or-drop}
+use Rattle.std.proofs.lemmas.List.{get_or_append_left, get_or-append_right, get_or-replicate, get_or_past, length-append, length-drop, length-replicate, length-take-le}
+use borrow.Author.Tests.{leb-true, leb-false, ltb-true, ltb-false, lt-ltb}
+use lib.ListN.{length-map}
+use Rattle.lists.specs.Lists.{below}
+use Rattle.lists.proofs.RangeLaws.{length_below, get_or_below, get_or_of}
 use Rattle.definitions.specs.Refusals.{Call, table, refusal}
 use Rattle.definitions.specs.Outcomes.{refused}
 use Rattle.definitions.specs.declared.Record.{Record}
@@ -18,19 +14,55 @@ use Rattle.definitions.specs.declared.Config.{Config}
 use Rattle.definitions.specs.Starts.{outcome_from}
 use Rattle.definitions.specs.declared.Start.{Start}
 use Rattle.theorems.proofs.StartLaws.{from_refused}
-use Rattle.placements.specs.declared.Pieces.{Pieces}
-use Rattle.placements.specs.Pieces.{no_record, records_of, empty_pieces, put_record, pieces_of}
+use Rattle.placements.specs.Pieces.{no_record, records_of, pieces_of}
 use Rattle.placements.proofs.RefusalLaws.{records_few, records_count}
 use Rattle.solver.specs.Lent.{call_with}
 
--- the pieces with the first k records put, one after the other
-unfoldable pub filled : List Record → ℕ → Pieces
-filled ps zero = empty_pieces (length ps)
-filled ps (suc k) = put_record (filled ps k) k (get_or ps k no_record)
+-- the records that are there, and behind them those of zeros
+module _ (ps : List Record) (n : ℕ) (is : n ≡ min (length ps) 16) where
+  abbrev made : List Record
+  made = take n ps ++ drop n (replicate 16 no_record)
 
-pub filled_is : (ps : List Record) → filled ps 16 ≡ pieces_of ps
-unfolding filled pieces_of
-filled_is ps = refl
+  abbrev asked : List Record
+  asked = map (λ i. get_or ps i no_record) (below 16)
+
+  n_few : n ≤ 16
+  n_few = omega arith
+
+  n_there : n ≤ length ps
+  n_there = omega arith
+
+  made_many : length made ≡ 16
+  made_many =
+      let a = length-append (take n ps) (drop n (replicate 16 no_record)) in
+      let b = length-take-le n ps n_there in
+      let c = length-drop n (replicate 16 no_record) in
+      let d = length-replicate 16 no_record in
+      let few = n_few in
+      omega arith
+
+  entry : (i : ℕ) → i < 16 → get_or made i no_record ≡ get_or ps i no_record
+  entry i h = go (ltb i n) refl
+    where
+      long : length (take n ps) ≡ n
+      long = length-take-le n ps n_there
+
+      go : (b : Bool) → ltb i n ≡ b → get_or made i no_record ≡ get_or ps i no_record
+      go true e =
+          let l = ltb-true i n e in
+          get_or_append_left (take n ps) (drop n (replicate 16 no_record)) no_record i (omega (arith, long, l)) ∙ get_or-take n ps i no_record l
+      go false e =
+          let l = ltb-false i n e in
+          get_or-append_right (take n ps) (drop n (replicate 16 no_record)) n i no_record long l
+          ∙ get_or-drop n (replicate 16 no_record) (i - n) no_record
+          ∙ get_or-replicate 16 (n + (i - n)) no_record no_record (omega (arith, l))
+          ∙ sym (get_or_past ps i no_record (omega (arith, l)))
+
+  pub taken_are : take n ps ++ drop n (replicate 16 no_record) ≡ map (λ i. get_or ps i no_record) (below 16)
+  taken_are =
+      let many = length-map (below 16) (λ i. get_or ps i no_record) ∙ length_below 16 in
+      ext_get_or no_record made asked (made_many ∙ sym many)
+      (λ i l. let k : i < 16 = omega (arith, made_many) in entry i k ∙ sym (get_or_below (λ j. get_or ps j no_record) no_record 16 i k))
 
 module _ (ps : List Record) where
   abbrev rows : List Record
@@ -63,17 +95,13 @@ same_of d big ps = go (leb (length ps) 16) refl
     go true e = ap d (records_are ps (leb-true (length ps) 16 e))
     go false e = let h = leb-false (length ps) 16 e in let m = records_more ps in big (records_of (pieces_of ps)) ps (omega arith) h
 
-not_empty : (ps : List Record) → 16 < length ps → is_empty ps ≡ false
-not_empty [] h = absurd (omega arith)
-not_empty (p ∷ ps) h = refl
-
 module _ (board : Record) (bytes : List ℕ) (config : Config) (answers work links : List ℕ) where
   abbrev call : List Record → Call
   call ps = call_with ps board bytes config answers work links
 
   refusal_many : (ps : List Record) → 16 < length ps → refusal (call_with ps board bytes config answers work links) ≡ 2
   unfolding refusal table call_with
-  refusal_many ps h = simp (not_empty ps h, lt-ltb 16 (length ps) h)
+  refusal_many ps h = simp (lt-ltb 16 (length ps) h)
 
   many_refused : (start : Start) (last : List ℕ) (ps : List Record) → 16 < length ps → outcome_from start last (call ps) ≡ refused 2 (call ps)
   many_refused start last ps h = let e = refusal_many ps h in from_refused start last (call ps) (λ z. omega (arith, e, z)) ∙ ap (λ (n : ℕ). refused n (call ps)) e

@@ -1,8 +1,8 @@
 -- What preparation answers, and leaves in the slices.
-use Rattle.std.specs.Prelude.{ℕ, List, ◌++◌, ◌≡◌, length, drop}
+use Rattle.std.specs.Prelude.{ℕ, List, ◌++◌, ◌≡◌, length, drop, Result, Ok, Err}
 use Rattle.definitions.specs.Grid.{volume}
 use Rattle.definitions.specs.Placements.{compile}
-use Rattle.definitions.specs.Refusals.{Row, first_that_applies, sides_of}
+use Rattle.definitions.specs.Refusals.{first_that_applies, sides_of}
 use Rattle.definitions.specs.Outcomes.{number_of}
 use Rattle.definitions.specs.declared.Record.{Record}
 use Rattle.definitions.specs.declared.Config.{Config}
@@ -10,33 +10,29 @@ use Rattle.definitions.specs.declared.Refusal.{Refusal}
 use Rattle.placements.specs.Stages.{lent_rows, config_rows, slice_rows, count_rows}
 use Rattle.placements.specs.Pieces.{tray_in}
 use Rattle.rows.specs.declared.Dims.{Dims}
+use Rattle.rows.specs.declared.chart.Chart.{Chart}
 use Rattle.rows.specs.Systems.{system_in, system_of}
 use Rattle.kept.specs.Ready.{Ready}
-use Rattle.solver.specs.declared.prepare.Prepared.{Prepared}
-use Rattle.solver.specs.declared.prepare.Prepared.TheVariants.{Refused, System}
 
--- the table's tests before and with counting, for slices of so many words and numbers
-unfoldable pub first_rows : List Record → Record → List ℕ → Config → ℕ → ℕ → List Row
-first_rows rs board bytes config work links = lent_rows rs board bytes ++ config_rows config ++ slice_rows config work links
-
+-- the first row of the table that applies, for slices of so many words and numbers
 unfoldable pub refusal_by : List Record → Record → List ℕ → Config → ℕ → ℕ → ℕ
 refusal_by rs board bytes config work links =
     first_that_applies (lent_rows rs board bytes ++ config_rows config ++ slice_rows config work links ++ count_rows (compile (tray_in rs board bytes)) config)
 
 -- why a call is refused, with work slice and chart untouched
-pub record RefusedBy (why : Refusal) (rs : List Record) (board : Record) (bytes : List ℕ) (config : Config) (links : ℕ) (work chart after charted : List ℕ) : Type 0 where
+pub record RefusedBy (why : Refusal) (rs : List Record) (board : Record) (bytes : List ℕ) (config : Config) (links : ℕ) (work : List ℕ) (chart : Chart) (after : List ℕ) (charted : Chart) : Type 0 where
   pub first : number_of why ≡ refusal_by rs board bytes config (length work) links
   pub untouched : after ≡ work
   pub uncharted : charted ≡ chart
 
 -- or the row system of its tray, ready for the engines
-pub record Stands (d : Dims) (rs : List Record) (board : Record) (bytes : List ℕ) (config : Config) (links : ℕ) (work after charted : List ℕ) : Type 0 where
+pub record Stands (d : Dims) (rs : List Record) (board : Record) (bytes : List ℕ) (config : Config) (links : ℕ) (work after : List ℕ) (charted : Chart) : Type 0 where
   pub accepted : refusal_by rs board bytes config (length work) links ≡ 0
   pub ready : Ready d after charted
   pub system : system_in d after charted ≡ system_of (tray_in rs board bytes)
   pub places : d.places ≡ volume (sides_of board)
   pub behind : drop 8192 after ≡ drop 8192 work
 
-unfoldable pub Prepares : Prepared → List Record → Record → List ℕ → Config → ℕ → List ℕ → List ℕ → List ℕ → List ℕ → Type 0
-Prepares (Refused why) rs board bytes config links work chart after charted = RefusedBy why rs board bytes config links work chart after charted
-Prepares (System d) rs board bytes config links work chart after charted = Stands d rs board bytes config links work after charted
+unfoldable pub Prepares : Result Dims Refusal → List Record → Record → List ℕ → Config → ℕ → List ℕ → Chart → List ℕ → Chart → Type 0
+Prepares (Err why) rs board bytes config links work chart after charted = RefusedBy why rs board bytes config links work chart after charted
+Prepares (Ok d) rs board bytes config links work chart after charted = Stands d rs board bytes config links work after charted

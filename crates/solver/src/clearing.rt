@@ -11,34 +11,16 @@ pub fn clear_work(work: &mut [u64])
     requires { 8192 ≤ length work.old }
     ensures { work.new ≡ cleared 8192 work.old }
 {
-    let mut i = 0;
-    while i < 8192 {
-        work[i] = 0;
-        i += 1;
-    }
+    work[..8192].fill(0);
 }
 
-// The first 32,768 numbers made 0.
-fn clear_links(links: &mut [u16])
-    requires { 32768 ≤ length links.old }
-    ensures { links.new ≡ cleared 32768 links.old }
-{
-    let mut i = 0;
-    while i < 32768 {
-        links[i] = 0;
-        i += 1;
-    }
-}
-
-// The same where links were built: only KnuthAlgorithm builds them.
-pub fn clear_links_of(solver: SolverKind, links: &mut [u16])
+// The first 32,768 numbers made 0 where links were built: only KnuthAlgorithm builds them.
+#[tactic(auto, unfolding(definitions::specs::Refusals::is_knuth))]
+pub fn clear_links(solver: SolverKind, links: &mut [u16])
     requires { LongLinks solver links.old }
     ensures { links.new ≡ cond (is_knuth solver) (cleared 32768 links.old) links.old }
 {
-    match solver {
-        SolverKind::KnuthAlgorithm => clear_links(links),
-        SolverKind::Auto => {}
-        SolverKind::Naive => {}
-        SolverKind::Fast => {}
+    if solver == SolverKind::KnuthAlgorithm {
+        links[..32768].fill(0);
     }
 }

@@ -1,60 +1,39 @@
 // The page call over pieces by value, with the engine in its configuration.
-ghost use Rattle.std.specs.Prelude.{false, ◌≡◌, ◌*◌, ◌<◌, ◌/◌, length};
+ghost use Rattle.std.specs.Prelude.{Ok, ◌≡◌, ◌*◌, ◌<◌, ◌/◌, length};
 ghost use Rattle.definitions.specs.Emission.{emits};
 ghost use Rattle.definitions.specs.Outcomes.{outcome_of};
 ghost use Rattle.definitions.specs.Refusals.{identify_of};
-ghost use Rattle.definitions.specs.Starts.{Meets, outcome_from, reply_of, skip_at, waits_at};
+ghost use Rattle.definitions.specs.Starts.{Meets, outcome_from, reply_of, waits_at};
 ghost use Rattle.placements.specs.Pieces.{records_of};
 ghost use Rattle.rows.specs.Systems.{system_in};
 ghost use Rattle.kept.specs.Emission.{emitted_of};
 ghost use Rattle.kept.specs.Ready.{Ready};
 ghost use Rattle.solver.specs.Lent.{FewLinks, LinksAfter, LongLinks, answers_by, call_with};
 
-use super::prepare::Prepared;
 use super::{clearing, prepare};
-use definitions::{Config, Listing, Record, SolverKind, Start};
+use definitions::{Config, Listing, Page, Record, SolverKind, Start};
 use fast::listing as fast_listing;
 use kept::emission::{Emission, Wanted};
 use knuth::listing as knuth_listing;
 use placements::Pieces;
-use rows::{Dims, chart};
-
-// The state in which a page begins.
-fn begin_at(start: Start) -> Emission
-    ensures { (result.waiting ≡ waits_at start) × (result.skip ≡ skip_at start) × (result.written ≡ 0) × (result.further ≡ false) }
-{
-    match start {
-        Start::Entry(skip) => Emission {
-            waiting: false,
-            skip,
-            written: 0,
-            further: false,
-        },
-        Start::Behind => Emission {
-            waiting: true,
-            skip: 0,
-            written: 0,
-            further: false,
-        },
-    }
-}
+use rows::Dims;
+use rows::chart::Chart;
 
 // What a page call hands back for what an engine left: an entry that is still waited for is none of the list.
-fn reply(e: Emission) -> Listing
-    ensures { result ≡ reply_of e.waiting e.written e.further }
+fn listed(e: Emission) -> Option<Page>
+    ensures { Ok result ≡ reply_of (waits_at e.start) e.written e.further }
 {
-    if e.waiting {
-        Listing::NoEntry
-    } else {
-        Listing::Page(e.written, e.further)
-    }
+    (!e.is_waiting()).then_some(Page {
+        written: e.written,
+        further: e.further,
+    })
 }
 
 // The engine's answers over a row system, from a state on. The engines that are not ported list nothing; their calls are refused before.
 fn list(
     d: Dims,
     work: &[u64],
-    chart: &[u16],
+    chart: &Chart,
     config: Config,
     links: &mut [u16],
     last: &[u8],
@@ -73,10 +52,8 @@ fn list(
         mirrored: config.identify_mirrored_answers,
         capacity: answers.len() / (2 * d.places),
     };
-    let solver = config.solver;
-    match solver {
-        SolverKind::Auto => e,
-        SolverKind::Naive => e,
+    match config.solver {
+        SolverKind::Auto | SolverKind::Naive => e,
         SolverKind::Fast => fast_listing::list(d, work, chart, wanted, last, answers, e),
         SolverKind::KnuthAlgorithm => {
             knuth_listing::list(d, work, chart, wanted, links, last, answers, e)
@@ -87,7 +64,7 @@ fn list(
 // A call, whatever is lent: the page of the engine's list from its start on, or the first refusal that applies. Where the page does not start behind `last`,
 // what it holds decides nothing.
 pub fn page(
-    t: Pieces,
+    pieces: &Pieces,
     board: Record,
     bytes: &[u8],
     config: Config,
@@ -97,30 +74,20 @@ pub fn page(
     work: &mut [u64],
     links: &mut [u16],
 ) -> Listing
-    ensures outcome { let call = call_with (records_of t) board bytes.now config answers.old work.old links.old in
+    ensures outcome { let call = call_with (records_of pieces.now) board bytes.now config answers.old work.old links.old in
         outcome_of result answers.new work.new links.new ≡ outcome_from start last.now call }
-    ensures meets { let call = call_with (records_of t) board bytes.now config answers.old work.old links.old in
+    ensures meets { let call = call_with (records_of pieces.now) board bytes.now config answers.old work.old links.old in
         Meets start last.now call (outcome_of result answers.new work.new links.new) }
 {
-    let mut chart = [0u16; chart::LENGTH];
-    let prepared = prepare::prepare(t, board, bytes, config, links.len(), work, &mut chart);
-    match prepared {
-        Prepared::Refused(why) => Listing::Refused(why),
-        Prepared::System(d) => {
-            let e = list(
-                d,
-                work,
-                &chart,
-                config,
-                links,
-                last,
-                answers,
-                begin_at(start),
-            );
-            clearing::clear_work(work);
-            let solver = config.solver;
-            clearing::clear_links_of(solver, links);
-            reply(e)
-        }
-    }
+    let mut chart = Chart::empty();
+    let d = prepare::prepare(pieces, board, bytes, config, links.len(), work, &mut chart)?;
+    let begun = Emission {
+        start,
+        written: 0,
+        further: false,
+    };
+    let e = list(d, work, &chart, config, links, last, answers, begun);
+    clearing::clear_work(work);
+    clearing::clear_links(config.solver, links);
+    Ok(listed(e))
 }

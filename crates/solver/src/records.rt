@@ -1,50 +1,24 @@
-// The pieces as a slice of records: thin functions read the records out of the slice, and all above works on them by value.
-ghost use Rattle.std.specs.Prelude.{◌≡◌, get_or, length};
+// The pieces as a slice of records, of which a call reads the first 16 (it is refused where there are more).
+ghost use Rattle.std.specs.Prelude.{◌≡◌};
 ghost use Rattle.definitions.specs.Outcomes.{outcome_of};
 ghost use Rattle.definitions.specs.Starts.{Meets, outcome_from};
-ghost use Rattle.placements.specs.Pieces.{no_record, pieces_of};
+ghost use Rattle.placements.specs.Pieces.{pieces_of};
 ghost use Rattle.solver.specs.Lent.{call_with};
 
 use super::pages;
 use definitions::{Config, Listing, Record, Start};
-use placements::{Pieces, records};
-
-fn count_of(pieces: &[Record]) -> usize
-    ensures { result ≡ length pieces.now }
-{
-    pieces.len()
-}
-
-// Record i, or the record of zeros past the end.
-fn record_or(pieces: &[Record], i: usize) -> Record
-    ensures { result ≡ get_or pieces.now i no_record }
-{
-    if i < pieces.len() {
-        pieces[i]
-    } else {
-        Record {
-            a: 0,
-            b: 0,
-            c: 0,
-            count: 0,
-            wood: 0,
-            start: 0,
-        }
-    }
-}
+use placements::Pieces;
+use placements::records::NO_RECORD;
 
 // The first 16 records by value, and how many records were lent.
 fn taken(pieces: &[Record]) -> Pieces
     ensures { result ≡ pieces_of pieces.now }
 {
-    let mut t = records::empty_pieces(count_of(pieces));
-    let mut i: usize = 0;
-    while i < 16 {
-        let p = record_or(pieces, i);
-        t = records::put_record(t, i, p);
-        i += 1;
-    }
-    t
+    let count = pieces.len();
+    let n = count.min(16);
+    let mut records = [NO_RECORD; 16];
+    records[..n].copy_from_slice(&pieces[..n]);
+    Pieces { records, count }
 }
 
 // A call, whatever is lent: the page of the engine's list from its start on, or the first refusal that applies. `last` is read only where the page starts
@@ -66,7 +40,7 @@ pub fn page(
         Meets start last.now call (outcome_of result answers.new work.new links.new) }
 {
     pages::page(
-        taken(pieces),
+        &taken(pieces),
         board,
         bytes,
         config,

@@ -1,7 +1,7 @@
 -- How far a text is read.
-use Rattle.std.specs.Prelude.{ℕ, ◌+◌, ◌-◌, min, ℤ, pos, negsuc}
+use Rattle.std.specs.Prelude.{ℕ, ◌+◌, ◌-◌, min, Result, Ok, Err}
 
--- after a read behind the first n bytes of a slice that answered so many bytes more; where it answered a negative number, it failed, and all of the slice counts as read
-abbrev pub read_after : ℤ → ℕ → ℕ → ℕ
-read_after (pos k) n room = n + min k (room - n)
-read_after (negsuc k) n room = room
+-- after a read behind the first n bytes of a slice that answered so many bytes more; where it failed, all of the slice counts as read
+abbrev pub read_after : {E : Type 0} → Result ℕ E → ℕ → ℕ → ℕ
+read_after (Ok k) n room = n + min k (room - n)
+read_after (Err e) n room = room

@@ -12,9 +12,6 @@ use Rattle.texts.specs.Put.{Put}
 put_over : (old xs : List ℕ) (at : ℕ) → paste old at xs (length xs) ≡ take at old ++ xs ++ drop (at + length xs) old
 put_over old xs at = ap (λ (l : List ℕ). take at old ++ l ++ drop (at + length xs) old) (take-length xs)
 
-pub put_none : (old : List ℕ) (at : ℕ) → Put old at [] old at
-put_none old at = record { bytes = paste-zero old at []; end = omega arith }
-
 pub put_length : {old xs new : List ℕ} {at r : ℕ} → Put old at xs new r → r ≤ length old → length new ≡ length old
 put_length {old} {xs} {new} {at} {r} p h =
     let e = p.end in
@@ -59,13 +56,6 @@ pub put_parted : {old xs mid ys new : List ℕ} {at m r : ℕ} (b : ℕ) → Put
 put_parted {old} {xs} {mid} {ys} {new} {at} {m} {r} b p q h =
     let f = q.end in
     subst (λ (l : List ℕ). Put old at l new r) (append_snoc xs b ys) (put_then (put_byte b p (omega arith)) q h)
-
--- a text put byte by byte: its next byte, and all of it
-pub paste_next : (old xs : List ℕ) {new : List ℕ} (at i : ℕ) → at + i < length old → i < length xs → new ≡ paste old at xs i → set new (at + i) (get_or xs i 0) ≡ paste old at xs (i + 1)
-paste_next old xs {new} at i h k e = ap (λ (l : List ℕ). set l (at + i) (get_or xs i 0)) e ∙ paste-suc old at xs i 0 h k ∙ ap (paste old at xs) (sym (add-one i))
-
-pub put_all : {old xs new : List ℕ} {at : ℕ} (i : ℕ) → i ≡ length xs → new ≡ paste old at xs i → Put old at xs new (at + length xs)
-put_all {old} {xs} {new} {at} i e f = record { bytes = f ∙ ap (paste old at xs) e; end = refl }
 
 -- two texts, a tab between them and a line feed behind them
 pub put_line : {old xs mid ys next : List ℕ} {at m k : ℕ} → Put old at xs mid m → Put (set mid m 9) (m + 1) ys next k → k < length old → Put old at (xs ++ 9 ∷ ys ++ 10 ∷ []) (set next k 10) (k + 1)

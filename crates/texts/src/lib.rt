@@ -14,11 +14,11 @@ pub fn put_decimal(out: &mut [u8], at: usize, n: u64) -> usize
     ensures { Put out.old at (decimal n) out.new result × (result ≤ at + 20) }
 {
     if n < 10 {
-        out[at] = 48 + n as u8;
+        out[at] = b'0' + n as u8;
         return at + 1;
     }
     let end = put_decimal(out, at, n / 10);
-    out[end] = 48 + (n % 10) as u8;
+    out[end] = b'0' + (n % 10) as u8;
     end + 1
 }
 
@@ -27,14 +27,9 @@ fn put_word(out: &mut [u8], at: usize, word: &[u8]) -> usize
     requires { at + length word.now ≤ length out.old }
     ensures { Put out.old at word.now out.new result }
 {
-    let n = word.len();
-    let mut i = 0;
-    // the first i bytes of the word are put
-    while i < n {
-        out[at + i] = word[i];
-        i += 1;
-    }
-    at + n
+    let end = at + word.len();
+    out[at..end].copy_from_slice(word);
+    end
 }
 
 // A line of two fields: a word and a number.
@@ -44,8 +39,8 @@ pub fn put_labelled(out: &mut [u8], at: usize, word: &[u8], n: u64) -> usize
         × (result ≤ at + length word.now + 22) }
 {
     let tab = put_word(out, at, word);
-    out[tab] = 9;
+    out[tab] = b'\t';
     let end = put_decimal(out, tab + 1, n);
-    out[end] = 10;
+    out[end] = b'\n';
     end + 1
 }

@@ -23,7 +23,7 @@ use Rattle.definitions.specs.Refusals.{Call, cells_lie, grid_of, identify_of, re
 use Rattle.definitions.specs.Starts.{GoesOn, Meets, NotThere, PageIs, accepted_behind, accepted_from, entry_of, is_entry, list_of, no_entry, outcome_behind, outcome_from, page_from, reply_of, skip_at, skipping, waits_at}
 use Rattle.definitions.specs.Woods.{board_in_wood, BoardUnread, OneWoodCalls, with_wood, without_woods}
 use Rattle.definitions.specs.declared.Refusal.{Refusal}
-use Rattle.definitions.specs.declared.Listing.TheVariants as listing
+use Rattle.std.specs.Prelude.{Err}
 use Rattle.definitions.specs.declared.Start.{Start}
 use Rattle.definitions.specs.declared.Start.TheVariants.{Entry, Behind}
 use Rattle.theorems.proofs.DemandLaws.{answers_sized, box_lent, demand3_holds}
@@ -101,7 +101,7 @@ from_refused Behind last l d = behind_refused last (skipping 0 l) (λ e. d (sym 
 
 -- what the code hands back for a refusal, the slices untouched, is the outcome of the call
 pub refused_outcome : (start : Start) (last : List ℕ) (l : Call) (why : Refusal) → (number_of why ≡ 0 → ⊥) → number_of why ≡ refusal l
-    → outcome_of (listing.Refused why) l.answers l.work l.links ≡ outcome_from start last l
+    → outcome_of (Err why) l.answers l.work l.links ≡ outcome_from start last l
 unfolding outcome_of refused
 refused_outcome start last l why d e = ap (λ (n : ℕ). refused n l) e ∙ sym (from_refused start last l (λ z. d (e ∙ z)))
 

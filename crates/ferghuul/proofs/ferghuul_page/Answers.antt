@@ -13,7 +13,7 @@ pub returns : goal.returns
 returns c =
     let a = c.args in
     let r = c.page in
-    let n = c.in_numbers in
+    let n = c.into in
     let call = λ (k : Config). call_with a.pieces.now a.board a.bytes.now k a.answers.now a.work.now a.links.now in
     let e =
     outcome_numbers r.result n.result r.new.answers r.new.work r.new.links n.ensures

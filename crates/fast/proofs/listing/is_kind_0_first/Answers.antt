@@ -1,5 +1,6 @@
--- `is_kind_0_first` meets its contract: each return is one of the three tests. Assumes nothing.
+-- `is_kind_0_first` meets its contract: each return is one of the tests; of no kind there is not one copy. Assumes nothing.
 use Rattle.std.proofs.Common.{sym, ◌∙◌, arith}
+use borrow.Author.Tests.{ne_eqb}
 use Rattle.fast.specs.Listing.{cells_in}
 use Rattle.fast.proofs.ListingLaws.{copies_in, copies_first, copies_none, first_unless, first_not, first_cells}
 use Rattle.fast.proofs.listing.is_kind_0_first.Goals as goal
@@ -14,16 +15,17 @@ returns-then-d-eq0 c =
     let a = c.args in
     first_not a.turned (copies_in a.chart.now a.d.kinds) (cells_in a.chart.now a.d.kinds) a.d.size (copies_none a.chart.now a.d.kinds c.if-d-eq0.true)
 
-pub returns-then-copies_of-ne1 : goal.returns-then-copies_of-ne1
-returns-then-copies_of-ne1 c =
-    let a = c.args in
-    let first = copies_first a.chart.now a.d.kinds (omega arith) in
-    first_not a.turned (copies_in a.chart.now a.d.kinds) (cells_in a.chart.now a.d.kinds) a.d.size
-    (λ e. c.if-copies_of-ne1.true (c.copies_of.ensures ∙ sym first ∙ e))
-
-pub returns : goal.returns
-returns c =
+pub returns-then-copies_of-eq1 : goal.returns-then-copies_of-eq1
+returns-then-copies_of-eq1 c =
     let a = c.args in
     let first = copies_first a.chart.now a.d.kinds (omega arith) in
     first_cells a.turned (copies_in a.chart.now a.d.kinds) (cells_in a.chart.now a.d.kinds) a.d.size c.if-not-turned.false
-    (first ∙ sym c.copies_of.ensures ∙ c.if-copies_of-ne1.false) c.cells_of_all.result c.cells_of_all.ensures
+    (first ∙ sym c.copies_of.ensures.0 ∙ c.if-copies_of-eq1.true) c.cells_of_all.result c.cells_of_all.ensures
+
+pub returns-else-copies_of-eq1 : goal.returns-else-copies_of-eq1
+returns-else-copies_of-eq1 c =
+    let a = c.args in
+    let first = copies_first a.chart.now a.d.kinds (omega arith) in
+    ne_eqb c.copies_of.result 1 c.if-copies_of-eq1.false
+    ∙ first_not a.turned (copies_in a.chart.now a.d.kinds) (cells_in a.chart.now a.d.kinds) a.d.size
+    (λ e. c.if-copies_of-eq1.false (c.copies_of.ensures.0 ∙ sym first ∙ e))

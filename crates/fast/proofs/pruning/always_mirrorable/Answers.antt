@@ -8,7 +8,7 @@ use Rattle.fast.proofs.pruning.always_mirrorable.Goals as goal
 
 pub partner_of-p-requires : goal.partner_of-p-requires
 partner_of-p-requires c =
-    let few = few-kinds c.args.d c.args.work.now c.args.chart.now c.requires.lawful in (omega arith, c.requires.charted.long)
+    let few = few-kinds c.args.d c.args.work.now c.args.chart.now c.requires.lawful in omega arith
 
 pub returns-then-d-p : goal.returns-then-d-p
 returns-then-d-p c =
@@ -17,15 +17,15 @@ returns-then-d-p c =
     let k = c.loop-k.k in
     let p = c.partner_of-p in
     sym (all_failed (mirrors a.chart.now n) k n (omega arith) (mirrors_not a.chart.now n k p.result p.ensures c.if-d-p.true))
-    ∙ c.loop-k.invariant.1 ∙ mirrorable_start a.d a.work.now a.chart.now
+    ∙ c.loop-k.invariant ∙ mirrorable_start a.d a.work.now a.chart.now
 
 pub copies_of-requires : goal.copies_of-requires
 copies_of-requires c =
-    let few = few-kinds c.args.d c.args.work.now c.args.chart.now c.requires.lawful in (omega arith, c.requires.charted.long)
+    let few = few-kinds c.args.d c.args.work.now c.args.chart.now c.requires.lawful in omega arith
 
 pub copies_of-requires-in-loop-k : goal.copies_of-requires-in-loop-k
 copies_of-requires-in-loop-k c =
-    let few = few-kinds c.args.d c.args.work.now c.args.chart.now c.requires.lawful in (omega arith, c.requires.charted.long)
+    let few = few-kinds c.args.d c.args.work.now c.args.chart.now c.requires.lawful in omega arith
 
 pub returns-then-copies_of : goal.returns-then-copies_of
 returns-then-copies_of c =
@@ -35,8 +35,8 @@ returns-then-copies_of c =
     let p = c.partner_of-p in
     let x = c.copies_of in
     let y = c.copies_of-in-loop-k in
-    let told = mirrors_told a.chart.now n k p.result p.ensures (omega arith) x.result y.result x.ensures y.ensures false (ne_eqb _ _ c.if-copies_of.true) in
-    sym (all_failed (mirrors a.chart.now n) k n (omega arith) told) ∙ c.loop-k.invariant.1 ∙ mirrorable_start a.d a.work.now a.chart.now
+    let told = mirrors_told a.chart.now n k p.result p.ensures (omega arith) x.result y.result x.ensures.0 y.ensures.0 false (ne_eqb _ _ c.if-copies_of.true) in
+    sym (all_failed (mirrors a.chart.now n) k n (omega arith) told) ∙ c.loop-k.invariant ∙ mirrorable_start a.d a.work.now a.chart.now
 
 pub loop-k-preserved : goal.loop-k-preserved
 loop-k-preserved c =
@@ -46,11 +46,11 @@ loop-k-preserved c =
     let p = c.partner_of-p in
     let x = c.copies_of in
     let y = c.copies_of-in-loop-k in
-    let told = mirrors_told a.chart.now n k p.result p.ensures (omega arith) x.result y.result x.ensures y.ensures true (eq-eqb _ _ c.if-copies_of.false) in
-    (omega arith, sym (all_next (mirrors a.chart.now n) k n (omega arith) told) ∙ c.loop-k.invariant.1)
+    let told = mirrors_told a.chart.now n k p.result p.ensures (omega arith) x.result y.result x.ensures.0 y.ensures.0 true (eq-eqb _ _ c.if-copies_of.false) in
+    sym (all_next (mirrors a.chart.now n) k n (omega arith) told) ∙ c.loop-k.invariant
 
 pub returns : goal.returns
 returns c =
     let a = c.args in
     let n = a.d.kinds in
-    sym (all_done (mirrors a.chart.now n) c.loop-k.k n c.loop-k-test.false) ∙ c.loop-k.invariant.1 ∙ mirrorable_start a.d a.work.now a.chart.now
+    sym (all_done (mirrors a.chart.now n) c.loop-k.k n c.loop-k-test.false) ∙ c.loop-k.invariant ∙ mirrorable_start a.d a.work.now a.chart.now

@@ -1,12 +1,9 @@
-use Rattle.std.proofs.Common.{◌-◌, ◌≤◌, ◌≡◌}
+use Rattle.std.proofs.Common.{◌-◌, ◌≡◌}
 use Rattle.lists.specs.Lists.{all, from}
 use Rattle.fast.proofs.PrunedLaws.{mirrors}
 use Rattle.fast.proofs.pruning.always_mirrorable.Given as goal
 
+-- the kinds from k on decide
 abbrev pub invariant-loop-k : goal.invariant-loop-k
 invariant-loop-k l =
-    let n = l.d.kinds in
-    (l.k ≤ n) × (all (mirrors l.chart n) (from l.k (n - l.k)) ≡ all (mirrors l.chart n) (from 0 (n - 0)))
-
-abbrev pub decreases-loop-k : goal.decreases-loop-k
-decreases-loop-k l = l.d.kinds - l.k
+    let n = l.d.kinds in all (mirrors l.chart n) (from l.k (n - l.k)) ≡ all (mirrors l.chart n) (from 0 (n - 0))

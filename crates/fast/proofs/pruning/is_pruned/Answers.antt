@@ -35,7 +35,7 @@ kind_after-requires c =
     let a = c.args in
     let ok = c.requires.0.lawful in
     let kind = row_kind a.d a.work.now a.chart.now ok a.r c.requires.1 in
-    (few-kinds a.d a.work.now a.chart.now ok, c.requires.0.charted.long, omega arith)
+    (few-kinds a.d a.work.now a.chart.now ok, omega arith)
 
 pub returns-then-kind_after-ne0 : goal.returns-then-kind_after-ne0
 unfolding system_in system_over

@@ -17,16 +17,16 @@ returns-then-image_row-r c =
     let a = c.args in
     let m = c.loop-m.m in
     let told = moves_told a.d a.work.now a.chart.now a.r c.requires.3 m c.image_row.result c.image_row.ensures true (lt-ltb _ a.r c.if-image_row-r.true) in
-    sym (any_found (moves a.d a.work.now a.chart.now a.r) m a.end c.loop-m-test.true told) ∙ c.loop-m.invariant.2
+    sym (any_found (moves a.d a.work.now a.chart.now a.r) m a.end c.loop-m-test.true told) ∙ c.loop-m.invariant
 
 pub loop-m-preserved : goal.loop-m-preserved
 loop-m-preserved c =
     let a = c.args in
     let m = c.loop-m.m in
     let told = moves_told a.d a.work.now a.chart.now a.r c.requires.3 m c.image_row.result c.image_row.ensures false (le-ltb _ a.r c.if-image_row-r.false) in
-    (omega arith, omega arith, sym (any_next (moves a.d a.work.now a.chart.now a.r) m a.end c.loop-m-test.true told) ∙ c.loop-m.invariant.2)
+    sym (any_next (moves a.d a.work.now a.chart.now a.r) m a.end c.loop-m-test.true told) ∙ c.loop-m.invariant
 
 pub returns : goal.returns
 returns c =
     let a = c.args in
-    sym (any_none (moves a.d a.work.now a.chart.now a.r) c.loop-m.m a.end c.loop-m-test.false) ∙ c.loop-m.invariant.2
+    sym (any_none (moves a.d a.work.now a.chart.now a.r) c.loop-m.m a.end c.loop-m-test.false) ∙ c.loop-m.invariant

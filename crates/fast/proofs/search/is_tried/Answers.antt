@@ -1,26 +1,44 @@
 -- `is_tried` meets its contract: the three tests, one after the other. Assumes nothing.
-use Rattle.std.proofs.Common.{ap, ◌∙◌}
-use Rattle.masks.specs.Masks.{has, either}
+use Rattle.std.proofs.Common.{Bool, true, false, not, ◌&&◌, ◌||◌, ◌≡◌, refl, ap, ◌∙◌}
+use Rattle.masks.specs.Masks.{apart, has, either}
 use Rattle.masks.specs.declared.Mask.{Mask}
-use Rattle.fast.specs.States.{left_part}
+use Rattle.rows.specs.Rows.{mask_at, row_at}
+use Rattle.rows.specs.Shown.{shows_row}
+use Rattle.rows.specs.Systems.{owned_in}
 use Rattle.fast.proofs.UnmetLaws.{test_fails, test_passes}
 use Rattle.fast.proofs.AheadLaws.{goes_below}
 use Rattle.fast.proofs.search.is_tried.Goals as goal
+use Rattle.fast.proofs.search.is_tried.Goals.{then-is_clear, else-is_clear}
 
-pub returns-then-not-is_clear : goal.returns-then-not-is_clear
-returns-then-not-is_clear c = test_fails _ _ c.is_clear.result c.is_clear.ensures c.if-not-is_clear.true
+both : (a b c : Bool) → ((a && b) && c) ≡ (a && (b && c))
+both true b c = refl
+both false b c = refl
 
-pub returns-then-not-leads : goal.returns-then-not-leads
-returns-then-not-leads c =
-    test_passes _ _ c.is_clear.result _ c.is_clear.ensures c.if-not-is_clear.false
-    (test_fails _ _ c.leads.result c.leads.ensures c.if-not-leads.true)
-
-pub returns : goal.returns
-returns c =
+pub returns-then-leads : goal.returns-then-leads
+returns-then-leads c =
     let a = c.args in
     let r = c.requires.ready in
-    test_passes _ _ c.is_clear.result _ c.is_clear.ensures c.if-not-is_clear.false
-    (test_passes _ _ c.leads.result _ c.leads.ensures c.if-not-leads.false
+    let clear = apart 128 (has (mask_at a.work.now a.r)) (has a.covered) in
+    let shows = not a.waiting || shows_row (owned_in a.chart.now.pieces a.d.pieces) a.shown.now (row_at a.work.now a.r) in
+    let two : c.if-is_clear.value ≡ (clear && shows) =
+    elim c.if-is_clear.branch [
+      | then-is_clear w ↦ w.value-is ∙ test_passes clear shows c.is_clear.result w.leads.result c.is_clear.ensures w.if-is_clear.true w.leads.ensures
+      | else-is_clear w ↦ w.value-is ∙ w.if-is_clear.false ∙ test_fails clear shows c.is_clear.result c.is_clear.ensures w.if-is_clear.false
+    ] in
+    test_passes (clear && shows) _ c.if-is_clear.value _ two c.if-leads.true
     (c.goes_on.ensures
-    ∙ goes_below (left_part a.state.now) a.covered c.union.result r.0 a.r a.kind r.1 r.2
-    (c.union.ensures ∙ ap (λ (m : Mask). either (has a.covered) (has m)) c.mask_at.ensures)))
+    ∙ goes_below a.state.now.left a.covered c.union.result r.0 a.r a.kind r.1 r.2
+    (c.union.ensures ∙ ap (λ (m : Mask). either (has a.covered) (has m)) c.mask_at.ensures))
+    ∙ both clear shows _
+
+pub returns-else-leads : goal.returns-else-leads
+returns-else-leads c =
+    let a = c.args in
+    let clear = apart 128 (has (mask_at a.work.now a.r)) (has a.covered) in
+    let shows = not a.waiting || shows_row (owned_in a.chart.now.pieces a.d.pieces) a.shown.now (row_at a.work.now a.r) in
+    let two : c.if-is_clear.value ≡ (clear && shows) =
+    elim c.if-is_clear.branch [
+      | then-is_clear w ↦ w.value-is ∙ test_passes clear shows c.is_clear.result w.leads.result c.is_clear.ensures w.if-is_clear.true w.leads.ensures
+      | else-is_clear w ↦ w.value-is ∙ w.if-is_clear.false ∙ test_fails clear shows c.is_clear.result c.is_clear.ensures w.if-is_clear.false
+    ] in
+    c.if-leads.false ∙ test_fails (clear && shows) _ c.if-is_clear.value two c.if-leads.false ∙ both clear shows _

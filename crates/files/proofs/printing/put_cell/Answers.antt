@@ -1,11 +1,9 @@
--- `files::printing::put_cell` meets its contract: where the board is unfilled a `-` is put, else the piece, a point and the copy, each of at most
--- three digits. Assumes nothing.
-use mathlib.Core.Path.{◌≡◌}
-use native.Mathlib.Omega.{arith}
+-- Where the board is unfilled a `-` is put, else the piece, a point and the copy, each of at most three digits. Assumes nothing.
+use Rattle.std.proofs.Common.{◌≡◌, arith}
 use Rattle.texts.proofs.DecimalLaws.{digits_of_byte}
 use Rattle.files.proofs.ListingLaws.{put_unfilled, put_filled}
 use Rattle.files.proofs.printing.put_cell.Goals as goal
-use Rattle.files.proofs.printing.put_cell.Goals.{else-piece-eq255, then-piece-eq255+else-copy-eq255}
+use Rattle.files.proofs.printing.put_cell.Goals.{else-piece-eq255-via-then-piece-eq255+else-copy-eq255, else-piece-eq255-via-else-piece-eq255}
 
 pub returns-then-copy-eq255 : goal.returns-then-copy-eq255
 returns-then-copy-eq255 c = let a = c.args in (put_unfilled a.out.now a.at a.piece a.copy (omega arith) (omega arith) (omega arith), omega arith)
@@ -20,8 +18,8 @@ returns c =
     let f = p.end in
     let g = q.end in
     let either : a.piece ≡ 255 → a.copy ≡ 255 → ⊥ =
-    λ x y. elim c.if-piece-eq255.branch [
-      | then-piece-eq255+else-copy-eq255 w ↦ w.if-copy-eq255.false y
-      | else-piece-eq255 w ↦ w.if-piece-eq255.false x
+    λ x y. elim c.else-piece-eq255.branch [
+      | else-piece-eq255-via-then-piece-eq255+else-copy-eq255 w ↦ w.if-copy-eq255.false y
+      | else-piece-eq255-via-else-piece-eq255 w ↦ w.if-piece-eq255.false x
     ] in
     (put_filled a.piece a.copy either p q (omega arith), omega arith)

@@ -1,10 +1,10 @@
--- The pieces of the lines before `from` are read, and the lines from there on are left.
-use Prim.Native.Nat.{◌-◌}
-use Rattle.files.proofs.ReadingLineLaws.{ReadTo}
+-- The pieces of the lines passed are read, and `rest` is left.
+use Rattle.std.proofs.Common.{length}
+use Rattle.files.proofs.ReadingLaws.{ReadTo}
 use Rattle.files.proofs.reading.read_pieces.Given as goal
 
-abbrev pub invariant-loop-from : goal.invariant-loop-from
-invariant-loop-from l = ReadTo l.text l.start l.initial.cells l.from l.t l.used l.cells
+abbrev pub invariant-loop-line : goal.invariant-loop-line
+invariant-loop-line l = ReadTo l.text l.initial.cells l.rest l.pieces l.used l.cells
 
-abbrev pub decreases-loop-from : goal.decreases-loop-from
-decreases-loop-from l = l.to - l.from
+abbrev pub decreases-loop-line : goal.decreases-loop-line
+decreases-loop-line l = length l.rest

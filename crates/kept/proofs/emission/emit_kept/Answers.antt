@@ -1,4 +1,4 @@
--- `rows::emission::emit_kept` meets its contract: its rows in ascending order stand kind by kind, and give the packing's answer. Assumes nothing.
+-- `emit_kept` meets its contract: its rows in ascending order stand kind by kind, and give the packing's answer. Assumes nothing.
 use Rattle.kept.specs.Emission.{emitted_of, identified}
 use Rattle.kept.proofs.EmitLaws.{sorted_rows, sorted_kinds, sorted_up, sorted_held, emit_left, emit_put}
 use Rattle.kept.proofs.emission.emit_kept.Goals as goal
@@ -7,13 +7,11 @@ pub is_normal_form-requires : goal.is_normal_form-requires
 is_normal_form-requires c =
     let a = c.args in
     let p = c.requires in
-    let r = c.sort_path in
-    let s = r.new.sorted in
-    let l = r.auto.sorted in (
+    let r = c.sort_path in (
       p.0,
-      sorted_rows a.d a.work.now a.chart.now p.0 a.path.now a.n p.1 p.2 s l r.ensures.0,
-      sorted_kinds a.d a.work.now a.chart.now p.0 a.path.now a.n p.1 p.2 s l r.ensures.0,
-      sorted_up a.d a.work.now a.chart.now p.0 a.path.now a.n p.1 p.2 s l r.ensures.0,
+      sorted_rows a.d a.work.now a.chart.now p.0 a.path.now p.1 p.2 r.new.sorted r.ensures,
+      sorted_kinds a.d a.work.now a.chart.now p.0 a.path.now p.1 p.2 r.new.sorted r.ensures,
+      sorted_up a.d a.work.now a.chart.now p.0 a.path.now p.1 p.2 r.new.sorted r.ensures,
     )
 
 pub returns-then-not-is_normal_form : goal.returns-then-not-is_normal_form
@@ -22,7 +20,7 @@ returns-then-not-is_normal_form c =
     let p = c.requires in
     let r = c.sort_path in
     let v = c.is_normal_form in
-    emit_left a.d a.work.now a.chart.now p.0 a.path.now a.n p.1 p.2 r.new.sorted r.auto.sorted r.ensures.0 (identified a.wanted) a.wanted.capacity
+    emit_left a.d a.work.now a.chart.now p.0 a.path.now p.1 p.2 r.new.sorted r.ensures (identified a.wanted) a.wanted.capacity
     (emitted_of a.e a.last.now a.answers.now) v.result v.ensures c.if-not-is_normal_form.true
 
 pub emit_answer-requires : goal.emit_answer-requires
@@ -30,7 +28,7 @@ emit_answer-requires c =
     let a = c.args in
     let p = c.requires in
     let r = c.sort_path in
-    (sorted_held a.d a.work.now a.chart.now p.0 a.path.now a.n p.1 p.2 r.new.sorted r.auto.sorted r.ensures.0, p.0.few_places, p.3)
+    (sorted_held a.d a.work.now a.chart.now p.0 a.path.now p.1 p.2 r.new.sorted r.ensures, p.0.few_places, p.3)
 
 pub returns : goal.returns
 returns c =
@@ -38,5 +36,5 @@ returns c =
     let p = c.requires in
     let r = c.sort_path in
     let v = c.is_normal_form in
-    emit_put a.d a.work.now a.chart.now p.0 a.path.now a.n p.1 p.2 r.new.sorted r.auto.sorted r.ensures.0 (identified a.wanted) a.wanted.capacity
+    emit_put a.d a.work.now a.chart.now p.0 a.path.now p.1 p.2 r.new.sorted r.ensures (identified a.wanted) a.wanted.capacity
     (emitted_of a.e a.last.now a.answers.now) v.result v.ensures c.if-not-is_normal_form.false _ c.emit_answer.ensures

@@ -1,16 +1,15 @@
--- `knuth::building::build_links` meets its contract: heads, copies and rows make the system's matrix, and `link_all` links it. Assumes nothing.
+-- `build_links` meets its contract: heads, copies and rows make the system's matrix, and `link_all` links it. Assumes nothing.
 use Prim.Native.Nat.{ℕ, ◌≤◌}
 use mathlib.Core.List.{List}
 use native.Mathlib.Omega.{arith}
-use borrow.Author.Rules.{rules}
-use lib.ListN.{length}
 use Rattle.rows.specs.declared.Dims.{Dims}
 use Rattle.kept.specs.Ready.{Ready}
 use Rattle.kept.proofs.ReadyLaws.{few-cells, few-kinds}
-use Rattle.knuth.proofs.BuildingLaws.{posed, begun, built_behind}
+use Rattle.knuth.proofs.BuildingLaws.{posed, begun}
 use Rattle.knuth.proofs.building.build_links.Goals as goal
+use Rattle.rows.specs.declared.chart.Chart.{Chart}
 
-few : (d : Dims) (work chart : List ℕ) → Ready d work chart → (d.size ≤ 128) × (d.kinds ≤ 16)
+few : (d : Dims) (work : List ℕ) (chart : Chart) → Ready d work chart → (d.size ≤ 128) × (d.kinds ≤ 16)
 few d work chart r = (few-cells d work chart r.lawful, few-kinds d work chart r.lawful)
 
 pub overflow_add-d : goal.overflow_add-d
@@ -21,8 +20,9 @@ put_heads-requires c = omega (arith, few c.args.d c.args.work.now c.args.chart.n
 
 pub put_copies-requires : goal.put_copies-requires
 put_copies-requires c =
-    let f = few c.args.d c.args.work.now c.args.chart.now c.requires.0 in
-    (search rules, f.0, f.1, c.requires.0.charted)
+    let a = c.args in
+    let f = few a.d a.work.now a.chart.now c.requires.0 in
+    (f.0, f.1)
 
 pub overflow_add-d-2 : goal.overflow_add-d-2
 overflow_add-d-2 c = omega (arith, few c.args.d c.args.work.now c.args.chart.now c.requires.0)
@@ -31,17 +31,13 @@ pub link_all-requires : goal.link_all-requires
 link_all-requires c =
     let a = c.args in
     let r = c.put_rows-nodes in
-    posed a.d a.work.now a.chart.now c.requires.0 c.requires.2 a.links.now c.put_heads.new.links c.put_copies.new.links r.new.links
-    c.put_heads.ensures c.put_copies.ensures r.ensures.1 (omega arith) r.result r.ensures.0
+    posed a.d a.work.now a.chart.now c.requires.0 c.requires.1 a.links.now c.put_heads.new.links c.put_copies.new.links r.new.links
+    c.put_heads.ensures c.put_copies.ensures r.ensures.1 r.result r.ensures.0
 
 pub returns : goal.returns
 returns c =
     let a = c.args in
     let r = c.put_rows-nodes in
     let all = c.link_all in
-    let long : 32768 ≤ length r.new.links = omega arith in record {
-      begun = begun a.d a.work.now a.chart.now c.requires.0 c.requires.2 a.links.now c.put_heads.new.links c.put_copies.new.links r.new.links
-          c.put_heads.ensures c.put_copies.ensures r.ensures.1 long r.result r.ensures.0 all.new.links all.ensures.linked;
-      behind = built_behind a.d a.work.now a.chart.now c.requires.0 c.requires.2 a.links.now c.put_heads.new.links c.put_copies.new.links r.new.links
-          c.put_heads.ensures c.put_copies.ensures r.ensures.1 long all.new.links all.ensures.behind;
-    }
+    begun a.d a.work.now a.chart.now c.requires.0 c.requires.1 a.links.now c.put_heads.new.links c.put_copies.new.links r.new.links
+    c.put_heads.ensures c.put_copies.ensures r.ensures.1 r.result r.ensures.0 all.new.self all.ensures.linked

@@ -1,11 +1,9 @@
--- `knuth::building::put_cells` meets its contract. The loop's invariant: the nodes of the cells below c are laid. Assumes nothing.
+-- `put_cells` meets its contract. The loop's invariant: the nodes of the cells before c are laid. Assumes nothing.
 use Prim.Native.Nat.{ℕ, ◌+◌, ◌≤◌, ◌<◌}
 use mathlib.Core.Bool.{Bool, true, false}
 use mathlib.Core.List.{List, [], ◌∷◌}
-use mathlib.Core.Path.{◌≡◌, sym, ap, ◌∙◌, subst}
+use mathlib.Core.Path.{◌≡◌, sym, ◌∙◌, subst}
 use native.Mathlib.Omega.{arith}
-use borrow.Author.Rules.{rules}
-use lib.ListN.{length}
 use Rattle.lists.specs.Lists.{below, how_many}
 use Rattle.lists.proofs.CountLaws.{count_more}
 use Rattle.masks.specs.Masks.{has}
@@ -19,44 +17,44 @@ room : (p : ℕ → Bool) (i n x at : ℕ) → i < n → p i ≡ true → at ≡
 room p i n x at h b e l = omega (arith, count_hit p i b, count_more p (i + 1) n (omega arith))
 
 pub loop-c-init : goal.loop-c-init
-loop-c-init c = (search rules, omega arith, omega arith, laid_none _ _)
+loop-c-init c = (omega arith, laid_none _ _)
 
 pub put_node-requires : goal.put_node-requires
 put_node-requires c =
     let l = c.loop-c in
-    let r = room (has c.args.mask) l.c c.args.n c.args.x l.at (omega arith) (sym c.has_cell.ensures ∙ c.if-has_cell.true) l.invariant.2 c.requires.5 in
-    (search rules, r, omega arith, search rules, search rules, search rules)
+    let k = c.args.kind in
+    let r = room (has c.args.mask) l.c c.args.n (k.first + 1) l.at (omega arith) (sym c.has_cell.ensures ∙ c.if-has_cell.true) l.invariant.0 c.requires.1 in
+    (r, omega arith, omega arith, c.requires.2, c.requires.3)
 
-pub overflow_add-at : goal.overflow_add-at
-overflow_add-at c =
+pub overflow_add-at-then-has_cell : goal.overflow_add-at-then-has_cell
+overflow_add-at-then-has_cell c =
     let l = c.loop-c in
-    let r = room (has c.args.mask) l.c c.args.n c.args.x l.at (omega arith) (sym c.has_cell.ensures ∙ c.if-has_cell.true) l.invariant.2 c.requires.5 in
+    let k = c.args.kind in
+    let r = room (has c.args.mask) l.c c.args.n (k.first + 1) l.at (omega arith) (sym c.has_cell.ensures ∙ c.if-has_cell.true) l.invariant.0 c.requires.1 in
     omega arith
 
 pub loop-c-preserved : goal.loop-c-preserved
 loop-c-preserved c =
     let a = c.args in
+    let k = a.kind in
     let l = c.loop-c in
     let p = has a.mask in
     elim c.if-has_cell.branch [
       | then-has_cell w ↦ let b : p l.c ≡ true = sym c.has_cell.ensures ∙ w.if-has_cell.true in (
-        ap length w.links-is ∙ w.put_node.auto.links ∙ l.invariant.0,
-        omega arith,
-        omega (arith, w.at-is, l.invariant.2, count_hit p l.c b),
-        cells_hit p a.first a.end a.row a.links.now l.links c.if-has_cell.links a.x l.at l.c l.invariant.2 l.invariant.3 b
-            (subst (λ (m : List ℕ). Laid l.links l.at m (record { col = l.c; lo = a.first; hi = a.end; row = a.row } ∷ []))
+        omega (arith, w.at-is, l.invariant.0, count_hit p l.c b),
+        cells_hit p k.first k.end k.row a.links.now l.links c.if-has_cell.links (k.first + 1) l.at l.c l.invariant.0 l.invariant.1 b
+            (subst (λ (m : List ℕ). Laid l.links l.at m (record { column = l.c; first = k.first; end = k.end; row = k.row } ∷ []))
             (sym w.links-is) w.put_node.ensures),
       )
       | else-has_cell w ↦ let b : p l.c ≡ false = sym c.has_cell.ensures ∙ w.if-has_cell.false in (
-        ap length w.links-is ∙ l.invariant.0,
-        omega arith,
-        omega (arith, w.at-is, l.invariant.2, count_miss p l.c b),
-        cells_miss p a.first a.end a.row a.links.now l.links c.if-has_cell.links a.x l.at l.c l.invariant.2 l.invariant.3 b w.links-is,
+        omega (arith, w.at-is, l.invariant.0, count_miss p l.c b),
+        cells_miss p k.first k.end k.row a.links.now l.links c.if-has_cell.links (k.first + 1) l.at l.c l.invariant.0 l.invariant.1 b w.links-is,
       )
     ]
 
 pub returns : goal.returns
 returns c =
     let a = c.args in
+    let k = a.kind in
     let e : c.loop-c.c ≡ a.n = omega arith in
-    subst (λ (n : ℕ). Laid a.links.now a.x c.loop-c.links (cell_nodes (has a.mask) a.first a.end a.row n)) e c.loop-c.invariant.3
+    subst (λ (n : ℕ). Laid a.links.now (k.first + 1) c.loop-c.links (cell_nodes (has a.mask) k.first k.end k.row n)) e c.loop-c.invariant.1

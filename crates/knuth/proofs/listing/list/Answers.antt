@@ -1,48 +1,12 @@
--- `list` meets its contract: the links that are built are where a search begins, and what the search emits is the list. Assumes nothing.
-use Prim.Native.Nat.{◌+◌}
-use mathlib.Core.Path.{refl, ap, ◌∙◌}
-use native.Mathlib.Omega.{arith}
-use lib.ListN.{drop}
-use Rattle.lists.proofs.ListLaws.{drop_same}
-use Rattle.kept.specs.Emission.{emitted_of, identified}
-use Rattle.kept.proofs.ReadyLaws.{few-cells}
-use Rattle.links.specs.Build.{whole, every_column}
-use Rattle.knuth.specs.Matrix.{matrix_of}
-use Rattle.rows.specs.Systems.{system_in}
-use Rattle.knuth.proofs.KnuthPageLaws.{begins, choosable, lists}
+-- `list` meets its contract: the first numbers are given over, and what lies behind them is as it was. Assumes nothing.
+use Rattle.std.proofs.Common.{arith, length-take-le}
+use Rattle.std.proofs.lemmas.Slice.{drop-append-drop}
 use Rattle.knuth.proofs.listing.list.Goals as goal
 
-pub show_cells-requires : goal.show_cells-requires
-show_cells-requires c =
-    let a = c.args in
-    let r = c.requires.0 in
-    (few-cells a.d a.work.now a.chart.now r.lawful, refl, r.charted.long, r.few_places)
+pub list_over-requires : goal.list_over-requires
+list_over-requires c = (c.requires.0, omega (arith, length-take-le 32768 c.args.links.now c.requires.1), c.requires.2, c.requires.3)
 
--- every row is possible, and none is chosen
-pub choose-requires : goal.choose-requires
-choose-requires c =
-    let a = c.args in
-    record {
-      ready = (
-        c.requires.0,
-        record { within = omega arith; few = omega arith; are_rows = tt },
-        refl,
-        c.show_cells.auto.shown,
-        c.show_cells.ensures,
-        c.requires.3,
-      );
-      choosable = choosable a.d a.work.now a.chart.now c.build_links.new.links c.build_links.ensures.begun;
-    }
-
-pub returns : goal.returns
-returns c =
-    let a = c.args in
-    let S = system_in a.d a.work.now a.chart.now in
-    let links = c.build_links.new.links in
-    let b = c.build_links.ensures.begun in
-    let old = emitted_of a.e a.last.now a.answers.now in record {
-      page = rw (← lists a.d a.work.now a.chart.now links b c.requires.0.lawful (identified a.wanted) a.wanted.capacity old)
-          (c.choose.ensures.found (whole (matrix_of S) b.law) every_column b.copies (a.d.size + 1)
-          (begins a.d a.work.now a.chart.now links b) refl (omega arith));
-      behind = ap (drop 32768) c.choose.ensures.same.0 ∙ drop_same 32768 links a.links.now c.build_links.auto.links c.build_links.ensures.behind;
-    }
+pub returns-clause-behind : goal.returns-clause-behind
+returns-clause-behind c =
+    let all = c.args.links.now in
+    drop-append-drop 32768 all c.list_over.new.numbers 32768 (omega arith) (omega (arith, c.list_over.auto.numbers, length-take-le 32768 all c.requires.1))

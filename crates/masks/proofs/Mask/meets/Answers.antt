@@ -6,9 +6,9 @@ use Rattle.masks.proofs.Mask.meets.Goals as goal
 pub returns-then-self-other-ne0 : goal.returns-then-self-other-ne0
 returns-then-self-other-ne0 c =
     let a = c.args in
-    meets_low a.self.low a.self.high a.other.low a.other.high (omega arith) (omega arith) (omega arith)
+    meets_low a.self.low a.self.high a.other.low a.other.high (omega arith) (omega arith) c.if-self-other-ne0.true
 
-pub returns : goal.returns
-returns c =
+pub returns-else-self-other-ne0 : goal.returns-else-self-other-ne0
+returns-else-self-other-ne0 c =
     let a = c.args in
-    meets_high a.self.low a.self.high a.other.low a.other.high (omega arith) (omega arith) (omega arith)
+    meets_high a.self.low a.self.high a.other.low a.other.high (omega arith) (omega arith) c.if-self-other-ne0.false

@@ -1,32 +1,34 @@
--- `output::pages::first_page` meets its contract. Assumes nothing.
-use Prim.Native.Nat.{◌*◌}
-use mathlib.Core.Path.{refl}
-use lib.Seq.{length_front}
+-- The page call is accepted, and wrote a page, or is refused. Assumes nothing.
+use Rattle.std.proofs.Common.{◌*◌, refl}
+use Rattle.std.proofs.Math.Seq.{length_front}
+use Rattle.std.proofs.lemmas.Result.{err_from_is_err_and}
 use Rattle.output.proofs.BeginLaws.{first_listed, first_refused, first_there}
 use Rattle.output.proofs.pages.first_page.Goals as goal
 
-pub returns-in-Refused : goal.returns-in-Refused
-returns-in-Refused c =
+pub returns-in_err-first : goal.returns-in_err-first
+returns-in_err-first c =
     let x = c.args in
     let q = c.requires in
-    first_refused x.text.now x.asked x.cells.now x.work.now x.links.now q.0 x.answers.now
+    let p = err_from_is_err_and c.from_residual.result c.from_residual.ensures.1 in
+    rw (p.1, p.2)
+    (first_refused x.text.now x.asked x.cells.now x.work.now x.links.now q.0 x.answers.now
     c.places_of-places.result c.places_of-places.ensures.0 c.places_of-places.ensures.1 q.1 q.2
-    c.in-Refused.why _ refl c.refusal_number-number.result _ _ _ _ _ c.refusal_number-number.ensures (rw c.in-Refused.is at c.page-listing.ensures.outcome)
+    _ _ _ _ _ _ (rw c.in_err-first.was at c.page.ensures.outcome))
 
-pub returns-in-NoEntry : goal.returns-in-NoEntry
-returns-in-NoEntry c =
+pub unwrap-page-requires : goal.unwrap-page-requires
+unwrap-page-requires c =
     let x = c.args in
     let q = c.requires in
-    absurd (first_there x.text.now x.asked x.cells.now x.work.now x.links.now q.0 x.answers.now
+    first_there x.text.now x.asked x.cells.now x.work.now x.links.now q.0 x.answers.now
     c.places_of-places.result c.places_of-places.ensures.0 c.places_of-places.ensures.1 q.1 q.2
-    _ _ _ _ (rw c.in-NoEntry.is at c.page-listing.ensures.outcome))
+    c.in_ok-first.first _ _ _ _ (rw c.in_ok-first.was at c.page.ensures.outcome)
 
-pub returns-in-Page : goal.returns-in-Page
-returns-in-Page c =
+pub returns : goal.returns
+returns c =
     let x = c.args in
     let q = c.requires in
-    let page = c.page-listing.new.answers in
+    let page = c.page.new.answers in
     first_listed x.text.now x.asked x.cells.now x.work.now x.links.now q.0 x.answers.now
     c.places_of-places.result c.places_of-places.ensures.0 c.places_of-places.ensures.1 q.1 q.2
-    c.in-Page.written c.in-Page.further _ page _ _ _ (rw c.in-Page.is at c.page-listing.ensures.outcome) refl
-    (length_front x.answers.now page (2 * c.places_of-places.result) c.page-listing.auto.answers)
+    c.unwrap-page.result.written c.unwrap-page.result.further _ page _ _ _ (rw (c.in_ok-first.was, c.unwrap-page.ensures) at c.page.ensures.outcome) refl
+    (length_front x.answers.now page (2 * c.places_of-places.result) c.page.auto.answers)

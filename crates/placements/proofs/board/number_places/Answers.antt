@@ -1,28 +1,21 @@
 -- `number_places` meets its contract. The loop's invariant: the places from number k on are written, so that the first of equal places is written last.
 -- Assumes nothing.
-use mathlib.Core.Path.{◌∙◌}
-use native.Mathlib.Omega.{arith}
-use borrow.Author.Rules.{rules}
-use lib.ListN.{length}
-use Rattle.placements.proofs.FittingLaws.{number_start, number_next, number_end}
+use Rattle.std.proofs.Common.{ℕ, ◌≡◌, replicate, length, subst, rules, arith}
+use Rattle.placements.proofs.FittingLaws.{NumberedFrom, number_start, number_next, number_end}
 use Rattle.placements.proofs.board.number_places.Goals as goal
 
 pub loop-k-init : goal.loop-k-init
 loop-k-init c =
-    (search rules, search rules, number_start c.args.places.now c.args.n (length c.args.scans.now) c.requires.1 c.requires.2 _ c.fill.ensures)
+    let filled : c.fill.new.self ≡ replicate (length c.args.scans.now) (length c.args.places.now) = search rules in
+    number_start c.args.places.now (length c.args.scans.now) c.requires.1 _ filled
 
 pub loop-k-preserved : goal.loop-k-preserved
 loop-k-preserved c =
     let l = c.loop-k in
-    let e = c.fill.auto.scans in (
-      search rules,
-      omega arith,
-      number_next c.args.places.now c.args.n (length c.args.scans.now) c.requires.1 c.requires.2 l.k l.scans (l.invariant.0 ∙ e)
-          (omega arith) (omega arith) l.invariant.2,
-    )
+    number_next c.args.places.now (length c.args.scans.now) c.requires.1 l.k l.scans (omega arith) (omega arith) (omega arith) l.invariant
 
 pub returns : goal.returns
 returns c =
     let l = c.loop-k in
-    let e = c.fill.auto.scans in
-    number_end c.args.places.now c.args.n (length c.args.scans.now) c.requires.1 c.requires.2 l.k l.scans (l.invariant.0 ∙ e) (omega arith) l.invariant.2
+    let end : l.k ≡ 0 = omega arith in
+    number_end c.args.places.now (length c.args.scans.now) c.requires.1 l.scans (omega arith) (subst (λ (k : ℕ). NumberedFrom c.args.places.now k l.scans) end l.invariant)

@@ -1,47 +1,73 @@
 -- `placements::counting::count_tray` meets its contract: the cells of the board, the kinds, and what `count_kinds` counts. Assumes nothing.
-use Rattle.std.proofs.Common.{◌≡◌, ◌∙◌, sym, ap, subst, map, take, arith}
+use Rattle.std.proofs.Common.{ℕ, List, ◌≤◌, ◌≡◌, ◌∙◌, sym, ap, subst, map, take, length, arith}
+use lib.Seq.{take-length, length-take-le}
+use Rattle.lists.specs.Lists.{sum}
 use Rattle.definitions.specs.Grid.{Grid}
 use Rattle.definitions.specs.Scan.{axes, scan}
 use Rattle.definitions.specs.Refusals.{grid_of}
 use Rattle.shape.specs.Coords.{as_sides}
+use Rattle.shape.specs.CubicGrids.{grid_of as cubic}
 use Rattle.shape.specs.Places.{cell_at}
 use Rattle.shape.specs.Scans.{as_order}
 use Rattle.shape.proofs.PlaceLaws.{volume_small}
-use Rattle.placements.proofs.RefusalLaws.{grid_is, grid_whole}
-use Rattle.placements.proofs.CountingLaws.{lent_passes, sound, board_fits, board_few, board_size, on-board}
+use Rattle.placements.specs.Counting.{Counted}
+use Rattle.placements.proofs.CountingLaws.{board_few, on-board, counted_front, kinds_listed}
+use Rattle.placements.proofs.TrayLaws.{lent, few_pieces}
 use Rattle.placements.proofs.counting.count_tray.Goals as goal
+use Rattle.placements.proofs.counting.count_tray.Goals.{After-merge-kinds}
 
-pub cells_of-requires : goal.cells_of-requires
-cells_of-requires c = board_fits _ _ _ (lent_passes c.args.t c.args.board c.args.bytes.now c.requires.0)
+pub plan_coords-size-requires : goal.plan_coords-size-requires
+plan_coords-size-requires c =
+    let grid = c.board_grid-grid.result in
+    (volume_small (as_sides grid.sides) grid.whole.fit).1
 
-pub plan_coords-n-requires : goal.plan_coords-n-requires
-plan_coords-n-requires c =
-    let a = c.args in
-    let s = c.sides_of-s in
-    let l = lent_passes a.t a.board a.bytes.now c.requires.0 in
-    let w = grid_whole a.bytes.now a.board s.result c.cells_of.result.now s.ensures (board_fits _ _ _ l).0 c.cells_of.ensures.1 in (
-      w,
-      record { box = as_sides s.result; is_its = sym c.plan_axis_order-order.ensures },
-      omega (arith, (volume_small _ w.fit).1, c.requires.1),
-    )
+pub invariant_of-board : goal.invariant_of-board
+unfolding grid_of
+invariant_of-board c =
+    let t = c.args.tray in
+    let l = lent t in
+    let grid = c.board_grid-grid in
+    let order = as_order c.order-order.result in
+    let g = cubic grid.result in
+    let places = take c.plan_coords-size.result c.plan_coords-size.new.places in
+    let is : axes g.sides ≡ order = ap (λ (h : Grid). axes h.sides) grid.ensures ∙ sym c.order-order.ensures in
+    let cells : map (cell_at g.sides) (take (length places) places) ≡ scan order g =
+    ap (map (cell_at g.sides)) (take-length places) ∙ c.plan_coords-size.ensures.cells in
+    let few : sum g.cells ≤ 128 = subst (λ (h : Grid). sum h.cells ≤ 128) (sym grid.ensures) (board_few _ _ _ l) in
+    record { on_board = on-board order g places (length places) is (omega arith) cells grid.result.whole.size few }
 
-pub smallest_maps-requires : goal.smallest_maps-requires
-smallest_maps-requires c = (sound _ _ _ (lent_passes c.args.t c.args.board c.args.bytes.now c.requires.0), c.requires.2)
+-- the kinds are few
+few_kinds : (c : After-merge-kinds) → c.merge-kinds.result ≤ length c.merge-kinds.new.first
+few_kinds c = let few = few_pieces c.args.tray in omega (arith, c.merge-kinds.ensures.0.few, c.merge-kinds.auto.first)
 
-pub merge-kinds-requires : goal.merge-kinds-requires
-merge-kinds-requires c =
-    (sound _ _ _ (lent_passes c.args.t c.args.board c.args.bytes.now c.requires.0), c.smallest_maps.ensures.0, omega (arith, c.requires.3))
+pub slice_bounds-first-end : goal.slice_bounds-first-end
+slice_bounds-first-end c = few_kinds (goal.at.slice_bounds-first-end c).After-merge-kinds
 
-pub count_kinds-requires : goal.count_kinds-requires
-count_kinds-requires c =
-    let a = c.args in
-    let l = lent_passes a.t a.board a.bytes.now c.requires.0 in
-    let q = c.plan_coords-n in
-    let o = c.plan_axis_order-order in
-    let m = c.merge-kinds in
-    let is = grid_is a.bytes.now a.board c.sides_of-s.result c.cells_of.result.now c.sides_of-s.ensures c.cells_of.ensures.0 in
-    let on = on-board (as_order o.result) (grid_of a.bytes.now a.board) q.new.places q.result (ap (λ (g : Grid). axes g.sides) (sym is) ∙ sym o.ensures)
-    (omega (arith, q.ensures.within, q.auto.places))
-    (subst (λ (g : Grid). map (cell_at g.sides) (take q.result q.new.places) ≡ scan (as_order o.result) g) is q.ensures.cells)
-    (board_size _ _ _ l) (board_few _ _ _ l) in
-    (c.requires.0, on, c.smallest_maps.ensures.0, m.ensures.0, omega (arith, l.few, m.ensures.0.few, m.auto.first, c.requires.3), c.requires.4)
+pub slice_bounds-count_kinds-end : goal.slice_bounds-count_kinds-end
+slice_bounds-count_kinds-end c =
+    sym (length-take-le c.merge-kinds.result c.merge-kinds.new.first (few_kinds (goal.at.slice_bounds-count_kinds-end c).After-merge-kinds))
+
+pub count_kinds-counts-requires-clause-kinds : goal.count_kinds-counts-requires-clause-kinds
+count_kinds-counts-requires-clause-kinds c =
+    kinds_listed (few_kinds (goal.at.count_kinds-counts-requires-clause-kinds c).After-merge-kinds) c.merge-kinds.ensures.0
+
+pub invariant_of-result : goal.invariant_of-result
+invariant_of-result c =
+    let t = c.args.tray in
+    let counts = c.count_kinds-counts in
+    let size = c.plan_coords-size.result in
+    let places = c.plan_coords-size.new.places in
+    let kinds = c.merge-kinds.result in
+    let first = c.merge-kinds.new.first in
+    let few = few_kinds (goal.at.invariant_of-result c).After-merge-kinds in
+    let within : size ≤ length places = omega (arith, c.plan_coords-size.ensures.within, c.plan_coords-size.auto.places) in
+    let all_places : counts.result.size ≡ size = counts.ensures.sizes.0 ∙ length-take-le size places within in
+    let all_kinds : counts.result.kinds ≡ kinds = counts.ensures.sizes.1 ∙ length-take-le kinds first few in
+    record {
+      counted = counted_front (omega arith) (omega arith)
+          (subst (λ (ps : List ℕ). Counted t.pieces t.board t.bytes.now ps (take counts.result.kinds first) counts.new.turnings counts.result)
+          (ap (λ (n : ℕ). take n places) (sym all_places))
+          (subst (λ (ks : List ℕ). Counted t.pieces t.board t.bytes.now (take size places) ks counts.new.turnings counts.result)
+          (ap (λ (n : ℕ). take n first) (sym all_kinds)) counts.ensures.counted));
+      smallest = c.smallest_maps-small.ensures.0;
+    }

@@ -1,51 +1,29 @@
--- `placements::fitting::count_at` meets its contract. The loop's invariant: what is counted and what fits of the variants from i on make all. Assumes nothing.
-use Rattle.std.proofs.Common.{ℕ, Bool, List, ◌≤◌, ◌<◌, ◌≡◌, ◌∙◌, refl, sym, ap, length, get_or, arith}
-use Rattle.lists.specs.Lists.{below, how_many}
-use Rattle.lists.proofs.ListLaws.{how_many_map}
-use Rattle.lists.proofs.RangeLaws.{length_below, number_at}
-use Rattle.lists.proofs.CountLaws.{count_hit, count_miss, count_end}
-use Rattle.definitions.specs.Grid.{Cell, Grid}
-use Rattle.definitions.specs.Scan.{axes, scan}
-use Rattle.definitions.specs.Placements.{fits}
+-- `placements::fitting::count_at` meets its contract: std's count of the variants that fit, by their numbers. Assumes nothing.
+use Rattle.std.proofs.Common.{◌≡◌, ◌∙◌, refl, sym, rules, tests, arith}
+use Rattle.std.specs.List.{count_by, range_with_len}
+use Rattle.std.proofs.lemmas.List.FromFn.{length-range_with_len}
+use Rattle.std.proofs.lemmas.Iterator.{YieldsList-from_range}
+use Rattle.std.proofs.lemmas.Iterator.Consumers.{YieldsList-at, YieldsList-from_filter, count_from_yields_List}
+use Rattle.std.proofs.lemmas.List.Sums.{count_by-le-length, length-filter}
+use Rattle.definitions.specs.Scan.{axes}
 use Rattle.shape.specs.Coords.{as_sides, as_cell}
-use Rattle.shape.specs.Grids.{as_grid}
-use Rattle.placements.specs.Poses.{variant_in, variants_in}
-use Rattle.placements.proofs.FittingLaws.{fits_variant}
+use Rattle.shape.specs.CubicGrids.{grid_of}
+use Rattle.placements.specs.Fitting.{fits_pose}
+use Rattle.placements.proofs.FittingLaws.{variants_fit}
 use Rattle.placements.proofs.fitting.count_at.Goals as goal
-use Rattle.placements.proofs.fitting.count_at.Goals.{then-fits_pose, else-fits_pose}
-
--- whether variant k fits on a grid, of axes in an order
-abbrev fitting : List ℕ → Grid → Cell → List ℕ → ℕ → ℕ → Bool
-fitting o g at poses size k = fits (scan o g) at (variant_in o poses size k)
-
-pub loop-i-preserved : goal.loop-i-preserved
-loop-i-preserved c =
-    let a = c.args in
-    let i = c.loop-i.i in
-    let o = axes (as_sides a.b) in
-    let g = as_grid a.b a.board.now in
-    let p = fitting o g (as_cell a.at) a.poses.now a.size in
-    let ns = below a.n in
-    let h : i < a.n = c.loop-i-test.true in
-    let z : i < length ns = omega (arith, length_below a.n) in
-    let e : p (get_or ns i 0) ≡ c.fits_pose.result =
-    ap p (number_at a.n i h)
-    ∙ fits_variant o (record { box = as_sides a.b; is_its = refl }) g (as_cell a.at) a.poses.now a.size a.n c.requires.2 i h
-    ∙ sym c.fits_pose.ensures in
-    elim c.if-fits_pose.branch [
-      | then-fits_pose w ↦ omega (arith, count_hit p ns i z (e ∙ w.if-fits_pose.true))
-      | else-fits_pose w ↦ omega (arith, count_miss p ns i z (e ∙ w.if-fits_pose.false))
-    ]
 
 pub returns : goal.returns
-unfolding variants_in
 returns c =
     let a = c.args in
-    let o = axes (as_sides a.b) in
-    let g = as_grid a.b a.board.now in
-    let p = fitting o g (as_cell a.at) a.poses.now a.size in
-    let l = c.loop-i in
-    let z : length (below a.n) ≤ l.i = omega (arith, length_below a.n) in
-    let e = how_many_map (fits (scan o g) (as_cell a.at)) (variant_in o a.poses.now a.size) (below a.n) in
-    let d : l.count ≡ how_many p (below a.n) = omega (arith, count_end p (below a.n) l.i z, l.invariant.2) in
-    (d ∙ sym e, omega arith)
+    let box = as_sides a.board.now.sides in
+    let g = grid_of a.board.now in
+    let fit = fits_pose g (as_cell a.at) a.poses.now in
+    let n = a.poses.now.count in
+    let source = YieldsList-at c.filter.ensures.source (YieldsList-from_range 0 n n refl (omega arith)) in
+    let counted : c.count.result ≡ count_by fit (range_with_len 0 n) =
+    count_from_yields_List c.filter.result _ c.count.ensures.ran
+    (YieldsList-from_filter _ fit source c.filter.ensures.closure (λ x b q k. search (rules, tests)))
+    ∙ length-filter fit (range_with_len 0 n) in (
+      counted ∙ sym (variants_fit (axes box) (record { box = box; is_its = refl }) g (as_cell a.at) a.poses.now c.requires.1),
+      omega (arith, counted, count_by-le-length fit (range_with_len 0 n), length-range_with_len 0 n),
+    )

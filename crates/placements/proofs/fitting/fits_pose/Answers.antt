@@ -3,7 +3,7 @@ use Rattle.std.proofs.Common.{◌+◌, ◌*◌, ◌≡◌, ◌∙◌, sym, ap, g
 use Rattle.lists.proofs.RangeLaws.{all_next}
 use Rattle.definitions.specs.Placements.{reaches}
 use Rattle.shape.specs.Coords.{as_cell}
-use Rattle.shape.specs.Grids.{as_grid}
+use Rattle.shape.specs.CubicGrids.{grid_of}
 use Rattle.placements.specs.Poses.{cell_of, origin_in}
 use Rattle.placements.proofs.FittingLaws.{lands_as, lands_at, fits_not, fits_start}
 use Rattle.placements.proofs.fitting.fits_pose.Goals as goal
@@ -17,22 +17,19 @@ pub returns-then-not-does_reach : goal.returns-then-not-does_reach
 returns-then-not-does_reach c =
     let a = c.args in
     let r = reached (goal.at.returns-then-not-does_reach c).After-does_reach in
-    fits_not (as_grid a.b a.board.now) (as_cell a.at) a.poses.now a.size a.i (r ∙ c.if-not-does_reach.true)
+    fits_not (grid_of a.board.now) (as_cell a.at) a.poses.now a.i (r ∙ c.if-not-does_reach.true)
 
 pub loop-k-init : goal.loop-k-init
 loop-k-init c =
     let a = c.args in
-    let r = reached (goal.at.loop-k-init c).After-does_reach in (
-      omega arith,
-      fits_start (as_grid a.b a.board.now) (as_cell a.at) a.poses.now a.size a.i (r ∙ c.if-not-does_reach.false)
-          (omega (arith, c.requires.2, c.requires.3, c.requires.4)),
-    )
+    let r = reached (goal.at.loop-k-init c).After-does_reach in
+    fits_start (grid_of a.board.now) (as_cell a.at) a.poses.now a.i (r ∙ c.if-not-does_reach.false) (omega (arith, c.requires.1, c.requires.2))
 
 pub loop-k-preserved : goal.loop-k-preserved
 loop-k-preserved c =
     let a = c.args in
     let l = c.loop-k in
-    let g = as_grid a.b a.board.now in
-    let landed = lands_as g (as_cell a.at) (origin_in a.poses.now a.i) (cell_of (get_or a.poses.now (512 * a.i + l.k) 0)) c.is_filled.result
+    let g = grid_of a.board.now in
+    let landed = lands_as g (as_cell a.at) (origin_in a.poses.now a.i) (cell_of (get_or a.poses.now.codes (512 * a.i + l.k) 0)) c.is_filled.result
     c.is_filled.ensures c.lies_at.ensures c.origin_at-o.ensures c.cell_at.ensures.0 in
-    (omega arith, l.invariant.1 ∙ all_next (lands_at g (as_cell a.at) a.poses.now a.i) l.k a.size c.loop-k-test.true (landed ∙ c.if-not-is_filled.false))
+    l.invariant ∙ all_next (lands_at g (as_cell a.at) a.poses.now a.i) l.k a.poses.now.size c.loop-k-test.true (landed ∙ c.if-not-is_filled.false)

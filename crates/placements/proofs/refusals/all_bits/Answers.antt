@@ -1,29 +1,26 @@
--- `all_bits` meets its contract: all the grids pass exactly if all that are left do. Assumes nothing.
-use mathlib.Core.Path.{◌∙◌}
+-- `all_bits` meets its contract: `all` asks the grid of each record, whose sides fit and whose cells lie in the bytes. Assumes nothing.
+use Rattle.std.proofs.Common.{◌∙◌, Bool, T, sym, subst, rules, tests}
+use Rattle.std.proofs.lemmas.Iterator.{YieldsList-from_slice}
+use Rattle.std.proofs.lemmas.Iterator.Adapters.{serves_from_places}
+use Rattle.std.proofs.lemmas.Iterator.Search.{all_from_yields_List}
+use Rattle.lists.proofs.ListLaws.{all_get_or}
 use Rattle.definitions.specs.Refusals.{grid_of, sides_fit, cells_lie, are_bits}
-use Rattle.placements.proofs.RefusalLaws.{left_fails, left_passes, left_ends, records_long, record_passes, bits_told}
+use Rattle.definitions.specs.declared.Record.{Record}
+use Rattle.placements.proofs.RefusalLaws.{all_is, bits_told}
 use Rattle.placements.proofs.refusals.all_bits.Goals as goal
 
--- record i has fitting sides, and its cells lie in the bytes
-pub cells_of-requires : goal.cells_of-requires
-cells_of-requires c =
-    let t = c.args.t in
-    let at = record_passes t c.requires.0 (records_long t c.well_formed.0) c.loop-i.i c.loop-i-test.true in
-    (at sides_fit c.requires.1, at (cells_lie c.args.bytes.now) c.requires.2)
-
-pub returns-then-not-are_bits : goal.returns-then-not-are_bits
-returns-then-not-are_bits c =
-    let t = c.args.t in
-    left_fails (λ q. are_bits (grid_of c.args.bytes.now q)) t c.requires.0 (records_long t c.well_formed.0) c.loop-i.i c.loop-i.invariant c.loop-i-test.true
-    (bits_told c.args.bytes.now _ _ c.cells_of.ensures.0 _ c.are_bits.ensures ∙ c.if-not-are_bits.true)
-
-pub loop-i-preserved : goal.loop-i-preserved
-loop-i-preserved c =
-    let t = c.args.t in
-    left_passes (λ q. are_bits (grid_of c.args.bytes.now q)) t c.requires.0 (records_long t c.well_formed.0) c.loop-i.i c.loop-i.invariant c.loop-i-test.true
-    (bits_told c.args.bytes.now _ _ c.cells_of.ensures.0 _ c.are_bits.ensures ∙ c.if-not-are_bits.false)
+pub all-requires-clause-callable : goal.all-requires-clause-callable
+all-requires-clause-callable c =
+    let pieces = c.args.pieces.now in
+    let lie = cells_lie c.args.bytes.now in
+    serves_from_places (YieldsList-from_slice pieces cc) (λ x q r. search rules)
+    (λ x k inside at.
+    let fit : T (sides_fit x.now) = subst (λ (p : Record). T (sides_fit p)) (sym at) (all_get_or sides_fit x.now pieces c.requires.0 k inside) in
+    let there : T (cells_lie c.args.bytes.now x.now) = subst (λ (p : Record). T (lie p)) (sym at) (all_get_or lie x.now pieces c.requires.1 k inside) in search rules)
 
 pub returns : goal.returns
 returns c =
-    let t = c.args.t in
-    left_ends (λ q. are_bits (grid_of c.args.bytes.now q)) t c.requires.0 (records_long t c.well_formed.0) c.loop-i.i c.loop-i.invariant c.loop-i-test.false
+    let pieces = c.args.pieces.now in
+    let test : Record → Bool = λ q. are_bits (grid_of c.args.bytes.now q) in
+    all_from_yields_List test _ _ _ c.all.ensures.ran (YieldsList-from_slice pieces cc) (λ x b q k. search (rules, tests, bits_told))
+    ∙ sym (all_is test pieces)

@@ -1,27 +1,23 @@
--- `all_cells_lie` meets its contract: all the records pass exactly if all that are left do. Assumes nothing.
-use mathlib.Core.Path.{sym, ◌∙◌}
+-- `all_cells_lie` meets its contract: `all` asks each record, whose sides fit. Assumes nothing.
+use Rattle.std.proofs.Common.{◌∙◌, T, sym, subst, rules, tests}
+use Rattle.std.proofs.lemmas.Iterator.{YieldsList-from_slice}
+use Rattle.std.proofs.lemmas.Iterator.Adapters.{serves_from_places}
+use Rattle.std.proofs.lemmas.Iterator.Search.{all_from_yields_List}
+use Rattle.lists.proofs.ListLaws.{all_get_or}
 use Rattle.definitions.specs.Refusals.{sides_fit, cells_lie}
-use Rattle.placements.proofs.RefusalLaws.{left_fails, left_passes, left_ends, records_long, record_passes}
+use Rattle.definitions.specs.declared.Record.{Record}
+use Rattle.placements.proofs.RefusalLaws.{all_is}
 use Rattle.placements.proofs.refusals.all_cells_lie.Goals as goal
 
-pub cells_lie-requires : goal.cells_lie-requires
-cells_lie-requires c =
-    let t = c.args.t in
-    record_passes t c.requires.0 (records_long t c.well_formed.0) c.loop-i.i c.loop-i-test.true sides_fit c.requires.1
-
-pub returns-then-not-cells_lie : goal.returns-then-not-cells_lie
-returns-then-not-cells_lie c =
-    let t = c.args.t in
-    left_fails (cells_lie c.args.bytes.now) t c.requires.0 (records_long t c.well_formed.0) c.loop-i.i c.loop-i.invariant c.loop-i-test.true
-    (sym c.cells_lie.ensures ∙ c.if-not-cells_lie.true)
-
-pub loop-i-preserved : goal.loop-i-preserved
-loop-i-preserved c =
-    let t = c.args.t in
-    left_passes (cells_lie c.args.bytes.now) t c.requires.0 (records_long t c.well_formed.0) c.loop-i.i c.loop-i.invariant c.loop-i-test.true
-    (sym c.cells_lie.ensures ∙ c.if-not-cells_lie.false)
+pub all-requires-clause-callable : goal.all-requires-clause-callable
+all-requires-clause-callable c =
+    let pieces = c.args.pieces.now in
+    serves_from_places (YieldsList-from_slice pieces cc) (λ x q r. search rules)
+    (λ x k inside at.
+    let fit : T (sides_fit x.now) = subst (λ (p : Record). T (sides_fit p)) (sym at) (all_get_or sides_fit x.now pieces c.requires k inside) in search rules)
 
 pub returns : goal.returns
 returns c =
-    let t = c.args.t in
-    left_ends (cells_lie c.args.bytes.now) t c.requires.0 (records_long t c.well_formed.0) c.loop-i.i c.loop-i.invariant c.loop-i-test.false
+    let pieces = c.args.pieces.now in
+    let test = cells_lie c.args.bytes.now in
+    all_from_yields_List test _ _ _ c.all.ensures.ran (YieldsList-from_slice pieces cc) (λ x b q k. search (rules, tests)) ∙ sym (all_is test pieces)

@@ -1,30 +1,40 @@
 -- `strip_pieces` meets its contract. The loop's invariant: the records of the pieces passed stand for these pieces, stripped. Assumes nothing.
-use mathlib.Core.Path.{refl}
-use native.Mathlib.Omega.{arith}
-use Rattle.placements.proofs.RefusalLaws.{records_long}
-use Rattle.placements.proofs.MergingLaws.{record_fits}
+use Rattle.std.proofs.Common.{refl, arith}
 use Rattle.placements.proofs.StrippingLaws.{stripped_none, stripped_next, stripped_all}
+use Rattle.placements.proofs.TrayLaws.{few_pieces, piece_fits}
 use Rattle.placements.proofs.stripping.strip_pieces.Goals as goal
 
 pub loop-i-init : goal.loop-i-init
-loop-i-init c =
-    stripped_none c.args.t c.args.bytes.now c.args.out.now (records_long c.args.t c.well_formed.0)
+loop-i-init c = let t = c.args.tray.now in stripped_none t.pieces t.bytes.now c.args.out.now (omega arith)
+
+pub overflow_mul-i : goal.overflow_mul-i
+overflow_mul-i c = let few = few_pieces c.args.tray.now in omega arith
+
+pub overflow_add-i : goal.overflow_add-i
+overflow_add-i c = let few = few_pieces c.args.tray.now in omega arith
 
 pub strip_record-s-requires : goal.strip_record-s-requires
 strip_record-s-requires c =
-    let t = c.args.t in
-    let fits = record_fits t c.args.bytes.now c.requires.0 (records_long t c.well_formed.0) c.loop-i.i c.loop-i-test.true in
-    (fits.0, fits.1, omega (arith, c.requires.0.few, c.requires.1, c.loop-i.invariant.before.long))
+    let t = c.args.tray.now in
+    let few = few_pieces t in
+    let fits = piece_fits t (omega arith) c.loop-i.i c.loop-i-test.true c.piece-p.result c.piece-p.ensures in
+    (fits.0, fits.1, omega arith)
+
+pub offset_bounds-made-i : goal.offset_bounds-made-i
+offset_bounds-made-i c = let few = few_pieces c.args.tray.now in omega arith
+
+pub bounds-made-i : goal.bounds-made-i
+bounds-made-i c = let few = few_pieces c.args.tray.now in omega arith
 
 pub loop-i-preserved : goal.loop-i-preserved
 loop-i-preserved c =
-    let t = c.args.t in
+    let t = c.args.tray.now in
     let l = c.loop-i in
-    stripped_next t c.args.bytes.now c.args.out.now (records_long t c.well_formed.0) l.i l.made l.out l.invariant c.requires.0.few c.loop-i-test.true _ refl
+    stripped_next t.pieces t.bytes.now c.args.out.now (omega arith) l.i l.made l.out l.invariant (few_pieces t) c.loop-i-test.true c.piece-p.result c.piece-p.ensures
     c.strip_record-s.result _ c.strip_record-s.ensures _ refl
 
 pub returns : goal.returns
 returns c =
-    let t = c.args.t in
+    let t = c.args.tray.now in
     let l = c.loop-i in
-    stripped_all t c.args.bytes.now c.args.out.now (records_long t c.well_formed.0) l.i l.made l.out l.invariant c.requires.0.few c.loop-i-test.false
+    stripped_all t.pieces t.bytes.now c.args.out.now (omega arith) l.i l.made l.out l.invariant (few_pieces t) c.loop-i-test.false

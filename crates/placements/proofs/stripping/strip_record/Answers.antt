@@ -1,26 +1,19 @@
 -- `strip_record` meets its contract: the record of the window that `strip_grid` answers stands for the stripped grid. Assumes nothing.
-use mathlib.Core.Path.{sym, ap, ◌∙◌}
-use native.Mathlib.Omega.{arith}
-use Rattle.definitions.specs.Grid.{volume}
-use Rattle.theorems.proofs.RefusalLaws.{fit-volume}
-use Rattle.placements.proofs.RefusalLaws.{grid_is, grid_whole}
+use Rattle.std.proofs.Common.{arith}
+use Rattle.shape.specs.Coords.{as_sides}
+use Rattle.shape.specs.CubicGrids.{grid_of}
+use Rattle.shape.proofs.PlaceLaws.{volume_small}
 use Rattle.placements.proofs.StrippingLaws.{strips_record}
 use Rattle.placements.proofs.stripping.strip_record.Goals as goal
 
-pub strip_grid-w-requires : goal.strip_grid-w-requires
-strip_grid-w-requires c =
-    let r = c.args.r in
-    let s = c.sides_of in (
-      grid_whole c.args.bytes.now r s.result c.cells_of-cells.result.now s.ensures c.requires.0 c.cells_of-cells.ensures.1,
-      omega (arith, ap volume s.ensures, fit-volume r c.requires.0, c.requires.2),
-    )
+pub strip_grid-window-requires : goal.strip_grid-window-requires
+strip_grid-window-requires c =
+    let grid = c.grid_of.result in
+    omega (arith, (volume_small (as_sides grid.sides) grid.whole.fit).1, c.requires.2)
 
 pub returns : goal.returns
 returns c =
     let a = c.args in
-    let s = c.sides_of in
-    let cells = c.cells_of-cells in
-    let bytes = a.bytes.now in
-    let is = grid_is bytes a.r s.result cells.result.now s.ensures cells.ensures.0 in
-    strips_record bytes a.r _ is (cells.ensures.1 ∙ ap volume (sym s.ensures)) c.requires.0 c.strip_grid-w.result a.out.now _
-    a.start c.strip_grid-w.ensures c.requires.2
+    let grid = c.grid_of in
+    strips_record a.bytes.now a.r (grid_of grid.result) grid.ensures grid.result.whole.size c.requires.0 c.strip_grid-window.result a.out.now _
+    a.start c.strip_grid-window.ensures c.requires.2

@@ -15,7 +15,7 @@ loop-i-init c =
       search rules,
       n.up_to,
       n.stops,
-      laid_none a.mask (as_copy a.c) a.told.now c.requires ∙ laid_on a.mask (as_copy a.c) a.told.now c.requires 0 _ (omega arith) n,
+      laid_none a.mask (as_copy a.c) a.told.now (omega arith) ∙ laid_on a.mask (as_copy a.c) a.told.now (omega arith) 0 _ (omega arith) n,
     )
 
 pub loop-i-preserved : goal.loop-i-preserved
@@ -27,12 +27,12 @@ loop-i-preserved c =
       simp length-set l.invariant.0,
       n.up_to,
       n.stops,
-      laid_hit a.mask (as_copy a.c) a.told.now c.requires l.i (omega arith) (l.invariant.2 (omega arith)) l.told l.invariant.3
-          ∙ laid_on a.mask (as_copy a.c) a.told.now c.requires (l.i + 1) _ (omega arith) n,
+      laid_hit a.mask (as_copy a.c) a.told.now (omega arith) l.i (omega arith) (l.invariant.2 (omega arith)) l.told l.invariant.3
+          ∙ laid_on a.mask (as_copy a.c) a.told.now (omega arith) (l.i + 1) _ (omega arith) n,
     )
 
 pub returns : goal.returns
 returns c =
     let a = c.args in
     let e : c.loop-i.i ≡ 128 = omega arith in
-    c.loop-i.invariant.3 ∙ ap (laid_to a.mask (as_copy a.c) a.told.now) e ∙ laid_all a.mask (as_copy a.c) a.told.now c.requires
+    c.loop-i.invariant.3 ∙ ap (laid_to a.mask (as_copy a.c) a.told.now) e ∙ laid_all a.mask (as_copy a.c) a.told.now (omega arith)

@@ -1,15 +1,14 @@
 -- `rows::building::rows_by` meets its contract. The loop's invariant: the rows written and the placements at the cells from p on make all. Assumes nothing.
-use Prim.Native.Nat.{ℕ, ◌-◌, ◌≤◌}
+use Prim.Native.Nat.{ℕ}
 use mathlib.Core.List.{List}
 use mathlib.Core.Path.{◌≡◌}
 use lib.ListN.{length, drop}
 use Rattle.lists.specs.Lists.{joined, numbered, numbered_from}
 use Rattle.definitions.specs.Grid.{Cell, Grid}
-use Rattle.definitions.specs.Scan.{axes, scan}
+use Rattle.definitions.specs.Scan.{scan}
 use Rattle.definitions.specs.Placements.{Placement, placements_at}
-use Rattle.shape.specs.Coords.{as_sides}
-use Rattle.shape.specs.Grids.{as_grid}
 use Rattle.placements.specs.Poses.{variants_in}
+use Rattle.rows.specs.NumberedBoards.{board_of, order_of}
 use Rattle.rows.proofs.RowLaws.{Reached}
 use Rattle.rows.proofs.building.rows_by.Given as goal
 
@@ -22,11 +21,7 @@ left_by order g kind vs p = joined (numbered_from p (drop p (scan order g)) (pla
 
 abbrev pub invariant-loop-p : goal.invariant-loop-p
 invariant-loop-p l =
-    let o = axes (as_sides l.b) in
-    let g = as_grid l.b l.board in
-    let vs = variants_in o l.poses l.filled l.n in
-    (length l.work ≡ length l.initial.work) × (l.p ≤ l.size)
-    × Reached l.initial.work l.r l.work l.t (left_by o g l.kind vs l.p) (placements o g l.kind vs)
-
-abbrev pub decreases-loop-p : goal.decreases-loop-p
-decreases-loop-p l = l.size - l.p
+    let o = order_of l.board in
+    let g = board_of l.board in
+    let vs = variants_in o l.poses in
+    (length l.work ≡ length l.initial.work) × Reached l.initial.work l.r l.work l.t (left_by o g l.kind vs l.p) (placements o g l.kind vs)

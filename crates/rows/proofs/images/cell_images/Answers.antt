@@ -1,24 +1,47 @@
 -- `cell_images` meets its contract. The loop's invariant: the images of the first i cells are written. Assumes nothing.
+use mathlib.Core.Path.{◌≡◌, ap, ◌∙◌}
 use native.Mathlib.Omega.{arith}
 use borrow.Author.Rules.{rules}
-use Rattle.definitions.specs.Maps.{map_of}
-use Rattle.shape.specs.Coords.{as_sides}
+use lib.ListN.{length}
+use lib.Seq.{paste}
 use Rattle.definitions.specs.Grid.{volume}
-use Rattle.rows.proofs.PictureLaws.{place_at, images_next}
+use Rattle.definitions.specs.Maps.{map_of}
+use Rattle.rows.specs.Boards.{CanMove, place_images}
+use Rattle.rows.specs.NumberedBoards.{board_of, sides_of, order_of}
+use Rattle.rows.specs.declared.board.NumberedBoard.{NumberedBoard}
+use Rattle.rows.proofs.PictureLaws.{can_move, place_at, images_next}
 use Rattle.rows.proofs.images.cell_images.Goals as goal
+
+-- the board's cells can be moved
+movable : (b : NumberedBoard) → let places = b.planned.places.now in CanMove (sides_of b) places b.scans (length places)
+movable b = can_move (order_of b) (board_of b) b.planned.places.now b.scans (length b.planned.places.now) b.planned.on_board b.numbered b.planned.grid.whole.fit
 
 pub image_index-j-requires : goal.image_index-j-requires
 image_index-j-requires c =
-    let a = c.args in
-    let can = c.requires.0 in
-    (can.fit, place_at a.places.now a.size (volume (as_sides a.b)) can.within can.in_box c.loop-i.i (omega arith))
+    let b = c.args.board.now in
+    let can = movable b in
+    let places = b.planned.places.now in
+    (can.fit, place_at places (length places) (volume (sides_of b)) can.within can.in_box c.loop-i.i (omega arith))
+
+pub bounds-board-j : goal.bounds-board-j
+bounds-board-j c = omega (arith, (movable c.args.board.now).enough)
 
 pub loop-i-preserved : goal.loop-i-preserved
 loop-i-preserved c =
     let a = c.args in
+    let b = a.board.now in
+    let places = b.planned.places.now in
     let l = c.loop-i in (
       search rules,
-      omega arith,
-      images_next (as_sides a.b) (map_of a.m.0) a.places.now a.scans.now a.size c.requires.0.within a.images.now a.start l.i c.image_index-j.result c.requires.1
-          (omega arith) c.image_index-j.ensures.0 l.images l.invariant.2,
+      images_next (sides_of b) (map_of a.m.0) places b.scans (length places) (omega arith) a.images.now a.start l.i c.image_index-j.result c.requires
+          (omega arith) c.image_index-j.ensures.0 l.images l.invariant.1,
     )
+
+pub returns : goal.returns
+returns c =
+    let a = c.args in
+    let b = a.board.now in
+    let places = b.planned.places.now in
+    let l = c.loop-i in
+    let e : l.i ≡ length places = omega arith in
+    l.invariant.1 ∙ ap (paste a.images.now a.start (place_images (sides_of b) (map_of a.m.0) places b.scans (length places))) e

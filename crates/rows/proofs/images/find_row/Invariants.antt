@@ -1,12 +1,8 @@
 -- `find_row` meets its contract. The loop's invariant: no row before r has the kind and the cells, since such a row is of the range. Assumes nothing.
-use Prim.Native.Nat.{◌-◌, ◌≤◌}
 use mathlib.Core.List.{◌∷◌}
 use Rattle.rows.specs.Rows.{cells_of}
 use Rattle.rows.proofs.RowRangeLaws.{Passed}
 use Rattle.rows.proofs.images.find_row.Given as goal
 
 abbrev pub invariant-loop-r : goal.invariant-loop-r
-invariant-loop-r l = (l.initial.r ≤ l.r) × Passed l.work (l.kind ∷ cells_of l.mask) l.r
-
-abbrev pub decreases-loop-r : goal.decreases-loop-r
-decreases-loop-r l = l.end - l.r
+invariant-loop-r l = Passed l.work (l.kind ∷ cells_of l.mask) l.r

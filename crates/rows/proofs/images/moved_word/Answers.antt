@@ -1,6 +1,5 @@
 use Prim.Native.Nat.{ℕ, ◌+◌, ◌-◌, ◌/◌, ◌^◌, ◌<◌}
 use mathlib.Core.Bool.{Bool, true}
-use mathlib.Core.List.{List}
 use mathlib.Core.Path.{◌≡◌, sym, ap, ◌∙◌, subst}
 use native.Mathlib.Nat.{div-one}
 use native.Mathlib.Omega.{arith}
@@ -9,13 +8,13 @@ use lib.ListN.{get_or}
 use Rattle.masks.specs.Masks.{has, hit}
 use Rattle.masks.proofs.MaskLaws.{cell_taken}
 use Rattle.masks.proofs.Trailing.{word_passed, word_done, word_hit, word_within, word_next}
-use Rattle.rows.specs.Charts.{images_part}
 use Rattle.rows.proofs.MovedLaws.{TakenUp, taken_none, taken_past, taken_hit, taken_all}
+use Rattle.rows.specs.declared.chart.Chart.{Chart}
 use Rattle.rows.proofs.images.moved_word.Goals as goal
 
 -- where the map takes a number
-abbrev to : List ℕ → ℕ → ℕ → ℕ
-to chart start j = get_or (images_part chart) (start + j) 0
+abbrev to : Chart → ℕ → ℕ → ℕ
+to chart start j = get_or chart.images (start + j) 0
 
 -- ---- the next number of a word of which `rest` is left from number i on
 module _ (word rest i : ℕ) (fits : word < 2 ^ 64) (is : rest ≡ word / 2 ^ i) (some : rest ≡ 0 → ⊥) where
@@ -56,7 +55,7 @@ loop-rest-preserved c =
     let zeros = count_trailing_zeros 64 l.rest in
     let w = within a.word l.rest l.i fits is c.loop-rest-test.true in
     let image = c.image_at.ensures in
-    let numbered : c.image_at.result < 128 = omega (arith, image, c.requires.3 (l.i + zeros) c.if-size-i.false) in (
+    let numbered : c.image_at.result < 128 = omega (arith, image, c.requires.2 (l.i + zeros) c.if-size-i.false) in (
       omega arith,
       ap (λ (r : ℕ). r / 2 ^ zeros / 2 ^ 1) is ∙ word_next a.word l.i fits zeros,
       taken_hit (hit a.word) f a.size (l.i + zeros) (has l.moved) c.if-size-i.false

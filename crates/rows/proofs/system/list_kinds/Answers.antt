@@ -1,125 +1,110 @@
-use Prim.Native.Nat.{ℕ, ◌+◌, ◌*◌, ◌<◌}
+use Prim.Native.Nat.{ℕ, ◌<◌}
+use mathlib.Core.List.{List}
 use mathlib.Core.Path.{◌≡◌, sym, ap, ◌∙◌}
 use native.Mathlib.Omega.{arith}
 use lib.Dec.{eqb}
-use lib.ListN.{length, take, get_or}
+use lib.ListN.{length, take, get_or, length-set}
 use Rattle.lists.specs.Lists.{how_many, before}
 use Rattle.definitions.specs.Grid.{Grid}
 use Rattle.definitions.specs.Maps.{map_of, map_grid}
 use Rattle.definitions.specs.Kinds.{Form, same_form, smallest}
-use Rattle.placements.specs.Merging.{grid_at, forms_of}
-use Rattle.placements.proofs.RefusalLaws.{records_long}
-use Rattle.placements.proofs.MergingLaws.{record_fits, piece_whole, piece_grid}
-use Rattle.rows.proofs.PairLaws.{set3_long}
-use Rattle.rows.proofs.KindListLaws.{mirrored_by, partner_at, lent_sound, kind_piece, copies_fit, number_fits, size_fits, small_next, kind_next, kinds_end}
-use mathlib.Core.List.{List}
+use Rattle.shape.specs.Coords.{as_sides}
+use Rattle.shape.specs.CubicGrids.{grid_of}
+use Rattle.shape.specs.declared.cubic_grid.CubicGrid.{CubicGrid}
+use Rattle.shape.proofs.PlaceLaws.{volume_small}
 use Rattle.placements.specs.declared.Pieces.{Pieces}
-use Rattle.placements.specs.Merging.{moved_form}
-use Rattle.shape.specs.declared.Coord.{Coord}
-use Rattle.shape.specs.Grids.{as_grid}
+use Rattle.placements.specs.declared.counted.CountedTray.{CountedTray}
+use Rattle.placements.specs.Merging.{grid_at, copies_at, moved_form, forms_of}
+use Rattle.rows.specs.declared.chart.Kind.{Kind}
+use Rattle.rows.proofs.CountedLaws.{first_of, kind_below, kind_number, kind_within, piece_below}
+use Rattle.rows.proofs.KindListLaws.{mirrored_by, partner_at, size_at, copies_fit, number_fits, kind_next, kinds_end}
 use Rattle.rows.proofs.system.list_kinds.Goals as goal
 
 -- a map that makes the smallest turned grid of a piece's mirrored grid tells the piece's partner
-partner_is : (t : Pieces) (bytes first : List ℕ) (n i m : ℕ) (s : Coord) (cells : List ℕ) (kind : ℕ) → as_grid s cells ≡ grid_at t bytes i
-    → map_grid (map_of m) (as_grid s cells) ≡ smallest (map_grid (map_of 26) (as_grid s cells))
+partner_is : (t : Pieces) (bytes first : List ℕ) (n i m : ℕ) (g : Grid) (kind : ℕ) → g ≡ grid_at t bytes i
+    → map_grid (map_of m) g ≡ smallest (map_grid (map_of 26) g)
     → kind ≡ before (same_form (moved_form (map_of m) t bytes i)) (forms_of t bytes (take n first)) → kind ≡ partner_at t bytes first n i
-partner_is t bytes first n i m s cells kind is made e =
+partner_is t bytes first n i m g kind is made e =
     e ∙ ap (λ (f : Form). before (same_form f) (forms_of t bytes (take n first)))
-    (mirrored_by t bytes i m (ap (map_grid (map_of m)) (sym is) ∙ made ∙ ap (λ (g : Grid). smallest (map_grid (map_of 26) g)) is))
+    (mirrored_by t bytes i m (ap (map_grid (map_of m)) (sym is) ∙ made ∙ ap (λ (h : Grid). smallest (map_grid (map_of 26) h)) is))
 
-pub bounds-t-i : goal.bounds-t-i
-bounds-t-i c =
-    let p = c.requires in
-    let long = records_long c.args.t c.well_formed.0 in
-    omega (arith, long, (lent_sound _ _ _ _ _ long p.0 p.2 p.3).few, kind_piece _ _ _ _ _ long p.0 p.2 p.3 c.loop-k.k c.loop-k-test.true)
-
-pub cells_of-cells-requires : goal.cells_of-cells-requires
-cells_of-cells-requires c =
-    let a = c.args in
-    let p = c.requires in
-    let long = records_long a.t c.well_formed.0 in
-    record_fits a.t a.bytes.now (lent_sound _ _ _ _ _ long p.0 p.2 p.3) long (get_or a.first.now c.loop-k.k 0)
-    (kind_piece _ _ _ _ _ long p.0 p.2 p.3 c.loop-k.k c.loop-k-test.true)
-
-pub smallest_of-m-requires : goal.smallest_of-m-requires
-smallest_of-m-requires c =
-    let a = c.args in
-    let p = c.requires in
-    let long = records_long a.t c.well_formed.0 in
-    piece_whole a.t a.bytes.now (lent_sound _ _ _ _ _ long p.0 p.2 p.3) long (get_or a.first.now c.loop-k.k 0)
-    (kind_piece _ _ _ _ _ long p.0 p.2 p.3 c.loop-k.k c.loop-k-test.true) c.sides_of.result c.cells_of-cells.result.now c.sides_of.ensures
-    c.cells_of-cells.ensures.1
+pub piece_grid-piece-requires : goal.piece_grid-piece-requires
+piece_grid-piece-requires c = piece_below c.args.counted.now (omega arith) _ c.kinds-first-items.ensures c.loop-k.k c.loop-k-test.true
 
 pub copies_of-requires : goal.copies_of-requires
-copies_of-requires c =
-    let p = c.requires in
-    let long = records_long c.args.t c.well_formed.0 in
-    (lent_sound _ _ _ _ _ long p.0 p.2 p.3, p.1, kind_piece _ _ _ _ _ long p.0 p.2 p.3 c.loop-k.k c.loop-k-test.true)
+copies_of-requires c = piece_below c.args.counted.now (omega arith) _ c.kinds-first-items.ensures c.loop-k.k c.loop-k-test.true
+
+pub kind_of-requires : goal.kind_of-requires
+kind_of-requires c = piece_below c.args.counted.now (omega arith) _ c.kinds-first-items.ensures c.loop-k.k c.loop-k-test.true
+
+-- what is written of a kind fits
+module _ (d : CountedTray) (long : length d.first ≡ 16) where
+  few_copies : (i : ℕ) → copies_at d.tray.pieces d.tray.bytes.now i < 256
+  few_copies i =
+      let h = copies_fit d.tray.pieces d.tray.board d.tray.bytes.now d.first d.counts.kinds d.tray.accepted d.counted.are_kinds (kind_within d long) i in
+      omega arith
+
+  few_kinds : (g : Form) → before (same_form g) (forms_of d.tray.pieces d.tray.bytes.now (take d.counts.kinds d.first)) < 256
+  few_kinds g =
+      let h = number_fits d.tray.pieces d.tray.board d.tray.bytes.now d.first d.counts.kinds d.tray.accepted d.counted.are_kinds (kind_within d long) g in
+      omega arith
+
+few_cells : (g : CubicGrid) → length g.cells.now < 65536
+few_cells g = let v = (volume_small (as_sides g.sides) g.whole.fit).1 in let e = g.whole.size in omega arith
 
 pub overflow_cast-kinds : goal.overflow_cast-kinds
 overflow_cast-kinds c =
-    let a = c.args in
-    let p = c.requires in
-    omega (arith, c.copies_of.ensures, copies_fit _ _ _ _ _ (records_long a.t c.well_formed.0) p.0 p.2 p.3 (get_or a.first.now c.loop-k.k 0))
-
-pub kind_of-requires : goal.kind_of-requires
-kind_of-requires c =
-    let p = c.requires in
-    let long = records_long c.args.t c.well_formed.0 in
-    (lent_sound _ _ _ _ _ long p.0 p.2 p.3, p.1, kind_piece _ _ _ _ _ long p.0 p.2 p.3 c.loop-k.k c.loop-k-test.true, p.3, p.2.ordered)
+    omega (arith, c.copies_of.ensures, few_copies c.args.counted.now (omega arith) (get_or c.kinds-first-items.result.now c.loop-k.k 0))
 
 pub overflow_cast-kinds-in-loop-k : goal.overflow_cast-kinds-in-loop-k
 overflow_cast-kinds-in-loop-k c =
-    let a = c.args in
-    let p = c.requires in
+    let t = c.args.counted.now.tray in
     omega (
       arith,
       c.kind_of.ensures,
-      number_fits _ _ _ _ _ (records_long a.t c.well_formed.0) p.0 p.2 p.3
-          (moved_form (map_of c.smallest_of-m.result.0) a.t a.bytes.now (get_or a.first.now c.loop-k.k 0)),
+      few_kinds c.args.counted.now (omega arith)
+          (moved_form (map_of c.smallest_of-m.result.0) t.pieces t.bytes.now (get_or c.kinds-first-items.result.now c.loop-k.k 0)),
     )
 
 pub overflow_cast-kinds-in-loop-k-2 : goal.overflow_cast-kinds-in-loop-k-2
-overflow_cast-kinds-in-loop-k-2 c =
-    let a = c.args in
-    let p = c.requires in
-    let long = records_long a.t c.well_formed.0 in
-    omega (
-      arith,
-      size_fits _ _ _ _ _ long p.0 p.2 p.3 c.count_filled.result c.cells_of-cells.result.now (get_or a.first.now c.loop-k.k 0)
-          (kind_piece _ _ _ _ _ long p.0 p.2 p.3 c.loop-k.k c.loop-k-test.true) c.cells_of-cells.ensures.1 c.count_filled.ensures.1,
-    )
+overflow_cast-kinds-in-loop-k-2 c = omega (arith, c.count_filled.ensures.1, few_cells c.piece_grid-piece.result)
+
+pub bounds-kinds-k : goal.bounds-kinds-k
+bounds-kinds-k c =
+    let d = c.args.counted.now in
+    let long : length d.first ≡ 16 = omega arith in
+    omega (arith, kind_number d long _ c.kinds-first-items.ensures, kind_within d long)
 
 pub loop-k-preserved : goal.loop-k-preserved
-unfolding grid_at
 loop-k-preserved c =
-    let a = c.args in
-    let bytes = a.bytes.now in
-    let p = c.requires in
+    let d = c.args.counted.now in
+    let t = d.tray in
     let l = c.loop-k in
-    let long = records_long a.t c.well_formed.0 in
-    let i = get_or a.first.now l.k 0 in
-    let piece = kind_piece _ _ _ _ _ long p.0 p.2 p.3 l.k c.loop-k-test.true in
-    let s = c.sides_of.result in
-    let grid = c.cells_of-cells in
-    let copies = c.copies_of.result in
-    let partner = c.kind_of.result in
-    let cells = c.count_filled.result in
-    let room : 3 * l.k + 2 < length l.kinds = omega arith in
-    let few = copies_fit _ _ _ _ _ long p.0 p.2 p.3 i in
-    let small = size_fits _ _ _ _ _ long p.0 p.2 p.3 cells grid.result.now i piece grid.ensures.1 c.count_filled.ensures.1 in
-    let is = piece_grid a.t bytes (lent_sound _ _ _ _ _ long p.0 p.2 p.3) long i piece s grid.result.now c.sides_of.ensures grid.ensures.0 in (
-      set3_long l.kinds l.k copies partner cells ∙ l.invariant.0,
-      omega arith,
-      small_next l.kinds l.k copies partner cells room l.invariant.2 (omega (arith, c.copies_of.ensures, few)) small,
-      kind_next _ _ _ _ _ long p.0 p.2 p.3 l.kinds l.k copies partner cells room l.invariant.3 c.copies_of.ensures
-          (partner_is a.t bytes a.first.now a.n i c.smallest_of-m.result.0 s grid.result.now partner is c.smallest_of-m.ensures.1 c.kind_of.ensures)
-          (c.count_filled.ensures.0 ∙ ap (how_many (eqb 1)) grid.ensures.0),
+    let long : length d.first ≡ 16 = omega arith in
+    let kinds = c.kinds-first-items in
+    let within = kind_within d long in
+    let number = kind_number d long kinds.result.now kinds.ensures in
+    let i = get_or kinds.result.now l.k 0 in
+    let is = first_of d long kinds.result.now kinds.ensures l.k (kind_below d long kinds.result.now kinds.ensures l.k c.loop-k-test.true) in
+    let g = grid_of c.piece_grid-piece.result in
+    let here = c.piece_grid-piece.ensures in
+    let partner = partner_is t.pieces t.bytes.now d.first d.counts.kinds i c.smallest_of-m.result.0 g c.kind_of.result here c.smallest_of-m.ensures.1
+    c.kind_of.ensures in
+    let entry : Kind = record { copies = c.copies_of.result; partner = c.kind_of.result; size = c.count_filled.result } in (
+      length-set l.kinds l.k entry ∙ l.invariant.0,
+      kind_next t.pieces t.board t.bytes.now d.first d.counts.kinds t.accepted d.counted.are_kinds within l.kinds l.k entry (omega arith) l.invariant.1
+          (c.copies_of.ensures ∙ ap (copies_at t.pieces t.bytes.now) is)
+          (partner ∙ ap (partner_at t.pieces t.bytes.now d.first d.counts.kinds) is)
+          (c.count_filled.ensures.0 ∙ ap (λ (h : Grid). how_many (eqb 1) h.cells) here ∙ ap (size_at t.pieces t.bytes.now) is),
     )
 
 pub returns : goal.returns
 returns c =
-    let p = c.requires in
+    let d = c.args.counted.now in
+    let t = d.tray in
     let l = c.loop-k in
-    let long = records_long c.args.t c.well_formed.0 in
-    (kinds_end _ _ _ _ _ long p.0 p.2 p.3 l.kinds (λ k h. l.invariant.3 k (omega (arith, c.loop-k-test.false))), l.invariant.2)
+    let long : length d.first ≡ 16 = omega arith in
+    let kinds = c.kinds-first-items in
+    let number = kind_number d long kinds.result.now kinds.ensures in
+    kinds_end t.pieces t.board t.bytes.now d.first d.counts.kinds t.accepted d.counted.are_kinds (kind_within d long) l.kinds
+    (λ k h. l.invariant.1 k (omega (arith, c.loop-k-test.false)))

@@ -1,18 +1,14 @@
--- `list_pieces` meets its contract. The loop's invariant: there are at most 16 pieces, and the kinds and the counts of the first i pieces stand at the
--- front. Assumes nothing.
-use Prim.Native.Nat.{◌-◌, ◌*◌, ◌≤◌}
+-- `list_pieces` meets its contract. The loop's invariant: the kinds and the counts of the pieces before i stand there. Assumes nothing.
+use Prim.Native.Nat.{ℕ, ◌<◌}
 use mathlib.Core.Path.{◌≡◌}
-use lib.ListN.{length}
-use lib.Seq.{paste}
-use Rattle.lists.specs.Lists.{below}
-use Rattle.rows.proofs.PairLaws.{pairs}
+use lib.ListN.{length, get_or}
+use Rattle.rows.specs.Charts.{nothing_owned}
 use Rattle.rows.proofs.KindListLaws.{kind_at, count_at}
 use Rattle.rows.proofs.system.list_pieces.Given as goal
 
 abbrev pub invariant-loop-i : goal.invariant-loop-i
 invariant-loop-i l =
-    (length l.pieces ≡ length l.initial.pieces) × (l.m ≤ 16) × (l.i ≤ l.m)
-    × (l.pieces ≡ paste l.initial.pieces 0 (pairs (kind_at l.t l.bytes l.first l.n) (count_at l.t) (below l.m)) (2 * l.i))
-
-abbrev pub decreases-loop-i : goal.decreases-loop-i
-decreases-loop-i l = l.m - l.i
+    let d = l.counted in
+    let t = d.tray in
+    (length l.pieces ≡ length l.initial.pieces)
+    × ((j : ℕ) → j < l.i → get_or l.pieces j nothing_owned ≡ record { kind = kind_at t.pieces t.bytes.now d.first d.counts.kinds j; count = count_at t.pieces j })

@@ -1,14 +1,9 @@
 -- `cell_at` meets its contract: the box has a cell, so no side is 0. Assumes nothing.
 use mathlib.Core.Path.{refl}
-use native.Mathlib.Omega.{arith}
-use native.Mathlib.Nat.{mul-le-mul}
 use Rattle.shape.specs.Coords.{as_sides}
 use Rattle.shape.specs.Places.{cell_at}
 use Rattle.shape.proofs.PlaceLaws.{filled, cell_in_box}
 use Rattle.shape.proofs.cells.cell_at.Goals as goal
-
-pub overflow_mul-result : goal.overflow_mul-result
-overflow_mul-result c = omega (arith, mul-le-mul c.requires.0.b c.requires.0.c)
 
 pub nonzero_div-result : goal.nonzero_div-result
 nonzero_div-result c = (filled (as_sides c.args.s) c.args.i c.requires.1).bc

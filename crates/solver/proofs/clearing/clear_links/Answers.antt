@@ -1,24 +1,16 @@
--- `kept::clearing::clear_links` meets its contract: the first i numbers are 0, and what lies behind them is as it was. Assumes nothing.
-use Prim.Native.Nat.{ℕ, ◌<◌}
-use mathlib.Core.List.{List}
-use mathlib.Core.Path.{ap, ◌∙◌}
-use native.Mathlib.Omega.{arith}
-use borrow.Author.Fill.{fill_none, fill_more}
-use borrow.Author.Rules.{rules}
-use lib.ListN.{length, set}
-use Rattle.solver.proofs.ClearingLaws.{cleared_at}
+-- `clear_links` meets its contract: only KnuthAlgorithm builds links. Assumes nothing.
+use Rattle.std.proofs.Common.{◌≤◌, length, cond, Bool, ap, sym, ◌∙◌, length-take-le}
+use Rattle.definitions.specs.Outcomes.{cleared}
+use Rattle.solver.proofs.ClearingLaws.{cleared_by, knuth_built}
 use Rattle.solver.proofs.clearing.clear_links.Goals as goal
 
-pub loop-i-init : goal.loop-i-init
-loop-i-init c = (search rules, omega arith, fill_none _ 0)
+pub slice_bounds-fill-end-then-eq : goal.slice_bounds-fill-end-then-eq
+slice_bounds-fill-end-then-eq c =
+    sym (length-take-le 32768 c.args.links.now (c.requires (knuth_built c.args.solver c.if-eq.ensures)))
 
-pub loop-i-preserved : goal.loop-i-preserved
-loop-i-preserved c =
-    let l = c.loop-i in
-    let h : l.i < length c.args.links.now = omega arith in
-    (search rules, omega arith, ap (λ (d : List ℕ). set d l.i 0) l.invariant.2 ∙ fill_more l.i 0 c.args.links.now h)
-
-pub returns : goal.returns
-returns c =
-    let l = c.loop-i in
-    l.invariant.2 ∙ cleared_at 32768 l.i c.args.links.now (omega arith)
+pub returns-then-eq : goal.returns-then-eq
+returns-then-eq c =
+    let links = c.args.links.now in
+    let built = knuth_built c.args.solver c.if-eq.ensures in
+    cleared_by 32768 links (c.requires built) (c.fill.ensures.after (λ y e. e))
+    ∙ ap (λ (b : Bool). cond b (cleared 32768 links) links) (sym built)

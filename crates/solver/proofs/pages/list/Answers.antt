@@ -1,12 +1,11 @@
 -- `list` meets its contract: the engine that the configuration names lists, and one that is not ported lists nothing. Assumes nothing.
 use Prim.Native.Nat.{◌*◌}
-use mathlib.Core.Path.{refl, sym, ap}
+use mathlib.Core.Path.{refl, ap}
 use native.Mathlib.Nat.{div-mul-le_self}
 use lib.ListN.{length}
-use Rattle.theorems.proofs.EmissionLaws.{emits_none}
 use Rattle.definitions.specs.Refusals.{identify_of, is_knuth}
 use Rattle.solver.specs.Lent.{LinksAfter, answers_by}
-use Rattle.solver.proofs.CallLaws.{by_engine}
+use Rattle.solver.proofs.CallLaws.{by_engine, unported}
 use Rattle.solver.proofs.pages.list.Goals as goal
 
 pub list-requires : goal.list-requires
@@ -19,12 +18,7 @@ list-requires-in-KnuthAlgorithm c =
     (c.requires.0, c.requires.2 is, c.requires.3 is, div-mul-le_self (length c.args.answers.now) (2 * c.args.d.places))
 
 pub returns-in-Auto : goal.returns-in-Auto
-unfolding answers_by LinksAfter
-returns-in-Auto c = let h = by_engine c.in-Auto.is _ _ _ _ _ _ _ (sym (emits_none _ _)) refl in record { page = h.0; behind = h.1 }
-
-pub returns-in-Naive : goal.returns-in-Naive
-unfolding answers_by LinksAfter
-returns-in-Naive c = let h = by_engine c.in-Naive.is _ _ _ _ _ _ _ (sym (emits_none _ _)) refl in record { page = h.0; behind = h.1 }
+returns-in-Auto c = let h = unported c.in-Auto.is _ _ _ _ _ in record { page = h.0; behind = h.1 }
 
 pub returns-in-Fast : goal.returns-in-Fast
 unfolding answers_by LinksAfter identify_of

@@ -1,112 +1,111 @@
 -- `prepare` meets its contract: the first part of the table that refuses decides, and nothing is written then; else what was counted is built. Assumes nothing.
-use Prim.Native.Nat.{ℕ, ◌≤◌}
-use mathlib.Core.List.{List}
-use mathlib.Core.Path.{◌≡◌, refl, sym, ap, ◌∙◌, subst}
-use native.Mathlib.Omega.{arith}
-use lib.ListN.{length}
+use Rattle.std.proofs.Common.{◌≡◌, ◌≤◌, ℕ, length, sym, subst, arith}
+use Rattle.std.proofs.lemmas.Result.{err_from_is_err_and}
 use Rattle.definitions.specs.Placements.{compile}
-use Rattle.definitions.specs.Refusals.{first_that_applies, placement_count}
-use Rattle.definitions.specs.declared.Config.{Config}
-use Rattle.definitions.specs.declared.Record.{Record}
+use Rattle.definitions.specs.Refusals.{placement_count, sides_of}
+use Rattle.definitions.specs.Stripping.{FitsIn}
 use Rattle.shape.specs.Coords.{as_sides, Fit}
-use Rattle.placements.specs.Counting.{Accepted9, Counted, CountsOf}
-use Rattle.placements.specs.Stripping.{StripsTray}
-use Rattle.placements.specs.declared.Pieces.{Pieces}
-use Rattle.placements.specs.declared.Verdict.{Verdict}
-use Rattle.placements.specs.declared.counting.Counts.{Counts}
-use Rattle.placements.specs.declared.stripping.StrippedRecords.{StrippedRecords}
-use Rattle.placements.specs.Stages.{verdict_number, count_rows_by}
-use Rattle.placements.specs.Pieces.{records_of, tray_in}
-use Rattle.placements.proofs.AcceptedLaws.{early_lent, early_work, placements_few}
-use Rattle.placements.proofs.CountingLaws.{board_fits, count-rows, counts_decide, counts_stripped, early_decides, lent_passes, refused_not}
+use Rattle.placements.specs.Counting.{Counted}
+use Rattle.placements.specs.Pieces.{framed_in, records_of, tray_in}
+use Rattle.placements.specs.Trays.{lent_tray}
+use Rattle.placements.specs.declared.counted.CountedTray.{CountedTray}
+use Rattle.placements.specs.declared.trays.LentTray.{LentTray}
+use Rattle.placements.proofs.AcceptedLaws.{work-long}
+use Rattle.placements.proofs.CountingLaws.{board_fits, counts_stripped, lent_passes}
 use Rattle.placements.proofs.RefusalLaws.{sides_small}
+use Rattle.rows.specs.Built.{BuiltSystem, frame_at}
+use Rattle.rows.specs.Rows.{RowsFit}
 use Rattle.rows.proofs.BuildSystemLaws.{part_fits, rows_stripped}
-use Rattle.solver.specs.Preparing.{Prepares, first_rows, refusal_by}
-use Rattle.solver.proofs.PreparedLaws.{system_stands}
+use Rattle.solver.specs.Preparing.{Prepares}
+use Rattle.solver.proofs.PreparedLaws.{accepted_by, config_refused, counts_refused, few_placements, lent_refused, refuses, slices_refused, system_stands}
 use Rattle.solver.proofs.prepare.prepare.Goals as goal
 
--- that rows 2 to 13 have passed, and then 14 and 15
-module _ (t : Pieces) (board : Record) (bytes : List ℕ) (config : Config) (work links : ℕ) where
-  module _ {before : Verdict} (first : verdict_number before ≡ first_that_applies (first_rows (records_of t) board bytes config work links)) (go : before ≡ Verdict.Accepted) where
-    past : first_that_applies (first_rows (records_of t) board bytes config work links) ≡ 0
-    past = sym first ∙ ap verdict_number go
+-- what is counted is counted of the tray that was handed over
+counted_of : (k : CountedTray) {t : LentTray} → k.tray ≡ t → Counted t.pieces t.board t.bytes.now k.places k.first k.turnings k.counts
+counted_of k e = subst (λ (t : LentTray). Counted t.pieces t.board t.bytes.now k.places k.first k.turnings k.counts) e k.counted
 
-    accepted : Accepted9 t board bytes
-    unfolding first_rows
-    accepted = early_lent _ _ _ _ _ _ past
-
-    long : 8192 ≤ work
-    unfolding first_rows
-    long = early_work _ _ _ _ _ _ past
-
-    module _ {r : StrippedRecords} {cells : List ℕ} (strips : StripsTray t board bytes r cells) {places chosen turnings : List ℕ} {counts : Counts}
-        (counted : Counted r.pieces r.board cells places chosen turnings counts) where
-      -- the counts are those of the tray that is listed
-      counts-are : CountsOf (compile (tray_in (records_of t) board bytes)) counts
-      counts-are = counts_stripped t board bytes strips counted
-
-      -- the whole table's number is that of rows 14 and 15
-      number_is : (v : Verdict) → verdict_number v ≡ first_that_applies (count_rows_by counts.placements counts.links config) → verdict_number v ≡ refusal_by (records_of t) board bytes config work links
-      unfolding first_rows refusal_by
-      number_is v e = e ∙ ap first_that_applies (count-rows config counts-are) ∙ sym (counts_decide t board bytes config work links _ past)
-
-      few : {v : Verdict} → verdict_number v ≡ first_that_applies (count_rows_by counts.placements counts.links config) → v ≡ Verdict.Accepted → placement_count (compile (tray_in (records_of t) board bytes)) ≤ 1024
-      few e z = placements_few _ config (sym (ap first_that_applies (count-rows config counts-are)) ∙ sym e ∙ ap verdict_number z)
-
-pub strip_tray-s-requires : goal.strip_tray-s-requires
-strip_tray-s-requires c =
+pub returns-in_err-check_lent : goal.returns-in_err-check_lent
+returns-in_err-check_lent c =
     let a = c.args in
-    (accepted a.t a.board a.bytes.now a.config (length a.work.now) a.links c.refusal_before_counting-before.ensures c.in-Accepted.is, omega arith)
+    let is = err_from_is_err_and c.from_residual.result c.from_residual.ensures.1 in
+    refuses (records_of a.pieces.now) a.board a.bytes.now a.config a.links a.work.now a.chart.now is (lent_refused a.pieces.now a.board a.bytes.now a.config (length a.work.now) a.links _ c.in_err-check_lent.ensures)
 
-pub build_system-d-requires : goal.build_system-d-requires
-build_system-d-requires c =
+pub returns-in_err-check_config : goal.returns-in_err-check_config
+returns-in_err-check_config c =
     let a = c.args in
-    let before = c.refusal_before_counting-before.ensures in
-    let go = c.in-Accepted.is in
-    let s = c.strip_tray-s.ensures.0 in
-    let counted = c.count_tray-counts.ensures.0 in
-    let ok = accepted a.t a.board a.bytes.now a.config (length a.work.now) a.links before go in
-    let enough = long a.t a.board a.bytes.now a.config (length a.work.now) a.links before go in
-    let k = few a.t a.board a.bytes.now a.config (length a.work.now) a.links before go s counted c.refusal_of_counts-counted.ensures c.in-Accepted-counted.is in
-    let same = (counts-are a.t a.board a.bytes.now a.config (length a.work.now) a.links before go s counted).placements in
-    let sides = c.sides_of-lent.ensures in
-    let fit : Fit (as_sides c.sides_of-lent.result) = subst Fit (sym sides) (sides_small a.board (board_fits _ _ _ (lent_passes a.t a.board a.bytes.now ok)).0) in
-    record {
-      accepted9 = (s.accepted, counted, omega arith, rows_stripped _ _ _ s counted a.work.now ok (omega arith) enough);
-      fit = (fit, part_fits _ _ _ s _ sides, c.count_tray-counts.ensures.1);
-      first_len = (omega arith, omega arith, enough, c.requires);
-    }
+    let x = c.from_residual-in_err-check_config in
+    let is = err_from_is_err_and x.result x.ensures.1 in
+    refuses (records_of a.pieces.now) a.board a.bytes.now a.config a.links a.work.now a.chart.now is
+    (config_refused a.pieces.now a.board a.bytes.now a.config (length a.work.now) a.links c.in_ok-check_lent.ensures _ c.in_err-check_config.ensures)
 
-pub returns-in-Refused : goal.returns-in-Refused
-unfolding Prepares first_rows refusal_by
-returns-in-Refused c =
-    let r = c.refusal_before_counting-before in
-    record {
-      first = sym (ap verdict_number c.in-Refused.is) ∙ r.ensures ∙ sym (early_decides _ _ _ _ _ _ _ (λ e. refused_not r.result c.in-Refused.is (r.ensures ∙ e)));
-      untouched = refl;
-      uncharted = refl;
-    }
+pub returns-in_err-check_slices : goal.returns-in_err-check_slices
+returns-in_err-check_slices c =
+    let a = c.args in
+    let x = c.from_residual-in_err-check_slices in
+    let is = err_from_is_err_and x.result x.ensures.1 in
+    refuses (records_of a.pieces.now) a.board a.bytes.now a.config a.links a.work.now a.chart.now is
+    (slices_refused a.pieces.now a.board a.bytes.now a.config (length a.work.now) a.links c.in_ok-check_lent.ensures c.in_ok-check_config.ensures _ c.in_err-check_slices.ensures)
 
-pub returns-in-Refused-counted : goal.returns-in-Refused-counted
+pub invariant_of-lent : goal.invariant_of-lent
+invariant_of-lent c = record { accepted = sym c.in_ok-check_lent.ensures }
+
+pub invariant_of-count_tray : goal.invariant_of-count_tray
+invariant_of-count_tray c = record { accepted = c.strip_tray-stripped.ensures.0.accepted }
+
+pub returns-in_err-check_counts : goal.returns-in_err-check_counts
+returns-in_err-check_counts c =
+    let a = c.args in
+    let x = c.from_residual-in_err-check_counts in
+    let is = err_from_is_err_and x.result x.ensures.1 in
+    refuses (records_of a.pieces.now) a.board a.bytes.now a.config a.links a.work.now a.chart.now is
+    (counts_refused a.pieces.now a.board a.bytes.now a.config (length a.work.now) a.links c.in_ok-check_lent.ensures c.in_ok-check_config.ensures c.in_ok-check_slices.ensures
+    c.strip_tray-stripped.ensures.0 (counted_of c.count_tray-counted.result c.count_tray-counted.ensures) _ c.in_err-check_counts.ensures)
+
+pub build_system-requires-clause-counted : goal.build_system-requires-clause-counted
+build_system-requires-clause-counted c =
+    let a = c.args in
+    let k = c.count_tray-counted in
+    let s = c.strip_tray-stripped.ensures.0 in
+    let counted = counted_of k.result k.ensures in
+    let few : placement_count (compile (tray_in (records_of a.pieces.now) a.board a.bytes.now)) ≤ 1024 =
+    few_placements a.pieces.now a.board a.bytes.now a.config (length a.work.now) a.links c.in_ok-check_lent.ensures c.in_ok-check_config.ensures c.in_ok-check_slices.ensures
+    s counted c.in_ok-check_counts.ensures in
+    let same = (counts_stripped a.pieces.now a.board a.bytes.now s counted).placements in
+    let placements : k.result.counts.placements ≤ 1024 = omega arith in
+    let fit = rows_stripped _ _ _ s counted a.work.now (sym c.in_ok-check_lent.ensures) placements (work-long a.config (length a.work.now) a.links (sym c.in_ok-check_slices.ensures)) in
+    (placements, subst (λ (t : LentTray). RowsFit (compile (lent_tray t))) (sym k.ensures) fit)
+
+pub build_system-requires-clause-fit : goal.build_system-requires-clause-fit
+build_system-requires-clause-fit c =
+    let a = c.args in
+    let sides = c.sides_of-sides.ensures in
+    let k = c.count_tray-counted in
+    let s = c.strip_tray-stripped.ensures.0 in (
+      subst Fit (sym sides) (sides_small a.board (board_fits _ _ _ (lent_passes a.pieces.now a.board a.bytes.now (sym c.in_ok-check_lent.ensures))).0),
+      subst (λ (t : LentTray). FitsIn (frame_at c.sides_of-sides.result c.strip_tray-stripped.result.at) (sides_of t.board)) (sym k.ensures) (part_fits _ _ _ s _ sides),
+    )
+
+pub build_system-requires-clause-room : goal.build_system-requires-clause-room
+build_system-requires-clause-room c =
+    let a = c.args in
+    work-long a.config (length a.work.now) a.links (sym c.in_ok-check_slices.ensures)
+
+pub returns : goal.returns
 unfolding Prepares
-returns-in-Refused-counted c =
+returns c =
     let a = c.args in
-    let number = number_is a.t a.board a.bytes.now a.config (length a.work.now) a.links c.refusal_before_counting-before.ensures c.in-Accepted.is
-    c.strip_tray-s.ensures.0 c.count_tray-counts.ensures.0 _ c.refusal_of_counts-counted.ensures in
-    record { first = sym (ap verdict_number c.in-Refused-counted.is) ∙ number; untouched = refl; uncharted = refl }
-
-pub returns-in-Accepted-counted : goal.returns-in-Accepted-counted
-unfolding Prepares
-returns-in-Accepted-counted c =
-    let a = c.args in
-    let before = c.refusal_before_counting-before.ensures in
-    let go = c.in-Accepted.is in
-    let s = c.strip_tray-s.ensures.0 in
-    let counted = c.count_tray-counts.ensures.0 in
-    let number = c.refusal_of_counts-counted.ensures in
-    let passed = sym (number_is a.t a.board a.bytes.now a.config (length a.work.now) a.links before go s counted _ number) ∙ ap verdict_number c.in-Accepted-counted.is in
-    system_stands a.t a.board a.bytes.now s a.config a.links c.sides_of-lent.result c.sides_of-lent.ensures a.work.now _ _ c.build_system-d.result
-    (accepted a.t a.board a.bytes.now a.config (length a.work.now) a.links before go)
-    c.build_system-d.auto.work (long a.t a.board a.bytes.now a.config (length a.work.now) a.links before go) passed
-    (few a.t a.board a.bytes.now a.config (length a.work.now) a.links before go s counted number c.in-Accepted-counted.is)
-    c.build_system-d.ensures.0
+    let k = c.count_tray-counted in
+    let s = c.strip_tray-stripped.ensures.0 in
+    let counted = counted_of k.result k.ensures in
+    let b = c.build_system in
+    let lent = c.in_ok-check_lent.ensures in
+    let chosen = c.in_ok-check_config.ensures in
+    let slices = c.in_ok-check_slices.ensures in
+    let few = c.in_ok-check_counts.ensures in
+    let built =
+    subst (λ (t : LentTray). BuiltSystem (framed_in (records_of t.pieces) t.board t.bytes.now (frame_at c.sides_of-sides.result c.strip_tray-stripped.result.at)) b.result a.work.now b.new.work b.new.chart)
+    k.ensures b.ensures in
+    system_stands a.pieces.now a.board a.bytes.now s a.config a.links c.sides_of-sides.result c.sides_of-sides.ensures a.work.now b.new.work b.new.chart b.result (sym lent)
+    b.auto.work (work-long a.config (length a.work.now) a.links (sym slices))
+    (accepted_by a.pieces.now a.board a.bytes.now a.config (length a.work.now) a.links lent chosen slices s counted few)
+    (few_placements a.pieces.now a.board a.bytes.now a.config (length a.work.now) a.links lent chosen slices s counted few) built

@@ -5,4 +5,4 @@ use Rattle.shape.proofs.maps.Map.axes_of.Goals as goal
 
 pub returns : goal.returns
 unfolding rows
-returns c = rows_at c.index-n.result c.index-n.ensures.0 ∙ c.index-n.ensures.1
+returns c = rows_at c.index.result c.index.ensures.0 ∙ c.index.ensures.1

@@ -8,7 +8,7 @@ use Rattle.shape.proofs.maps.Map.inverse.Goals as goal
 pub returns : goal.returns
 unfolding inverses
 returns c =
-    let n = c.index-n.result in
-    let e = c.index-n.ensures in
+    let n = c.index.result in
+    let e = c.index.ensures in
     subst⁻¹ (λ (r : ℕ). (r < 48) × (map_of r ≡ inverse (map_of c.args.self.0))) (inverses_at n e.0)
     (inverse_lt n, inverse_is n ∙ ap inverse e.1)

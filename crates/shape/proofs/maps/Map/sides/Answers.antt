@@ -10,5 +10,5 @@ unfolding map_sides
 returns c =
     let s = as_sides c.args.s in
     let e = c.axes_of-e in
-    sides_path {t = map_sides (as_map e.result) s} c.pick.ensures.0 c.pick-2.ensures.0 c.pick-3.ensures.0
+    sides_path {t = map_sides (as_map e.result) s} c.pick.ensures.of_sides c.pick-2.ensures.of_sides c.pick-3.ensures.of_sides
     ∙ ap (λ (m : Map). map_sides m s) e.ensures

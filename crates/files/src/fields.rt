@@ -1,0 +1,45 @@
+// The fields of a line: numbers and cells.
+ghost use Rattle.std.specs.Prelude.{◌≡◌, ◌||◌, ◌^◌, ◌≤◌, ◌<◌, eqb, length};
+ghost use Rattle.lists.specs.Lists.{all};
+ghost use Rattle.definitions.specs.Files.{field, fields_of, is_number, number_in};
+ghost use Rattle.files.specs.Lines.{Read};
+
+// How many fields a line has.
+pub fn count_fields(line: &[u8]) -> usize
+    ensures { result ≡ length (fields_of line.now) }
+{
+    line.split(|&byte| byte == b'\t').count()
+}
+
+// Field n of a line; nothing where it has no such field.
+pub fn field(line: &[u8], n: usize) -> &[u8]
+    ensures { result.now ≡ field line.now n }
+{
+    line.split(|&byte| byte == b'\t').nth(n).unwrap_or(&[])
+}
+
+// The number that one decimal digit to so many stand for.
+pub fn number_in(digits: &[u8], most: usize) -> Option<usize>
+    requires { most ≤ 9 }
+    ensures { Read result (is_number most digits.now) (λ n. (n ≡ number_in digits.now) × (n < 10 ^ most)) }
+{
+    if digits.is_empty() || most < digits.len() {
+        return None;
+    }
+    let mut number = 0;
+    // the digits so far are decimal, and `number` is what they stand for
+    for &digit in digits {
+        if !digit.is_ascii_digit() {
+            return None;
+        }
+        number = number * 10 + (digit - b'0') as usize;
+    }
+    Some(number)
+}
+
+// Whether each byte is `0` or `1`.
+pub fn are_cells(bytes: &[u8]) -> bool
+    ensures { result ≡ all (λ x. eqb x 48 || eqb x 49) bytes.now }
+{
+    bytes.iter().all(|byte| matches!(byte, b'0' | b'1'))
+}

@@ -1,0 +1,70 @@
+// The nodes of the links, by their numbers, in a slice that is lent: eight numbers to a node. The slice is the caller's, fixed in size and of plain numbers, so
+// a node names others by their numbers; nothing here follows them.
+ghost use Rattle.std.specs.Prelude.{◌≡◌, ℕ, List, ◌≤◌, ◌<◌, length, get_or, set};
+ghost use Rattle.links.specs.Links.{at};
+
+use std::marker::Model;
+
+// What a node's eight numbers are, in the order in which they stand.
+#[derive(Clone, Copy)]
+pub enum Field {
+    // The node above it in its column's ring.
+    Up,
+    // The node below it.
+    Down,
+    // Its column.
+    Column,
+    // The first node of its row.
+    First,
+    // The node behind the last of its row.
+    End,
+    // Of a column: how many rows in it are still possible.
+    Size,
+    // Of a kind's column: how many copies are left.
+    Copies,
+    // The number of its row.
+    Row,
+}
+
+// What contracts see of it is the list of its numbers.
+#[derive(Drop)]
+pub struct Links<'a> {
+    pub(super) numbers: &'a mut [u16],
+}
+
+impl<'a> Model for Links<'a> {
+    ghost Value = { List ℕ };
+
+    ghost view = { λ l. l.numbers.now };
+
+    ghost invariant = { λ l. 32768 ≤ length l.numbers.now };
+}
+
+impl<'a> Links<'a> {
+    pub fn new(numbers: &'a mut [u16]) -> Links<'a>
+        requires { 32768 ≤ length numbers.old }
+        ensures { result ≡ numbers.entry.now }
+    {
+        Links { numbers }
+    }
+
+    // Field f of node x.
+    #[inline(always)]
+    pub fn get(&self, x: usize, f: Field) -> usize
+        requires { x < 4096 }
+        ensures value { result ≡ get_or self.now (at f x) 0 }
+        ensures small { result < 65536 }
+    {
+        self.numbers[8 * x + f as usize] as usize
+    }
+
+    // Writes n into field f of node x.
+    #[inline(always)]
+    pub fn set(&mut self, x: usize, f: Field, n: usize)
+        requires { (x < 4096) × (n < 65536) }
+        ensures value { self.new ≡ set self.old (at f x) n }
+        ensures room { 32768 ≤ length self.old }
+    {
+        self.numbers[8 * x + f as usize] = n as u16;
+    }
+}

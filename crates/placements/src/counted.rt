@@ -1,0 +1,86 @@
+// Trays that are counted.
+ghost use Rattle.placements.specs.Merging.{Smallest};
+ghost use Rattle.placements.specs.Counting.{Counted};
+
+use super::counting::Counts;
+use super::merging::TurnedPieces;
+use super::trays::LentTray;
+use shape::maps::Map;
+
+// What counting leaves of a tray: the counts; the places of the board's filled cells, each piece's smallest map, one piece of each kind, and for each kind k
+// how many variants it has (at 25·k) and their map numbers (behind it). What else stands in the four arrays says nothing.
+#[derive(Clone, Copy)]
+pub struct CountedTray<'a> {
+    pub tray: LentTray<'a>,
+    pub counts: Counts,
+    pub places: [u16; 512],
+    pub small: [u8; 16],
+    pub first: [u8; 16],
+    pub turnings: [u8; 400],
+    pub ghost counted: { Counted tray.pieces tray.board tray.bytes.now places first turnings counts },
+    pub ghost smallest: { Smallest tray.pieces tray.bytes.now small },
+}
+
+impl<'a> CountedTray<'a> {
+    ghost use Rattle.std.specs.Prelude.{◌≡◌, ◌+◌, ◌*◌, ◌≤◌, ◌<◌, length, take, drop, get_or};
+    ghost use Rattle.lists.specs.Lists.{before};
+    ghost use Rattle.definitions.specs.Maps.{map_of};
+    ghost use Rattle.definitions.specs.Kinds.{same_form, variants};
+    ghost use Rattle.shape.specs.Variants.{turned_by};
+    ghost use Rattle.placements.specs.Merging.{grid_at, moved_form, forms_of, copies_at};
+
+    // The pieces with their smallest maps.
+    fn turned(&self) -> TurnedPieces<'_>
+        ensures { (result.tray.now ≡ self.now.tray) × (result.small.now ≡ self.now.small) }
+    {
+        TurnedPieces {
+            tray: &self.tray,
+            small: &self.small,
+        }
+    }
+
+    // The places of the board's filled cells, in scan order.
+    pub fn places(&self) -> &[u16]
+        ensures { result.now ≡ take self.now.counts.size self.now.places }
+    {
+        &self.places[..self.counts.size]
+    }
+
+    // One piece of each kind, in the order of kinds.
+    pub fn kinds(&self) -> &[u8]
+        ensures { result.now ≡ take self.now.counts.kinds self.now.first }
+    {
+        &self.first[..self.counts.kinds]
+    }
+
+    // The map numbers of the variants of kind k.
+    pub fn turnings_of(&self, k: usize) -> &[u8]
+        requires { k < self.now.counts.kinds }
+        ensures { let c = self.now in
+            let g = grid_at c.tray.pieces c.tray.bytes.now (get_or c.first k 0) in
+            (result.now ≡ take (get_or c.turnings (25 * k) 0) (drop (25 * k + 1) c.turnings))
+            × (length result.now ≤ 24) × (turned_by g result.now ≡ variants g) }
+    {
+        let start = 25 * k + 1;
+        let end = start + self.turnings[25 * k] as usize;
+        &self.turnings[start..end]
+    }
+
+    // The number of the kind whose smallest turned grid a map makes of piece i; how many kinds there are where it is none of them.
+    pub fn kind_of(&self, i: usize, m: Map) -> usize
+        requires { i < self.now.tray.pieces.count }
+        ensures { let c = self.now in
+            let f = moved_form (map_of m.0) c.tray.pieces c.tray.bytes.now i in
+            result ≡ before (same_form f) (forms_of c.tray.pieces c.tray.bytes.now (take c.counts.kinds c.first)) }
+    {
+        self.turned().kind_of(i, m, self.kinds())
+    }
+
+    // How many copies the kind of piece i has.
+    pub fn copies_of(&self, i: usize) -> u64
+        requires { i < self.now.tray.pieces.count }
+        ensures { let t = self.now.tray in result ≡ copies_at t.pieces t.bytes.now i }
+    {
+        self.turned().copies_of(i)
+    }
+}

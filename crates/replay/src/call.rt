@@ -1,0 +1,92 @@
+// A call that is read from a text.
+ghost use Rattle.std.specs.Prelude.{◌≤◌, length};
+
+use super::reader::Reader;
+use definitions::{Config, Record, SolverKind};
+use placements::Pieces;
+
+// All that a call lends, but for its slices, of which it says how many words and links they have.
+#[derive(Clone, Copy)]
+pub struct Call<'a> {
+    pub pieces: Pieces,
+    pub board: Record,
+    pub bytes: &'a [u8],
+    pub config: Config,
+    pub words: usize,
+    pub links: usize,
+}
+
+// What is shown of a call: its row system, pages, or both.
+#[derive(Clone, Copy)]
+pub struct Shown {
+    pub system: bool,
+    pub pages: bool,
+}
+
+fn read_record(reader: &mut Reader) -> Record
+    ensures { length reader.new.text.now ≤ length reader.old.text.now }
+{
+    Record {
+        a: reader.number(),
+        b: reader.number(),
+        c: reader.number(),
+        count: u32::try_from(reader.number()).unwrap_or(u32::MAX),
+        wood: u8::try_from(reader.number()).unwrap_or(u8::MAX),
+        start: reader.number(),
+    }
+}
+
+// n pieces, of which the first 16 are read.
+fn read_pieces(reader: &mut Reader, n: usize) -> Pieces
+    ensures { length reader.new.text.now ≤ length reader.old.text.now }
+{
+    let mut pieces = Pieces::empty(n);
+    // the text does not grow
+    for i in 0..n.min(16) {
+        pieces.records[i] = read_record(reader);
+    }
+    pieces
+}
+
+fn read_config(reader: &mut Reader) -> Config
+    ensures { length reader.new.text.now ≤ length reader.old.text.now }
+{
+    let solver = match reader.number() {
+        0 => SolverKind::Auto,
+        1 => SolverKind::Naive,
+        2 => SolverKind::Fast,
+        _ => SolverKind::KnuthAlgorithm,
+    };
+    Config {
+        solver,
+        identify_transformed_answers: reader.number() == 1,
+        identify_mirrored_answers: reader.number() == 1,
+    }
+}
+
+// The call that stands next, its cells in a buffer; and what is shown of it.
+pub fn read<'a>(reader: &mut Reader, cells: &'a mut [u8]) -> (Call<'a>, Shown)
+    ensures { length reader.new.text.now ≤ length reader.old.text.now }
+{
+    let n = reader.number();
+    let config = read_config(reader);
+    let words = reader.number();
+    let links = reader.number();
+    let paged = reader.number();
+    let board = read_record(reader);
+    let pieces = read_pieces(reader, n);
+    let read = reader.digits(cells);
+    let call = Call {
+        pieces,
+        board,
+        bytes: &cells[..read],
+        config,
+        words,
+        links,
+    };
+    let shown = Shown {
+        system: paged < 2,
+        pages: 0 < paged,
+    };
+    (call, shown)
+}

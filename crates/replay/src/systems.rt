@@ -1,0 +1,108 @@
+// The refusal of a call, or its row system.
+ghost use Rattle.std.specs.Prelude.{◌+◌, ◌*◌, ◌≤◌, length};
+
+use super::call::Call;
+use rows::chart::{Chart, Kind, Owned};
+use rows::{Dims, row};
+use solver::prepare;
+use std::io;
+
+// Of each kind its copies and its mirror partner.
+fn show_kinds(rt: &impl Print, kinds: &[Kind], n: usize) -> io::Result<()> {
+    print!(rt; "kinds")?;
+    for kind in kinds.iter().take(n) {
+        print!(rt; " {} {}", kind.copies, kind.partner)?;
+    }
+    println!(rt)
+}
+
+// Of each piece its kind and its count.
+fn show_pieces(rt: &impl Print, pieces: &[Owned], n: usize) -> io::Result<()> {
+    print!(rt; "pieces")?;
+    for piece in pieces.iter().take(n) {
+        print!(rt; " {} {}", piece.kind, piece.count)?;
+    }
+    println!(rt)
+}
+
+// The first n numbers of a slice, in a line of that name.
+fn show_numbers(rt: &impl Print, name: &str, numbers: &[u8], n: usize) -> io::Result<()> {
+    print!(rt; "{name}")?;
+    for number in numbers.iter().take(n) {
+        print!(rt; " {number}")?;
+    }
+    println!(rt)
+}
+
+// Where each of the maps takes the cells.
+fn show_images(rt: &impl Print, images: &[u8], size: usize, maps: usize) -> io::Result<()> {
+    for taken in images.chunks(128).take(maps) {
+        show_numbers(rt, "map", taken, size)?;
+    }
+    Ok(())
+}
+
+// A row: its number, kind, p, j, cells.
+fn show_row(rt: &impl Print, work: &[u64], r: usize) -> io::Result<()>
+    requires { 8 * r + 8 ≤ length work.now }
+{
+    let kind = row::kind_at(work, r);
+    let first = row::first_at(work, r);
+    print!(rt; "row {r} {kind} {first} {}", work[8 * r + 4])?;
+    let mask = row::mask_at(work, r);
+    for c in 0..128 {
+        if mask.has_cell(c) {
+            print!(rt; " {c}")?;
+        }
+    }
+    println!(rt)
+}
+
+// The first 12 rows, and the last.
+fn show_rows(rt: &impl Print, work: &[u64], n: usize) -> io::Result<()>
+    requires { 8 * n ≤ length work.now }
+{
+    for r in 0..n.min(12) {
+        show_row(rt, work, r)?;
+    }
+    if 12 < n {
+        show_row(rt, work, n - 1)?;
+    }
+    Ok(())
+}
+
+// The sizes of a row system, and what stands in its slices.
+fn show_system(rt: &impl Print, d: Dims, work: &[u64], chart: &Chart) -> io::Result<()>
+    requires { 8 * d.rows ≤ length work.now }
+{
+    print!(rt; "cells {} kinds {} rows {}", d.size, d.kinds, d.rows)?;
+    println!(rt; " turns {} mirrorings {}", d.turns, d.mirrorings)?;
+    show_kinds(rt, &chart.kinds, d.kinds)?;
+    show_pieces(rt, &chart.pieces, d.pieces)?;
+    if d.size <= 30 {
+        show_numbers(rt, "scan", &chart.scans, d.places)?;
+        let maps = d.turns.saturating_add(d.mirrorings);
+        show_images(rt, &chart.images, d.size, maps)?;
+    }
+    show_rows(rt, work, d.rows)
+}
+
+// The refusal of a call, or its row system. A work slice of more than 8,200 words counts as one of 8,200.
+pub fn show(rt: &impl Print, call: &Call) -> io::Result<()> {
+    let mut work = [0; 8200];
+    let mut chart = Chart::empty();
+    let words = call.words.min(8200);
+    let prepared = prepare::prepare(
+        &call.pieces,
+        call.board,
+        call.bytes,
+        call.config,
+        call.links,
+        &mut work[..words],
+        &mut chart,
+    );
+    match prepared {
+        Err(why) => println!(rt; "refused {}", why.number()),
+        Ok(d) => show_system(rt, d, &work, &chart),
+    }
+}

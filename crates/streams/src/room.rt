@@ -1,0 +1,56 @@
+// The memory that a text is read into and printed with.
+ghost use Rattle.std.specs.Prelude.{◌≤◌};
+
+use super::{print, read_text};
+use std::io;
+use std::io::{Read, Write};
+
+// All of it: a byte more than the longest file, its cells, the answers of a page, the work words and links of the search, and bytes to
+// be written.
+#[derive(Drop)]
+pub struct Room {
+    text: [u8; 16385],
+    cells: [u8; 16384],
+    answers: [u8; 262144],
+    work: [u64; 8192],
+    links: [u16; 32768],
+    out: [u8; 65536],
+}
+
+impl Room {
+    // How many bytes a text can have.
+    pub const TEXT: usize = 16385;
+
+    pub fn new() -> Room {
+        Room {
+            text: [0; 16385],
+            cells: [0; 16384],
+            answers: [0; 262144],
+            work: [0; 8192],
+            links: [0; 32768],
+            out: [0; 65536],
+        }
+    }
+
+    // Reads a text, and answers how many of its bytes are read.
+    pub fn read<R: Read>(&mut self, input: &mut R) -> usize
+        ensures { result ≤ 16385 }
+    {
+        read_text(input, &mut self.text)
+    }
+
+    // Writes what `pack` prints for the first bytes of the text.
+    pub fn print<W: Write>(&mut self, read: usize, writer: &mut W) -> io::Result<()>
+        requires { read ≤ 16385 }
+    {
+        let Room {
+            text,
+            cells,
+            answers,
+            work,
+            links,
+            out,
+        } = self;
+        print(writer, &text[..read], cells, answers, work, links, out)
+    }
+}
