@@ -22,8 +22,8 @@ use Rattle.rows.specs.Ranges.{start_of}
 use Rattle.rows.specs.Systems.{System, system_in, system_over}
 use Rattle.rows.specs.declared.Dims.{Dims}
 use Rattle.kept.specs.Normal.{row_of}
-use Rattle.kept.specs.Ready.{Ready}
-use Rattle.kept.proofs.ReadyLaws as laws
+use Rattle.rows.specs.Ready.{Ready}
+use Rattle.rows.proofs.ReadyLaws as laws
 use Rattle.fast.specs.Searching.{uncovered, state_by, goes_on}
 use Rattle.fast.proofs.ChoiceLaws.{chosen_at, none_left, other_cell}
 use Rattle.fast.proofs.SearchingLaws.{goes_any, fits, fits_apart, fits_possible, child_state, first_uncovered, none_uncovered, some_uncovered}

@@ -30,7 +30,7 @@ use Rattle.rows.specs.Systems.{System, system_in, system_over, system_of}
 use Rattle.rows.specs.declared.Dims.{Dims}
 use Rattle.kept.specs.Normal.{of_kind}
 use Rattle.kept.specs.Entries.{start_by}
-use Rattle.kept.proofs.ReadyLaws.{kinds_many}
+use Rattle.rows.proofs.ReadyLaws.{kinds_many}
 use Rattle.fast.specs.Searching.{Searching, uncovered, state_by, fast_below}
 use Rattle.fast.specs.Pruned.{fast_first}
 use Rattle.fast.specs.Listing.{total_cells, cells_in, first_by, fast_answers}

@@ -26,12 +26,14 @@ use Rattle.rows.specs.Rows.{cells_of, mask_at, row_at, rows_in}
 use Rattle.rows.specs.Systems.{System, system_in, images_in, owned_in, kind_by, moved_by, row_with, system_over}
 use Rattle.rows.specs.Shown.{Shown, shows_row}
 use Rattle.kept.specs.Normal.{row_of, image_of}
-use Rattle.kept.specs.Ready.{AreRows, Ready}
+use Rattle.rows.specs.Ready.{Ready}
+use Rattle.kept.specs.Ready.{AreRows}
 use Rattle.kept.specs.Entries.{entries}
 use Rattle.fast.specs.Searching.{Searching, fast_below, state_by}
 use Rattle.fast.specs.Pruned.{moved_before, always_mirrorable_by, pruned_by, first_rows, fast_first}
 use Rattle.rows.specs.declared.Dims.{Dims}
-use Rattle.kept.proofs.ReadyLaws.{kinds_many, rows_many, few-cells, row_is, row_in, row-cells, rows_kinds, image_is}
+use Rattle.rows.proofs.ReadyLaws.{kinds_many, rows_many, rows_kinds}
+use Rattle.kept.proofs.ReadyLaws.{row_is, image_is}
 use Rattle.kept.proofs.NormalRowLaws.{row_of_in}
 use Rattle.fast.proofs.SearchingLaws.{fits, fits_possible, child_state, child_searching}
 use Rattle.fast.proofs.UnmetLaws.{untried, unmet}
@@ -247,12 +249,6 @@ module _ (d : Dims) (work : List ℕ) (chart : Chart) (ready : Ready d work char
 
   at_row : row_of sys r ≡ row_at work r
   at_row = row_is d work chart r h
-
-  pub first_small : (row_at work r).p < 128
-  first_small =
-      let few = few-cells d work chart ready.lawful in
-      let l = row-cells d work chart ready.lawful r h (row_at work r).p (ready.lawful.row (row_at work r) (row_in d work chart r h)).covers_p in
-      omega arith
 
   -- behind a row of another kind there is none of kind 0
   pub later_kinds : 0 < (row_at work r).kind → (q : ℕ) → r ≤ q → q < d.rows → 0 < (row_of (system_in d work chart) q).kind

@@ -1,10 +1,10 @@
--- A row chosen and put back: its copy is taken and put back, and the rows before it stay. Assumes nothing.
+-- A row chosen and put back: its copy is taken and put back, and there is a row to put back. Assumes nothing.
 use Prim.Native.Nat.{ℕ, ◌+◌, ◌-◌, ◌<◌}
 use mathlib.Core.List.{List, [], ◌∷◌, ◌++◌}
 use mathlib.Core.Path.{◌≡◌, ap, ◌∙◌}
 use native.Mathlib.Omega.{arith}
-use lib.ListN.{length, get_or, take, set, length-append}
-use lib.Seq.{get_or-set_same, set-set, set-get_or, take_at}
+use lib.ListN.{length, get_or, set, length-append}
+use lib.Seq.{get_or-set_same, set-set, set-get_or}
 use Rattle.lists.proofs.ListLaws.{get_or_pos}
 
 -- ---- one copy fewer, and put back
@@ -20,15 +20,7 @@ module _ (left taken : List ℕ) (k : ℕ) (is : taken ≡ set left k (get_or le
       put ∙ ap (λ (x : ℕ). set taken k x) one_fewer ∙ ap (λ (l : List ℕ). set l k (get_or left k 0)) is
       ∙ set-set left k (get_or left k 0 - 1) (get_or left k 0) ∙ set-get_or left k 0
 
--- ---- the last row put back
+-- ---- a row to put back
 module _ (rs after : List ℕ) (r : ℕ) (is : after ≡ rs ++ (r ∷ [])) where
-  many : length after ≡ length rs + 1
-  many = ap length is ∙ length-append rs (r ∷ [])
-
   pub some_row : 0 < length after
-  some_row = let a = many in omega arith
-
-  pub rows_back : (back : List ℕ) → back ≡ take (length after - 1) after → back ≡ rs
-  rows_back back put =
-      let a = many in
-      put ∙ ap (λ (xs : List ℕ). take (length after - 1) xs) is ∙ take_at rs (r ∷ []) (length after - 1) (omega arith)
+  some_row = let a = ap length is ∙ length-append rs (r ∷ []) in omega arith

@@ -23,7 +23,8 @@ use Rattle.rows.specs.Rows.{mask_at, row_at, cells_of}
 use Rattle.rows.specs.Ranges.{start_of}
 use Rattle.rows.specs.Shown.{Shown, shows_row}
 use Rattle.kept.specs.Normal.{row_of}
-use Rattle.kept.specs.Ready.{AreRows, Ready}
+use Rattle.rows.specs.Ready.{Ready}
+use Rattle.kept.specs.Ready.{AreRows}
 use Rattle.kept.specs.Emission.{emit_kept}
 use Rattle.fast.specs.Searching.{fast_below, uncovered, state_by, Searching, goes_on}
 use Rattle.rows.specs.declared.Dims.{Dims}
@@ -31,7 +32,8 @@ use Rattle.fast.proofs.ChoiceLaws.{chosen_at, choices_from, dead_lists, leaf_lis
 use Rattle.fast.proofs.ChoiceLaws.{none_left, other_cell}
 use Rattle.rows.proofs.RowRangeLaws.{range_of, start_most, before_start, starts_up, from_start, range-of}
 use Rattle.kept.proofs.LeafLaws.{packing_emits}
-use Rattle.kept.proofs.ReadyLaws as laws
+use Rattle.rows.proofs.ReadyLaws as laws
+use Rattle.kept.proofs.ReadyLaws as numbers
 use Rattle.fast.proofs.SearchingLaws.{goes_same, fits, fits_apart, first_uncovered, none_uncovered, some_uncovered, fits_possible, child_state, child_less}
 use Rattle.fast.proofs.SearchingLaws.{child_searching}
 use Rattle.fast.proofs.UnmetLaws.{untried, unmet}
@@ -55,7 +57,7 @@ module _ {d : Dims} {work : List ℕ} {chart : Chart} (ready : Ready d work char
   size_is = refl
 
   pub row_is : (r : ℕ) → r < d.rows → row_of S r ≡ row_at work r
-  row_is = laws.row_is d work chart
+  row_is = numbers.row_is d work chart
 
   -- where the ranges of rows begin
   pub start_is : (i : ℕ) → i ≤ 2048 → get_or chart.starts i 0 ≡ start_of S.rows i
@@ -233,9 +235,6 @@ module _ {d : Dims} {work : List ℕ} {chart : Chart} {left rs : List ℕ} {cove
 
   -- the rows of a kind at the cell
   module _ (k : ℕ) (kind : k < d.kinds) where
-    pub kind_few : k < 16
-    kind_few = let a = laws.few-kinds d work chart x.ready.lawful in omega arith
-
     -- no more than 128 copies are left
     pub left_few : get_or left k 0 ≤ 128
     left_few =
@@ -282,9 +281,6 @@ module _ {d : Dims} {work : List ℕ} {chart : Chart} {left rs : List ℕ} {cove
 
     row_kind_few : (row_at work r).kind < 16
     row_kind_few = let a = laws.row_kind d work chart x.ready.lawful r row in let b = laws.few-kinds d work chart x.ready.lawful in omega arith
-
-    pub first_small : (row_at work r).p < 128
-    first_small = let b = cell_below in omega arith
 
     test_is : fits left covered (mask_at work r) (row_at work r).kind ≡ possible the_state (row_of the_system r)
     test_is =

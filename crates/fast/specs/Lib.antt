@@ -1,4 +1,3 @@
-pub mod States
 pub mod Searching
 pub mod Pruned
 pub mod Listing

@@ -1,5 +1,5 @@
 // The engine `Fast` (fast.rs): its list over a row system. It sees nothing of trays.
-// Assumed: that a lawful row system stands in the lent slices (`Ready` of kept). Promised: `listing::list` emits the entries of `fast_answers`, in order;
+// Assumed: that a lawful row system stands in the lent slices (`RowSystem` of rows). Promised: `listing::list` emits the entries of `fast_answers`, in order;
 // of an accepted tray's system they are document 01's (proofs/FastListLaws, `fast-answers`).
 #![tactic(auto)]
 

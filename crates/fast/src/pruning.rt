@@ -1,35 +1,34 @@
 // Kind 0 first (`use_pre_pruning`): a row of kind 0 that an allowed map takes onto one before it starts no packing that is kept.
 ghost use Rattle.std.specs.Prelude.{◌&&◌, ◌||◌, not, [], ◌≡◌, ◌+◌, ◌*◌, ◌-◌, ◌≤◌, ◌<◌, leb, ltb, get_or, length, take};
 ghost use Rattle.lists.specs.Lists.{any, from};
-ghost use Rattle.definitions.specs.Refusals.{identifies};
 ghost use Rattle.definitions.specs.Emission.{emits};
-ghost use Rattle.rows.specs.Charts.{images_of};
 ghost use Rattle.rows.specs.Rows.{row_at};
-ghost use Rattle.rows.specs.Shown.{Shown, shows_row};
-ghost use Rattle.rows.specs.Systems.{owned_in, system_in};
-ghost use Rattle.kept.specs.Emission.{emitted_of, identified};
+ghost use Rattle.rows.specs.RowSystems.{images_under, is_mirroring, seen};
+ghost use Rattle.rows.specs.Shown.{shows_row};
+ghost use Rattle.rows.specs.Systems.{owned_in};
+ghost use Rattle.kept.specs.Emission.{emitted_of};
+ghost use Rattle.kept.specs.Wanted.{LastShown, identified};
 ghost use Rattle.kept.specs.Normal.{image_of};
-ghost use Rattle.kept.specs.Ready.{Ready};
 ghost use Rattle.fast.specs.Searching.{Searching, state_by};
 ghost use Rattle.fast.specs.Pruned.{always_mirrorable_by, fast_first, pruned_by};
-ghost use Rattle.fast.specs.States.{chosen};
 
 use super::search;
 use super::state::State;
-use kept::emission::{Emission, Wanted};
-use rows::chart::Chart;
-use rows::{Dims, images, row, shown};
+use kept::emission::Emission;
+use kept::wanted::Wanted;
+use rows::row;
+use rows::row_system::RowSystem;
 
 // Whether one of the maps numbered from `start` to below `end` takes row r onto a row before it.
-fn moves_before(d: Dims, work: &[u64], chart: &Chart, start: usize, end: usize, r: usize) -> bool
-    requires { Ready d work.now chart.now × (start ≤ end) × (end ≤ d.turns + d.mirrorings) × (r < d.rows) }
-    ensures { let S = system_in d work.now chart.now in
-        result ≡ any (λ m. ltb (image_of S (leb d.turns m) (images_of chart.now d.size m) r) r) (from start (end - start)) }
+fn moves_before(system: &RowSystem, start: usize, end: usize, r: usize) -> bool
+    requires { let d = system.now.d in (start ≤ end) × (end ≤ d.turns + d.mirrorings) × (r < d.rows) }
+    ensures { let s = system.now in
+        result ≡ any (λ m. ltb (image_of (seen s) (is_mirroring s m) (images_under s m) r) r) (from start (end - start)) }
 {
     // no map before m does
     for m in start..end {
-        let odd = d.turns <= m;
-        if images::image_row(d, work, chart, m, odd, r) < r {
+        let odd = system.d.turns <= m;
+        if system.image_row(m, odd, r) < r {
             return true;
         }
     }
@@ -37,17 +36,16 @@ fn moves_before(d: Dims, work: &[u64], chart: &Chart, start: usize, end: usize, 
 }
 
 // Whether each kind has a mirror partner with as many copies.
-fn always_mirrorable(d: Dims, work: &[u64], chart: &Chart) -> bool
-    requires { Ready d work.now chart.now }
-    ensures { result ≡ always_mirrorable_by (system_in d work.now chart.now) }
+fn always_mirrorable(system: &RowSystem) -> bool
+    ensures { result ≡ always_mirrorable_by (seen system.now) }
 {
     // each kind before k has
-    for k in 0..d.kinds {
-        let p = chart.partner_of(k);
-        if d.kinds <= p {
+    for k in 0..system.d.kinds {
+        let p = system.chart.partner_of(k);
+        if system.d.kinds <= p {
             return false;
         }
-        if chart.copies_of(k) != chart.copies_of(p) {
+        if system.chart.copies_of(k) != system.chart.copies_of(p) {
             return false;
         }
     }
@@ -55,79 +53,68 @@ fn always_mirrorable(d: Dims, work: &[u64], chart: &Chart) -> bool
 }
 
 // Whether row r, of kind 0, starts no packing that is kept.
-fn is_pruned(d: Dims, work: &[u64], chart: &Chart, turned: bool, mirrored: bool, r: usize) -> bool
-    requires { Ready d work.now chart.now × (r < d.rows) }
-    ensures { result ≡ pruned_by (system_in d work.now chart.now) (identifies turned mirrored) r }
+fn is_pruned(system: &RowSystem, wanted: &Wanted, r: usize) -> bool
+    requires { r < system.now.d.rows }
+    ensures { result ≡ pruned_by (seen system.now) (identified wanted.now) r }
 {
-    if !turned {
+    if !wanted.turned {
         return false;
     }
-    if moves_before(d, work, chart, 0, d.turns, r) {
+    if moves_before(system, 0, system.d.turns, r) {
         return true;
     }
-    if !mirrored {
+    if !wanted.mirrored {
         return false;
     }
-    if !always_mirrorable(d, work, chart) {
+    if !always_mirrorable(system) {
         return false;
     }
-    if images::kind_after(chart, d.kinds, true, 0) != 0 {
+    if system.kind_after(true, 0) != 0 {
         return false;
     }
-    moves_before(d, work, chart, d.turns, d.turns + d.mirrorings, r)
+    let turns = system.d.turns;
+    moves_before(system, turns, turns + system.d.mirrorings, r)
 }
 
 // Whether row r, of kind 0, is tried: it is not pruned, and while an answer is waited for the answer shows it.
-fn is_first(
-    d: Dims,
-    work: &[u64],
-    chart: &Chart,
-    wanted: Wanted,
-    shown: &[u8],
-    waiting: bool,
-    r: usize,
-) -> bool
-    requires { Ready d work.now chart.now × (r < d.rows) × (length shown.now ≡ 256) }
-    ensures { let S = system_in d work.now chart.now in
-        let shows = shows_row (owned_in chart.now.pieces d.pieces) shown.now (row_at work.now r) in
-        result ≡ not (pruned_by S (identified wanted) r) && (not waiting || shows) }
+fn is_first(system: &RowSystem, wanted: &Wanted, waiting: bool, r: usize) -> bool
+    requires { r < system.now.d.rows }
+    ensures { let s = system.now in
+        let shows = shows_row (owned_in s.chart.now.pieces s.d.pieces) wanted.now.shown (row_at s.work.now r) in
+        result ≡ not (pruned_by (seen s) (identified wanted.now) r) && (not waiting || shows) }
 {
-    !is_pruned(d, work, chart, wanted.turned, wanted.mirrored, r)
-        && shown::leads(d, work, chart, shown, waiting, r)
+    !is_pruned(system, wanted, r) && system.leads(&wanted.shown, waiting, r)
 }
 
 // The packings that start with a row of kind 0, row by row, from the state with nothing chosen.
 pub fn search_first(
-    d: Dims,
-    work: &[u64],
-    chart: &Chart,
-    wanted: Wanted,
+    system: &RowSystem,
+    wanted: &Wanted,
     state: &mut State,
-    last: &[u8],
-    shown: &[u8],
     answers: &mut [u8],
     e: Emission,
 ) -> Emission
-    requires ready { Ready d work.now chart.now × (length shown.now ≡ 256)
-        × Shown d.size (take d.places chart.now.scans) last.now shown.now × (wanted.capacity * (2 * d.places) ≤ length answers.old)
-        × (0 < get_or state.old.left 0 0) × (chosen state.old ≡ []) }
-    requires searching { Searching (system_in d work.now chart.now) state.old.left (record { low = 0; high = 0 }) [] }
-    ensures page { let S = system_in d work.now chart.now in
+    requires ready { let w = wanted.now in
+        LastShown system.now w × (w.capacity * (2 * system.now.d.places) ≤ length answers.old)
+        × (0 < get_or state.old.left 0 0) × (state.old.path ≡ []) }
+    requires searching { Searching (seen system.now) state.old.left (record { low = 0; high = 0 }) [] }
+    ensures page { let S = seen system.now in
+        let w = wanted.now in
         let t = state_by S state.old.left (record { low = 0; high = 0 }) [] in
-        let old = emitted_of e last.now answers.old in
-        emitted_of result last.now answers.new ≡ emits wanted.capacity (fast_first S (identified wanted) t) old }
-    ensures restored { (state.new.left ≡ state.old.left) × (chosen state.new ≡ []) }
+        let old = emitted_of e w.last.now answers.old in
+        emitted_of result w.last.now answers.new ≡ emits w.capacity (fast_first S (identified w) t) old }
+    ensures restored { (state.new.left ≡ state.old.left) × (state.new.path ≡ []) }
 {
     let mut s = e;
     // The rows of kind 0, which come first: s is what those passed have left, and the copies are as they were.
-    for r in 0..d.rows {
-        if 0 < row::kind_at(work, r) {
+    for r in 0..system.d.rows {
+        if 0 < row::kind_at(system.work, r) {
             return s;
         }
-        if is_first(d, work, chart, wanted, shown, s.is_waiting(), r) {
+        if is_first(system, wanted, s.is_waiting(), r) {
             state.place_row(0, r);
-            let mask = row::mask_at(work, r);
-            s = search::search(d, work, chart, wanted, state, mask, last, shown, answers, s);
+            let mask = row::mask_at(system.work, r);
+            s = search::search(system, wanted, state, mask, answers, s);
             state.put_back(0);
             if s.further {
                 return s;

@@ -1,27 +1,24 @@
 // The state of a search: the rows chosen, and how many copies of each kind are left.
-ghost use Rattle.std.specs.Prelude.{[], ◌∷◌, ◌++◌, map, ◌≡◌, ◌+◌, ◌-◌, ◌≤◌, ◌<◌, get_or, length, set, take};
+ghost use Rattle.std.specs.Prelude.{[], ◌∷◌, ◌++◌, List, map, ◌≡◌, ℕ, ◌+◌, ◌-◌, ◌≤◌, ◌<◌, get_or, length, set, take};
 ghost use Rattle.lists.specs.Lists.{below};
 ghost use Rattle.rows.specs.Charts.{kind_copies};
 
+use kept::path::Path;
 use rows::chart::Chart;
 
-// The first n numbers of the path are the rows chosen, one after the other.
+// The path is the rows chosen, one after the other.
 #[derive(Drop)]
 pub struct State {
-    path: [u16; 128],
-    n: usize,
+    path: Path,
     left: [u16; 16],
-    ghost room: { n ≤ 128 },
 }
 
 impl State {
-    ghost use Rattle.fast.specs.States.{chosen};
-
     // Nothing is chosen, and all copies of so many kinds are left.
     pub fn begin(chart: &Chart, kinds: usize) -> State
         requires { (kinds ≤ 16) }
         ensures { let copies = map (kind_copies chart.now.kinds) (below kinds) in
-            (chosen result ≡ []) × (take kinds result.left ≡ copies) }
+            (result.path ≡ []) × (take kinds result.left ≡ copies) }
     {
         let mut left = [0u16; 16];
         // the copies of the kinds before k stand in `left`
@@ -29,17 +26,17 @@ impl State {
             left[k] = chart.copies_of(k) as u16;
         }
         State {
-            path: [0; 128],
-            n: 0,
+            path: Path::new(),
             left,
         }
     }
 
     // The rows chosen.
+    #[inline]
     pub fn rows(&self) -> &[u16]
-        ensures { result.now ≡ chosen self.now }
+        ensures { result.now ≡ self.now.path }
     {
-        &self.path[..self.n]
+        self.path.rows()
     }
 
     // How many copies of a kind are left.
@@ -61,23 +58,25 @@ impl State {
     }
 
     // Row r, of a kind, is chosen behind the others.
+    #[inline]
     pub fn place_row(&mut self, kind: usize, r: usize)
-        requires { (kind < 16) × (0 < get_or self.old.left kind 0) × (length (chosen self.old) < 128) × (r < 65536) }
+        requires { (kind < 16) × (0 < get_or self.old.left kind 0) × (length self.old.path < 128) × (r < 65536) }
         ensures { let left = self.old.left in
-            (chosen self.new ≡ chosen self.old ++ (r ∷ [])) × (self.new.left ≡ set left kind (get_or left kind 0 - 1)) }
+            (self.new.path ≡ self.old.path ++ r ∷ []) × (self.new.left ≡ set left kind (get_or left kind 0 - 1)) }
     {
         self.left[kind] -= 1;
-        self.path[self.n] = r as u16;
-        self.n += 1;
+        self.path.push(r);
     }
 
     // The last row chosen, of a kind, is put back.
+    #[inline]
     pub fn put_back(&mut self, kind: usize)
-        requires { (kind < 16) × (get_or self.old.left kind 0 < 65535) × (0 < length (chosen self.old)) }
+        requires { (kind < 16) × (get_or self.old.left kind 0 < 65535) × (0 < length self.old.path) }
         ensures { let left = self.old.left in
-            (chosen self.new ≡ take (length (chosen self.old) - 1) (chosen self.old)) × (self.new.left ≡ set left kind (get_or left kind 0 + 1)) }
+            ((rows : List ℕ) (r : ℕ) → self.old.path ≡ rows ++ r ∷ [] → self.new.path ≡ rows)
+            × (self.new.left ≡ set left kind (get_or left kind 0 + 1)) }
     {
-        self.n -= 1;
+        self.path.pop();
         self.left[kind] += 1;
     }
 }

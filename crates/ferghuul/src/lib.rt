@@ -10,7 +10,7 @@ use definitions::{Config, Listing, Record, SolverKind, Start};
 use solver::records;
 
 // What a call answers: the refusal's number in document 01's table, 0 where it is accepted; how many answers were written; whether a further one follows;
-// and whether no entry of the list equals the one that was lent, to begin behind it.
+// and whether no entry of the list equals the one that was lent, to begin behind it. (Numbers and flags: the C interface has no enums with fields.)
 #[repr(C)]
 #[derive(Clone, Copy)]
 pub struct Answer {
@@ -20,6 +20,7 @@ pub struct Answer {
     pub missing: bool,
 }
 
+// What the page call hands back, in numbers.
 impl From<Listing> for Answer {
     ghost from_gives = { λ r a. a ≡ numbers_of r };
 
@@ -71,7 +72,7 @@ fn config_of(engine: u8, turned: bool, mirrored: bool) -> Config
     }
 }
 
-// Where a page starts: behind the entry that is lent, or at entry `skip`.
+// Where a page starts: behind the entry that is lent, or at entry `skip`. (A flag and a number, as C hands them over.)
 fn start_of(behind: bool, skip: u64) -> Start
     ensures { result ≡ start_of behind skip }
 {

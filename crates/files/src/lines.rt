@@ -42,8 +42,8 @@ pub fn split_line(text: &[u8]) -> Option<(&[u8], &[u8])>
     Some((&text[..end], &text[end + 1..]))
 }
 
-// The engine that a word names. (Compared by `==`: tried as a `match` on byte strings, whose last arm was not proved for words of the
-// right length.)
+// The engine that a word names.
+// (By `==`: tried as a `match` on byte strings, whose last arm was not proved for words of the right length.)
 #[tactic(auto, using(crate::proofs::PartLaws::same_are))]
 fn engine_of(word: &[u8]) -> Option<SolverKind>
     ensures { let knuth = same word.now (text "knuth") in
@@ -58,7 +58,8 @@ fn engine_of(word: &[u8]) -> Option<SolverKind>
     }
 }
 
-// What a word has identified. (Compared by `==` as in `engine_of`.)
+// What a word has identified.
+// (By `==`, as in `engine_of`.)
 #[tactic(auto, using(crate::proofs::PartLaws::same_are))]
 fn identified_of(word: &[u8]) -> Option<Identified>
     ensures { Read result (same word.now (text "none") || (same word.now (text "turned") || same word.now (text "mirrored")))

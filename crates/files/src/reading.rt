@@ -24,6 +24,7 @@ pub struct Asked {
 }
 
 // One record more, behind those of the pieces; past 16 it is only counted.
+// (Tried by `Pieces::put`: the test in its definition is gone then, and the proof needs a lemma on records past the 16 where now it needs none.)
 fn push_record(pieces: &mut Pieces, piece: Record)
     requires { pieces.old.count < 16384 }
     ensures { pieces.new ≡ push_record pieces.old piece }

@@ -25,14 +25,16 @@ use Rattle.rows.specs.Rows.{row_at}
 use Rattle.rows.specs.Systems.{System, system_in, owned_in, system_over}
 use Rattle.rows.specs.Answering.{Held, answers_over, answer_by, copies_by, path_in, taken_by}
 use Rattle.kept.specs.Normal.{sort_rows, row_of, of_kind, normal, InKinds}
-use Rattle.kept.specs.Ready.{AreRows, Fillable, Ready}
+use Rattle.rows.specs.Ready.{Ready}
+use Rattle.kept.specs.Ready.{AreRows, Fillable}
 use Rattle.kept.specs.Emission.{emit_kept, emitted_of, entry_of}
 use Rattle.kept.specs.declared.emission.Emission.{Emission}
 use Rattle.kept.specs.Entries.{entry_by}
 use Rattle.kept.proofs.SortingLaws.{sort_keep, sort_rows_at, sort_rows_ascending, sort_rows_length}
 use Rattle.kept.proofs.NormalFormLaws.{rows_fit_all, used_is}
 use Rattle.kept.proofs.NormalLaws.{in_kinds, rows_ascend}
-use Rattle.kept.proofs.ReadyLaws.{few-cells, row_kind, row_on_board, kinds_many, rows_many, row_is}
+use Rattle.rows.proofs.ReadyLaws.{few-cells, row_kind, row_on_board, kinds_many, rows_many}
+use Rattle.kept.proofs.ReadyLaws.{row_is}
 
 -- the entry that is waited for, or another
 pub met_or_passed : (s : Emitted) (capacity : ℕ) (entry : Listed) → s.further ≡ false → s.waiting ≡ true → (met : Bool) → met ≡ same entry.answer s.last

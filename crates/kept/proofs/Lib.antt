@@ -11,3 +11,4 @@ pub mod LeafLaws
 pub mod LeastLaws
 pub mod EntryLaws
 pub mod ReadyLaws
+pub mod WantedLaws

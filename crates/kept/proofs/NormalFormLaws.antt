@@ -24,8 +24,10 @@ use Rattle.rows.specs.Systems.{System, system_in, images_in, kind_by, moved_by, 
 use Rattle.rows.specs.Answering.{path_in}
 use Rattle.kept.specs.Normal.{sort_rows, row_of, of_kind, image_of, moved_rows, counted, key_of, image_key, image_smaller, mirrorable, normal}
 use Rattle.kept.specs.Orders.{OrderIs, decided}
-use Rattle.kept.specs.Ready.{AreRows, Ready}
-use Rattle.kept.proofs.ReadyLaws.{kinds_many, rows_many, row_is, few-rows, image_is}
+use Rattle.rows.specs.Ready.{Ready}
+use Rattle.kept.specs.Ready.{AreRows}
+use Rattle.rows.proofs.ReadyLaws.{kinds_many, rows_many, few-rows}
+use Rattle.kept.proofs.ReadyLaws.{row_is, image_is}
 
 -- ---- lists
 -- a test of each number below n, from k on

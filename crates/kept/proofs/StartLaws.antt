@@ -24,8 +24,10 @@ use Rattle.rows.specs.Answering.{path_in}
 use Rattle.rows.specs.declared.Dims.{Dims}
 use Rattle.kept.specs.Normal.{row_of, of_kind, InKinds, start_of, KindStarts}
 use Rattle.kept.specs.Starts.{part_of}
-use Rattle.kept.specs.Ready.{AreRows, Ready}
-use Rattle.kept.proofs.ReadyLaws.{kinds_many, row_is, row_kind}
+use Rattle.rows.specs.Ready.{Ready}
+use Rattle.kept.specs.Ready.{AreRows}
+use Rattle.rows.proofs.ReadyLaws.{kinds_many, row_kind}
+use Rattle.kept.proofs.ReadyLaws.{row_is}
 use Rattle.kept.proofs.NormalFormLaws.{of-kind}
 
 -- ---- how many are below k + 1: those below k, and those that are k

@@ -2,22 +2,16 @@
 use Rattle.std.specs.Prelude.{ℕ, cond, List, map}
 use Rattle.definitions.specs.Emission.{Emitted, Listed, emit}
 use Rattle.definitions.specs.Kept.{Identify}
-use Rattle.definitions.specs.Refusals.{identifies}
 use Rattle.definitions.specs.Starts.{skip_at, waits_at}
 use Rattle.rows.specs.Systems.{System}
 use Rattle.kept.specs.Normal.{row_of, sort_rows, normal}
 use Rattle.kept.specs.Entries.{entry_by}
 use Rattle.kept.specs.declared.emission.Emission as code
-use Rattle.kept.specs.declared.emission.Wanted.{Wanted}
 
 -- the code's state with the entry that may be waited for and the answer buffer
 abbrev pub emitted_of : code.Emission → List ℕ → List ℕ → Emitted
 emitted_of e last answers =
     record { last = last; waiting = waits_at e.start; skip = skip_at e.start; written = e.written; further = e.further; answers = answers }
-
--- what is identified
-abbrev pub identified : Wanted → Identify
-identified w = identifies w.turned w.mirrored
 
 -- the entry of a packing by its rows in any order
 unfoldable pub entry_of : System → List ℕ → Listed

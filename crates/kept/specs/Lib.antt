@@ -2,5 +2,6 @@ pub mod Normal
 pub mod Orders
 pub mod Starts
 pub mod Ready
+pub mod Wanted
 pub mod Emission
 pub mod Entries

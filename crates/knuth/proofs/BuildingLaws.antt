@@ -22,7 +22,7 @@ use Rattle.rows.specs.Rows.{cells_of, mask_at, row_at}
 use Rattle.rows.specs.Systems.{System, system_in, system_over}
 use Rattle.rows.specs.Lawful.{Lawful}
 use Rattle.kept.specs.Normal.{row_of}
-use Rattle.kept.specs.Ready.{Ready}
+use Rattle.rows.specs.Ready.{Ready}
 use Rattle.kept.proofs.NormalFormLaws.{copies_at}
 use Rattle.links.specs.Links.{copies_of, at_column, at_first, at_end, at_copies, at_row, Matrix, LawfulMatrix}
 use Rattle.links.specs.Search.{Shape, Seek}
@@ -32,7 +32,8 @@ use Rattle.knuth.specs.Matrix.{node_at, nodes_in, head_nodes, row_nodes, nodes_f
 use Rattle.knuth.specs.Listing.{Begun}
 use Rattle.knuth.proofs.LaidLaws.{keep_hit, keep_miss, heads_length, same_node, same_nodes, beside_copies, laid_more, laid_none}
 use Rattle.knuth.proofs.MatrixLaws.{no_node, matrix_lawful, matrix_shape, matrix_rows, row_lawful}
-use Rattle.kept.proofs.ReadyLaws.{few-cells, few-kinds, row_kind, kinds_many, rows_many, row_is, row_in}
+use Rattle.rows.proofs.ReadyLaws.{few-cells, few-kinds, row_kind, kinds_many, rows_many, row_in}
+use Rattle.kept.proofs.ReadyLaws.{row_is}
 use Rattle.rows.specs.declared.chart.Chart.{Chart}
 
 -- ---- the nodes of rows

@@ -18,7 +18,8 @@ use Rattle.rows.specs.declared.Dims.{Dims}
 use Rattle.kept.specs.Emission.{emit_kept}
 use Rattle.kept.specs.Normal.{row_of}
 use Rattle.kept.specs.Ready.{AreRows, Fillable}
-use Rattle.kept.proofs.ReadyLaws.{rows_many, row_is as row-stands, row_in as row_here, row-cells, few-cells}
+use Rattle.rows.proofs.ReadyLaws.{rows_many}
+use Rattle.kept.proofs.ReadyLaws.{row_is as row-stands}
 use Rattle.links.specs.Links.{down, first_of, end_of, size_of, row_number}
 use Rattle.links.specs.Cover.{tally, Reduced, reduced_to}
 use Rattle.links.specs.Search.{Seek, At, selected, spend, first_covered, has_row, pivot}
@@ -104,21 +105,11 @@ module _ (d : Dims) (work : List ℕ) (chart : Chart) where
       row_in : r < length S.rows
       row_in = subst (λ (i : ℕ). i < length S.rows) (sym row_is) (row_small S p.seek p.chosen live)
 
-      row_below : r < d.rows
+      pub row_below : r < d.rows
       row_below = let a = row_in in let b = rows_many d work chart in omega arith
 
       pub row_bound : r < 1024
       row_bound = let a = row_in in let b = law.few_rows in omega arith
-
-      -- the row's words, and its first cell
-      pub row_words : 8 * d.rows ≤ length work → 8 * r + 8 ≤ length work
-      row_words h = let a = row_below in omega arith
-
-      pub row_first : (row_at work r).p < 128
-      row_first =
-          let a = row-cells d work chart law r row_below (row_at work r).p (law.row (row_at work r) (row_here d work chart r row_below)).covers_p in
-          let b = few-cells d work chart law in
-          omega arith
 
       -- the row is passed over: the rest of the column from the next node on
       module _ (shown : List ℕ) (before : Emitted) (sh : Shown d.size (take d.places chart.scans) before.last shown) (b : Bool)

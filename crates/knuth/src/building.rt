@@ -4,16 +4,15 @@ ghost use Rattle.std.specs.List.{range_with_len};
 ghost use Rattle.lists.specs.Lists.{below, how_many, keep};
 ghost use Rattle.masks.specs.Masks.{has};
 ghost use Rattle.rows.specs.Rows.{mask_at, row_at};
-ghost use Rattle.rows.specs.Systems.{system_in};
-ghost use Rattle.kept.specs.Ready.{Ready};
+ghost use Rattle.rows.specs.RowSystems.{seen};
 ghost use Rattle.knuth.specs.Matrix.{Laid, StockLaid, columns, head_nodes, link_nodes, nodes_from, row_nodes, stocked_rows};
 ghost use Rattle.knuth.specs.Listing.{Begun};
 
 use super::node::Node;
 use links::{Field, Links};
 use masks::Mask;
-use rows::chart::Chart;
-use rows::{Dims, row};
+use rows::row;
+use rows::row_system::RowSystem;
 
 // Node x's fields that stay as they are.
 fn put_node(links: &mut Links, x: usize, node: Node)
@@ -70,67 +69,70 @@ fn put_cells(links: &mut Links, mask: Mask, n: usize, kind: Node)
 }
 
 // The nodes of row r from node x on; and the node behind them.
-fn put_row(d: Dims, work: &[u64], links: &mut Links, x: usize, r: usize) -> usize
-    requires { (8 * r + 8 ≤ length work.now) × (r < 4096) × (d.size ≤ 128)
-        × (d.size + (row_at work.now r).kind < 4096) × (x + suc (how_many (has (mask_at work.now r)) (below d.size)) ≤ 4096) }
-    ensures { let inside = has (mask_at work.now r) in
-        let kind = (row_at work.now r).kind in
-        (result ≡ x + suc (how_many inside (below d.size)))
-        × Laid links.old x links.new (row_nodes d.size x r kind (keep inside (below d.size))) }
+fn put_row(system: &RowSystem, links: &mut Links, x: usize, r: usize) -> usize
+    requires { let s = system.now in
+        (r < s.d.rows) × (x + suc (how_many (has (mask_at s.work.now r)) (below s.d.size)) ≤ 4096) }
+    ensures { let s = system.now in
+        let inside = has (mask_at s.work.now r) in
+        let kind = (row_at s.work.now r).kind in
+        (result ≡ x + suc (how_many inside (below s.d.size)))
+        × Laid links.old x links.new (row_nodes s.d.size x r kind (keep inside (below s.d.size))) }
 {
-    let mask = row::mask_at(work, r);
-    let end = x + 1 + count_cells(mask, d.size);
+    let size = system.d.size;
+    let mask = row::mask_at(system.work, r);
+    let end = x + 1 + count_cells(mask, size);
     let kind = Node {
-        column: d.size + row::kind_at(work, r),
+        column: size + row::kind_at(system.work, r),
         first: x,
         end,
         row: r,
     };
     put_node(links, x, kind);
-    put_cells(links, mask, d.size, kind);
+    put_cells(links, mask, size, kind);
     end
 }
 
 // The copies of kinds, by their columns; none for the columns of cells.
-fn put_copies(d: Dims, chart: &Chart, links: &mut Links)
-    requires { (d.size ≤ 128) × (d.kinds ≤ 16) }
-    ensures { StockLaid links.old links.new d.size d.kinds chart.now }
+fn put_copies(system: &RowSystem, links: &mut Links)
+    ensures { let s = system.now in StockLaid links.old links.new s.d.size s.d.kinds s.chart.now }
 {
+    let d = system.d;
     // the copies of the columns before j are written
     for j in 0..d.size + d.kinds {
         let copies = if j < d.size {
             0
         } else {
-            chart.copies_of(j - d.size)
+            system.chart.copies_of(j - d.size)
         };
         links.set(j, Field::Copies, copies);
     }
 }
 
 // The nodes of all rows of kinds that have copies, behind the heads; and how many nodes there are.
-fn put_rows(d: Dims, work: &[u64], chart: &Chart, links: &mut Links) -> usize
-    requires { let S = system_in d work.now chart.now in Ready d work.now chart.now × (length (link_nodes S) ≤ 4096) }
-    ensures { let S = system_in d work.now chart.now in
+fn put_rows(system: &RowSystem, links: &mut Links) -> usize
+    requires { length (link_nodes (seen system.now)) ≤ 4096 }
+    ensures { let S = seen system.now in
         (result ≡ length (link_nodes S)) × Laid links.old (columns S) links.new (nodes_from S (columns S) (stocked_rows S)) }
 {
-    let mut x = d.size + d.kinds;
+    let mut x = system.d.size + system.d.kinds;
     // the nodes of the rows before r stand before node x
-    for r in 0..d.rows {
-        let kind = row::kind_at(work, r);
-        if 0 < chart.copies_of(kind) {
-            x = put_row(d, work, links, x, r);
+    for r in 0..system.d.rows {
+        let kind = row::kind_at(system.work, r);
+        if 0 < system.chart.copies_of(kind) {
+            x = put_row(system, links, x, r);
         }
     }
     x
 }
 
 // The links of a row system, every row possible.
-pub fn build_links(d: Dims, work: &[u64], chart: &Chart, links: &mut Links)
-    requires { let S = system_in d work.now chart.now in Ready d work.now chart.now × (length (link_nodes S) ≤ 4096) }
-    ensures { Begun (system_in d work.now chart.now) links.new }
+pub fn build_links(system: &RowSystem, links: &mut Links)
+    requires { length (link_nodes (seen system.now)) ≤ 4096 }
+    ensures { Begun (seen system.now) links.new }
 {
-    put_heads(links, d.size + d.kinds);
-    put_copies(d, chart, links);
-    let nodes = put_rows(d, work, chart, links);
-    links.link_all(d.size, d.size + d.kinds, nodes);
+    let columns = system.d.size + system.d.kinds;
+    put_heads(links, columns);
+    put_copies(system, links);
+    let nodes = put_rows(system, links);
+    links.link_all(system.d.size, columns, nodes);
 }

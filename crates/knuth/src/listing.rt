@@ -1,67 +1,61 @@
 // KnuthAlgorithm's list over a row system, whole or from an entry on, as far as there is room for it.
 ghost use Rattle.std.specs.Prelude.{◌≡◌, ◌*◌, ◌≤◌, drop, length};
 ghost use Rattle.definitions.specs.Emission.{emits};
-ghost use Rattle.rows.specs.Systems.{system_in};
-ghost use Rattle.kept.specs.Emission.{emitted_of, identified};
-ghost use Rattle.kept.specs.Ready.{Ready};
+ghost use Rattle.definitions.specs.Refusals.{identifies};
+ghost use Rattle.rows.specs.RowSystems.{seen};
+ghost use Rattle.kept.specs.Emission.{emitted_of};
+ghost use Rattle.kept.specs.Wanted.{LastShown, identified};
 ghost use Rattle.knuth.specs.Matrix.{link_nodes};
 ghost use Rattle.knuth.specs.Listing.{knuth_answers};
 
-use super::path::Path;
 use super::{building, search};
-use kept::emission::{Emission, Wanted};
+use kept::emission::Emission;
+use kept::path::Path;
+use kept::wanted::Wanted;
 use links::Links;
-use rows::chart::Chart;
-use rows::{Dims, shown};
+use rows::row_system::RowSystem;
 
 // The answers of the list below, over numbers that are all free for the links.
 fn list_over(
-    d: Dims,
-    work: &[u64],
-    chart: &Chart,
-    wanted: Wanted,
+    system: &RowSystem,
+    wanted: &Wanted,
     numbers: &mut [u16],
-    last: &[u8],
     answers: &mut [u8],
     e: Emission,
 ) -> Emission
-    requires { let S = system_in d work.now chart.now in
-        Ready d work.now chart.now × (32768 ≤ length numbers.old) × (length (link_nodes S) ≤ 4096)
-        × (wanted.capacity * (2 * d.places) ≤ length answers.old) }
-    ensures { let S = system_in d work.now chart.now in
-        let old = emitted_of e last.now answers.old in
-        emitted_of result last.now answers.new ≡ emits wanted.capacity (knuth_answers S (identified wanted)) old }
+    requires links { (32768 ≤ length numbers.old) × (length (link_nodes (seen system.now)) ≤ 4096) }
+    requires wanted { let w = wanted.now in
+        LastShown system.now w × (w.capacity * (2 * system.now.d.places) ≤ length answers.old) }
+    ensures { let w = wanted.now in
+        let old = emitted_of e w.last.now answers.old in
+        emitted_of result w.last.now answers.new ≡ emits w.capacity (knuth_answers (seen system.now) (identified w)) old }
 {
     let mut links = Links::new(numbers);
-    building::build_links(d, work, chart, &mut links);
-    let mut shown = [0u8; 256];
-    shown::show_cells(d, chart, last, &mut shown);
+    building::build_links(system, &mut links);
     let mut path = Path::new();
-    search::choose(
-        d, work, chart, wanted, &mut links, d.size, &mut path, last, &shown, answers, e,
-    )
+    let size = system.d.size;
+    search::choose(system, wanted, &mut links, size, &mut path, answers, e)
 }
 
 // The answers of KnuthAlgorithm's list, one after the other, until the page is full and a further one is known. The links are built first, and stand in
 // their slice afterwards as they were built: their 32,768 numbers are free.
 pub fn list(
-    d: Dims,
-    work: &[u64],
-    chart: &Chart,
-    wanted: Wanted,
+    system: &RowSystem,
+    turned: bool,
+    mirrored: bool,
+    capacity: usize,
     links: &mut [u16],
     last: &[u8],
     answers: &mut [u8],
     e: Emission,
 ) -> Emission
-    requires { let S = system_in d work.now chart.now in
-        Ready d work.now chart.now × (32768 ≤ length links.old) × (length (link_nodes S) ≤ 4096)
-        × (wanted.capacity * (2 * d.places) ≤ length answers.old) }
-    ensures page { let S = system_in d work.now chart.now in
-        let old = emitted_of e last.now answers.old in
-        emitted_of result last.now answers.new ≡ emits wanted.capacity (knuth_answers S (identified wanted)) old }
+    requires links { (32768 ≤ length links.old) × (length (link_nodes (seen system.now)) ≤ 4096) }
+    requires room { capacity * (2 * system.now.d.places) ≤ length answers.old }
+    ensures page { let old = emitted_of e last.now answers.old in
+        emitted_of result last.now answers.new ≡ emits capacity (knuth_answers (seen system.now) (identifies turned mirrored)) old }
     ensures behind { drop 32768 links.new ≡ drop 32768 links.old }
 {
+    let wanted = Wanted::new(system, turned, mirrored, capacity, last);
     let numbers = &mut links[..32768];
-    list_over(d, work, chart, wanted, numbers, last, answers, e)
+    list_over(system, &wanted, numbers, answers, e)
 }

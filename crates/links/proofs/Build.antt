@@ -400,14 +400,6 @@ module _ {t : Matrix} (law : LawfulMatrix t) where
   pub headed_none : {m : List ℕ} → Fields t m → Headed t 0 m
   headed_none f = record { fields = f; ups = λ j l. absurd (omega arith); downs = λ j l. absurd (omega arith); none = λ j l. absurd (omega arith) }
 
-pub link_last_length : (m : List ℕ) (x : ℕ) → length (link_last m x) ≡ length m
-unfolding link_last inserted
-link_last_length m x = inc_length (inserted m x (column_of m x) (up m (column_of m x))) (column_of m x) ∙ simp length-set
-
-pub headed_len : (m : List ℕ) (i : ℕ) → length (headed m i) ≡ length m
-unfolding headed
-headed_len m i = simp length-set
-
 pub link_last_still : {m : List ℕ} {x : ℕ} → Joinable m x → (k : ℕ) → Still k → get_or (link_last m x) k 0 ≡ get_or m k 0
 unfolding link_last
 link_last_still {m} {x} j k h =

@@ -212,9 +212,6 @@ module _ (w : Reduced) {m : List ℕ} (s : Holds w m) {c : ℕ} (column : c < w.
     pub walk_start : (k : ℕ) → k ≡ down m c → Walk w c m m k
     walk_start k e = subst (λ (i : ℕ). Walk w c m m i) (sym e) (cover_next c (s.rings.heads c column) (w.law.head c column) (omega arith) m none_low)
 
-    pub walk_end : {m' : List ℕ} {k : ℕ} → Walk w c m m' k → k ≡ c → m' ≡ cover w c m
-    walk_end {m'} {k} v e = v.so ∙ ap (λ (n : ℕ). cover_to w.t w.alive c m n) (cond_same k c w.t.nodes k e)
-
     here_small : (k : ℕ) → here w.t w.alive c k ≡ true → k < 4096
     here_small k h = omega (arith, here_node k h, w.law.small)
 

@@ -113,9 +113,6 @@ module _ (w : Reduced) {m₀ : List ℕ} (s : Holds w m₀) {a b : ℕ} (r : Run
   ran_start e = record { low = r.order; high = omega arith; so = e }
 
   module _ {m : List ℕ} {y : ℕ} (v : Running w a b m₀ m y) where
-    pub running_end : b ≤ y → m ≡ run_to w a m₀ (b - a)
-    running_end h = v.so ∙ ap (λ (n : ℕ). run_to w a m₀ n) (omega (arith, v.high))
-
     pub ran_end : y ≤ a → m ≡ m₀
     unfolding run_to
     ran_end h = v.so ∙ ap (λ (n : ℕ). run_to w a m₀ n) (let z : y - a ≡ 0 = omega (arith, v.low) in z)

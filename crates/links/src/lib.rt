@@ -1,4 +1,5 @@
-// Dancing links (knuth_algo.rs): the columns' rings of nodes; rows and columns are taken out of them and put back again.
+// Dancing links (knuth_algo.rs): the columns' rings of nodes; rows and columns are taken out of them and put back again. A step and its undoing (`unlink`,
+// `relink`) go over the same nodes in opposite orders: no type, size or constant tells them apart, so each is a function.
 #![tactic(auto)]
 
 mod nodes;
@@ -10,7 +11,7 @@ ghost use Rattle.links.specs.Links.{down, column_of, first_of, end_of, size_of, 
 ghost use Rattle.links.specs.Links.{Still, unlink as unlinked, relink as relinked, Matrix, LawfulMatrix, Fields};
 ghost use Rattle.links.specs.Build.{headed, inserted, link_last, Joinable, Headed, Partial, Linkable, Posed, Stocked, Written, whole, every_column};
 ghost use Rattle.links.specs.Cover.{Linked, dec, inc, One, Back, hide_one, show_one, Reduced, Holds, Hidable, Hidden, hide};
-ghost use Rattle.links.specs.Cover.{Coverable, Covered, Open, cover, Run, Runnable, Ran, run_to, tally};
+ghost use Rattle.links.specs.Cover.{Coverable, Covered, Open, cover, Run, Runnable, Ran, run_to};
 
 pub use nodes::{Field, Links};
 

@@ -13,7 +13,6 @@ use borrow.Rule.Slice.PartMut.{mid_of, post_of, put_mid, same_len_mid, mid_len}
 use lib.Dec.{T, ltb, leb, eqb, ltb→lt, lt→ltb, eqb→eq}
 use lib.ListN.{length, get_or, take, drop, set, length-replicate, length-map, length-drop, drop_of_length-le}
 use lib.Seq.{take-length, length-take-le, drop-cons, get_or-take, take-take, drop_at, take-append-le, take-set-le, drop-set-lt, get_or-set_same}
-use Rattle.std.specs.Prelude.{Result, Err}
 use Rattle.lists.specs.Lists.{all, how_many, keep, sum, joined, numbered, numbered_from}
 use Rattle.lists.proofs.TestLaws.{eqb_flip, and_left, and_right, holds, is_true, is_false}
 use Rattle.lists.proofs.ListLaws.{front_part, all_at, all_of, keep_at, map_same}
@@ -46,7 +45,7 @@ use Rattle.shape.proofs.PlaceLaws.{place_lt, place_of_cell, volume_small}
 use Rattle.shape.proofs.VariantLaws.{variant_filled, scan_from}
 use Rattle.placements.specs.declared.Pieces.{Pieces}
 use Rattle.placements.specs.Pieces.{no_record, lent_records, records_of, lent_in, tray_in}
-use Rattle.placements.specs.Stages.{verdict_number, lent_rows, grid_rows, config_rows, slice_rows, count_rows_by, count_rows}
+use Rattle.placements.specs.Stages.{lent_rows, grid_rows, config_rows, slice_rows, count_rows_by, count_rows}
 use Rattle.placements.specs.Merging.{Sound, Ordered, grid_at, shape_at, form_at, forms_of, AreKinds, copies_at}
 use Rattle.placements.specs.Counting.{fits_in, placements_in, OnBoard, Accepted9, CountsOf, VariantsAt, PutVariants, Counted}
 use Rattle.placements.specs.Stripping.{StripsTray}
@@ -220,9 +219,6 @@ refused_some WorkTooShort e = omega arith
 refused_some LinksTooShort e = omega arith
 refused_some TooManyPlacements e = omega arith
 refused_some TooManyLinks e = omega arith
-
-pub refused_not : (v : Result (Unit {0}) Refusal) {why : Refusal} → v ≡ Err why → verdict_number v ≡ 0 → ⊥
-refused_not v {why} r e = refused_some why (sym (ap verdict_number r) ∙ e)
 
 -- the table in its four parts: the first part of which a row applies decides, among the three that are told without counting, and then the counts
 module _ (t : Pieces) (board : Record) (bytes : List ℕ) (config : Config) (work links : ℕ) where

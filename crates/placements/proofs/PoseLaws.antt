@@ -63,9 +63,6 @@ module _ (g : Grid) where
       ap (λ (l : List Cell). keep (λ u. eqb (byte_at g u) 1) l) (box_places g.sides) ∙ ap (filled_left g 0) z
 
   module _ (j v : ℕ) where
-    left_none : v ≤ j → filled_left g j (v - j) ≡ []
-    left_none l = let e : v - j ≡ 0 = omega arith in rw e
-
     left_more : j < v → filled_left g j (v - j) ≡ cons_if (eqb (get_or g.cells j 0) 1) (cell_at g.sides j) (filled_left g (j + 1) (v - (j + 1)))
     unfolding byte_at
     left_more l =

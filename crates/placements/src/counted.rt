@@ -8,7 +8,8 @@ use super::trays::LentTray;
 use shape::maps::Map;
 
 // What counting leaves of a tray: the counts; the places of the board's filled cells, each piece's smallest map, one piece of each kind, and for each kind k
-// how many variants it has (at 25·k) and their map numbers (behind it). What else stands in the four arrays says nothing.
+// how many variants it has (at 25·k) and their map numbers (behind it). What else stands in the four arrays says nothing. They are of fixed length,
+// with counts beside them, since nothing is put on a heap.
 #[derive(Clone, Copy)]
 pub struct CountedTray<'a> {
     pub tray: LentTray<'a>,
@@ -31,10 +32,12 @@ impl<'a> CountedTray<'a> {
 
     // The pieces with their smallest maps.
     fn turned(&self) -> TurnedPieces<'_>
-        ensures { (result.tray.now ≡ self.now.tray) × (result.small.now ≡ self.now.small) }
+        ensures { let t = self.now.tray in
+            (result.pieces.now ≡ t.pieces) × (result.bytes.now ≡ t.bytes.now) × (result.small.now ≡ self.now.small) }
     {
         TurnedPieces {
-            tray: &self.tray,
+            pieces: &self.tray.pieces,
+            bytes: self.tray.bytes,
             small: &self.small,
         }
     }

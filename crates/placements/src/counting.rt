@@ -5,7 +5,7 @@ ghost use Rattle.shape.specs.Variants.{turned_by};
 ghost use Rattle.shape.specs.CubicGrids.{grid_of};
 ghost use Rattle.shape.specs.Scans.{as_order};
 ghost use Rattle.placements.specs.Stages.{verdict_number, count_rows_by};
-ghost use Rattle.placements.specs.Merging.{AreKinds};
+ghost use Rattle.placements.specs.Merging.{Smallest, AreKinds};
 ghost use Rattle.placements.specs.Counting.{fits_in, placements_in, Counted, PutVariants};
 ghost use Rattle.placements.specs.Trays.{board_grid};
 
@@ -65,24 +65,31 @@ fn count_piece(board: &PlannedBoard, piece: &CubicGrid, turnings: &mut [u8], at:
 // The same of a piece of each kind, and the counts of them all.
 fn count_kinds(
     board: &PlannedBoard,
-    pieces: &TurnedPieces,
+    tray: &LentTray,
+    small: &[u8],
     kinds: &[u8],
     turnings: &mut [u8],
 ) -> Counts
-    requires board { let t = pieces.now.tray.now in grid_of board.now.grid ≡ board_grid t }
-    requires kinds { let t = pieces.now.tray.now in AreKinds t.pieces t.bytes.now kinds.now (length kinds.now) }
+    requires board { let t = tray.now in grid_of board.now.grid ≡ board_grid t }
+    requires smallest { let t = tray.now in Smallest t.pieces t.bytes.now small.now }
+    requires kinds { let t = tray.now in AreKinds t.pieces t.bytes.now kinds.now (length kinds.now) }
     requires room { length turnings.old ≡ 400 }
-    ensures counted { let t = pieces.now.tray.now in
+    ensures counted { let t = tray.now in
         Counted t.pieces t.board t.bytes.now board.now.places.now kinds.now turnings.new result }
     ensures sizes { (result.size ≡ length board.now.places.now) × (result.kinds ≡ length kinds.now) }
 {
+    let pieces = TurnedPieces {
+        pieces: &tray.pieces,
+        bytes: tray.bytes,
+        small,
+    };
     let size = board.places.len();
     let mut placements = 0;
     let mut links = size + kinds.len();
     // the variants of the kinds before k stand there; what is counted and the counts of the kinds from k on make all
     for (k, &first) in kinds.iter().enumerate() {
         let i = first as usize;
-        let piece = pieces.tray.piece_grid(i);
+        let piece = tray.piece_grid(i);
         let rows = count_piece(board, &piece, turnings, 25 * k);
         placements += rows;
         if 0 < pieces.copies_of(i) {
@@ -105,9 +112,10 @@ pub fn count_tray<'a>(tray: LentTray<'a>) -> CountedTray<'a>
     let order = tray.order();
     let mut places = [0u16; 512];
     let size = scan::plan_coords(&grid, order, &mut places);
-    let small = merging::smallest_maps(&tray);
+    let small = merging::smallest_maps(&tray.pieces, tray.bytes);
     let pieces = TurnedPieces {
-        tray: &tray,
+        pieces: &tray.pieces,
+        bytes: tray.bytes,
         small: &small,
     };
     let mut first = [0u8; 16];
@@ -118,7 +126,7 @@ pub fn count_tray<'a>(tray: LentTray<'a>) -> CountedTray<'a>
         places: &places[..size],
     };
     let mut turnings = [0u8; 400];
-    let counts = count_kinds(&board, &pieces, &first[..kinds], &mut turnings);
+    let counts = count_kinds(&board, &tray, &small, &first[..kinds], &mut turnings);
     CountedTray {
         tray,
         counts,

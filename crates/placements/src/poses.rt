@@ -17,7 +17,7 @@ use shape::maps::Map;
 use shape::{AxisOrder, Coord, CubicGrid, cells, grids, scan};
 
 // The variants of a piece, at most 24: how many there are, how many filled cells each has, and for each the codes of these, x slowest, z fastest, in 512
-// numbers (what lies behind them says nothing), and that of its origin.
+// numbers (what lies behind them says nothing), and that of its origin. Of fixed length, with a count beside them, since nothing is put on a heap.
 #[derive(Drop)]
 pub struct Poses {
     pub count: usize,

@@ -8,7 +8,7 @@ ghost use Rattle.placements.specs.Pieces.{empty_pieces, no_record, put_record, r
 
 use crate::Pieces;
 use definitions::Record;
-use shape::{Coord, CubicGrid};
+use shape::{Coord, CubicGrid, cells};
 
 // The sides of a record's box. (Not `From`, which could stand in `shape` alone: a shape knows nothing of records.)
 #[tactic(auto, unfolding(definitions::specs::Refusals::sides_of))]
@@ -39,7 +39,7 @@ pub fn volume_of(r: Record) -> usize
     requires { T (sides_fit r) }
     ensures { (result ≡ volume (sides_of r)) × (result ≤ 512) }
 {
-    r.a * r.b * r.c
+    cells::volume_of(sides_of(r))
 }
 
 // Whether the cells lie in the lent bytes.

@@ -3,6 +3,7 @@ ghost use Rattle.std.specs.Prelude.{◌∷◌, map, ◌≡◌, ◌+◌, ◌≤�
 ghost use Rattle.definitions.specs.Refusals.{sides_fit, cells_lie, piece_of};
 ghost use Rattle.placements.specs.Stripping.{StripsRecord, StripsPieces, StripsTray, with_grids};
 ghost use Rattle.placements.specs.Pieces.{records_of};
+ghost use Rattle.placements.specs.Merging.{Sound};
 
 use super::trays::LentTray;
 use super::{Pieces, records};
@@ -47,15 +48,15 @@ fn strip_record(bytes: &[u8], r: Record, out: &mut [u8], start: usize) -> Stripp
 }
 
 // The grids of the pieces, stripped, behind the first 512 bytes of out.
-fn strip_pieces(tray: &LentTray, out: &mut [u8]) -> Pieces
-    requires { 8704 ≤ length out.old }
-    ensures { let t = tray.now in StripsPieces t.pieces t.bytes.now result out.old out.new }
+fn strip_pieces(pieces: &Pieces, bytes: &[u8], out: &mut [u8]) -> Pieces
+    requires { Sound pieces.now bytes.now × (8704 ≤ length out.old) }
+    ensures { StripsPieces pieces.now bytes.now result out.old out.new }
 {
-    let mut made = tray.pieces;
+    let mut made = *pieces;
     // the pieces before i are stripped, each behind those before it
-    for i in 0..tray.pieces.count {
-        let p = tray.piece(i);
-        let s = strip_record(tray.bytes, p, out, 512 * i + 512);
+    for i in 0..pieces.count {
+        let p = pieces.records[i];
+        let s = strip_record(bytes, p, out, 512 * i + 512);
         made.records[i] = s.row;
     }
     made
@@ -69,7 +70,7 @@ pub fn strip_tray(tray: &LentTray, out: &mut [u8]) -> StrippedRecords
         StripsTray t.pieces t.board t.bytes.now result out.new × (out.new ≡ with_grids out.old 0 lent) }
 {
     let board = strip_record(tray.bytes, tray.board, out, 0);
-    let pieces = strip_pieces(tray, out);
+    let pieces = strip_pieces(&tray.pieces, tray.bytes, out);
     StrippedRecords {
         pieces,
         board: board.row,

@@ -1,9 +1,10 @@
 // The refusal of a call, or its row system.
-ghost use Rattle.std.specs.Prelude.{◌+◌, ◌*◌, ◌≤◌, length};
+ghost use Rattle.std.specs.Prelude.{◌<◌};
 
 use super::call::Call;
 use rows::chart::{Chart, Kind, Owned};
-use rows::{Dims, row};
+use rows::row;
+use rows::row_system::RowSystem;
 use solver::prepare;
 use std::io;
 
@@ -43,9 +44,10 @@ fn show_images(rt: &impl Print, images: &[u8], size: usize, maps: usize) -> io::
 }
 
 // A row: its number, kind, p, j, cells.
-fn show_row(rt: &impl Print, work: &[u64], r: usize) -> io::Result<()>
-    requires { 8 * r + 8 ≤ length work.now }
+fn show_row(rt: &impl Print, system: &RowSystem, r: usize) -> io::Result<()>
+    requires { r < system.now.d.rows }
 {
+    let work = system.work;
     let kind = row::kind_at(work, r);
     let first = row::first_at(work, r);
     print!(rt; "row {r} {kind} {first} {}", work[8 * r + 4])?;
@@ -59,22 +61,21 @@ fn show_row(rt: &impl Print, work: &[u64], r: usize) -> io::Result<()>
 }
 
 // The first 12 rows, and the last.
-fn show_rows(rt: &impl Print, work: &[u64], n: usize) -> io::Result<()>
-    requires { 8 * n ≤ length work.now }
-{
+fn show_rows(rt: &impl Print, system: &RowSystem) -> io::Result<()> {
+    let n = system.d.rows;
     for r in 0..n.min(12) {
-        show_row(rt, work, r)?;
+        show_row(rt, system, r)?;
     }
     if 12 < n {
-        show_row(rt, work, n - 1)?;
+        show_row(rt, system, n - 1)?;
     }
     Ok(())
 }
 
 // The sizes of a row system, and what stands in its slices.
-fn show_system(rt: &impl Print, d: Dims, work: &[u64], chart: &Chart) -> io::Result<()>
-    requires { 8 * d.rows ≤ length work.now }
-{
+fn show_system(rt: &impl Print, system: &RowSystem) -> io::Result<()> {
+    let d = system.d;
+    let chart = system.chart;
     print!(rt; "cells {} kinds {} rows {}", d.size, d.kinds, d.rows)?;
     println!(rt; " turns {} mirrorings {}", d.turns, d.mirrorings)?;
     show_kinds(rt, &chart.kinds, d.kinds)?;
@@ -84,25 +85,32 @@ fn show_system(rt: &impl Print, d: Dims, work: &[u64], chart: &Chart) -> io::Res
         let maps = d.turns.saturating_add(d.mirrorings);
         show_images(rt, &chart.images, d.size, maps)?;
     }
-    show_rows(rt, work, d.rows)
+    show_rows(rt, system)
 }
 
 // The refusal of a call, or its row system. A work slice of more than 8,200 words counts as one of 8,200.
 pub fn show(rt: &impl Print, call: &Call) -> io::Result<()> {
-    let mut work = [0; 8200];
+    let mut words = [0; 8200];
+    let work = &mut words[..call.words.min(8200)];
     let mut chart = Chart::empty();
-    let words = call.words.min(8200);
     let prepared = prepare::prepare(
         &call.pieces,
         call.board,
         call.bytes,
         call.config,
         call.links,
-        &mut work[..words],
+        work,
         &mut chart,
     );
     match prepared {
         Err(why) => println!(rt; "refused {}", why.number()),
-        Ok(d) => show_system(rt, d, &work, &chart),
+        Ok(d) => {
+            let system = RowSystem {
+                d,
+                work,
+                chart: &chart,
+            };
+            show_system(rt, &system)
+        }
     }
 }

@@ -11,7 +11,6 @@ use Rattle.definitions.specs.Grid.{Grid, volume}
 use Rattle.shape.specs.Places.{cell_at}
 use Rattle.placements.specs.Counting.{OnBoard}
 use Rattle.placements.specs.declared.counted.CountedTray.{CountedTray}
-use Rattle.placements.proofs.MergingLaws.{piece-at}
 use Rattle.placements.proofs.CountingLaws.{Lent, lent_passes, board_fits}
 use Rattle.placements.proofs.RefusalLaws.{sides_small}
 use Rattle.shape.proofs.PlaceLaws.{volume_small}
@@ -36,11 +35,6 @@ module _ (c : CountedTray) (long : length c.first ≡ 16) (kinds : List ℕ) (is
 
   pub kind_below : (k : ℕ) → k < length kinds → k < c.counts.kinds
   kind_below k l = let e = kind_number in omega arith
-
-  pub piece_below : (k : ℕ) → k < length kinds → get_or kinds k 0 < c.tray.pieces.count
-  piece_below k l =
-      subst (λ (xs : List ℕ). get_or xs k 0 < c.tray.pieces.count) (sym is)
-      (piece-at c.tray.pieces c.tray.bytes.now (take c.counts.kinds c.first) c.counted.are_kinds.ordered k (let e = ap length is in omega arith))
 
 -- a list that is the front of the places is all places of the board's cells
 pub on_front : (order : List ℕ) (g : Grid) (places : List ℕ) (n : ℕ) → OnBoard order g places n → (ps : List ℕ) → ps ≡ take n places → (length ps ≡ n) × OnBoard order g ps (length ps)

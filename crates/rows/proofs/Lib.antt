@@ -13,5 +13,7 @@ pub mod RowLaws
 pub mod TellingLaws
 pub mod BuildLaws
 pub mod BuildSystemLaws
+pub mod ReadyLaws
+pub mod StandingLaws
 pub mod CountedLaws
 pub mod RecordLaws

@@ -1,4 +1,5 @@
 -- What a chart says of a tray.
+use native.Mathlib.Omega.{arith}
 use Rattle.std.specs.Prelude.{ℕ, ◌*◌, List, get_or, take, drop}
 use Rattle.rows.specs.declared.chart.Chart.{Chart}
 use Rattle.rows.specs.declared.chart.Kind.{Kind}
@@ -6,7 +7,7 @@ use Rattle.rows.specs.declared.chart.Owned.{Owned}
 
 -- what stands past the end of a list of kinds, and of pieces
 abbrev pub no_kind : Kind
-no_kind = record { copies = 0; partner = 0; size = 0 }
+no_kind = record { copies = 0; partner = 0; size = 0; few = omega arith }
 
 abbrev pub nothing_owned : Owned
 nothing_owned = record { kind = 0; count = 0 }

@@ -8,3 +8,5 @@ pub mod Ranges
 pub mod Answering
 pub mod Lawful
 pub mod Shown
+pub mod Ready
+pub mod RowSystems

@@ -1,13 +1,14 @@
 // The chart of a tray: what the engines read of it beside its rows.
 ghost use Rattle.std.specs.Prelude.{◌≡◌, ◌≤◌, ◌<◌, get_or, replicate};
 
-// What stands of a kind: how many copies it has, its mirror partner (the number of kinds where it has none), and of how many cells it is. (No Option for the
-// partner: it is looked up among rows as any kind, and no row is of the kind behind the last.)
+// What stands of a kind: how many copies it has, its mirror partner (the number of kinds where it has none), and of how many cells it is, 512 at most. (No
+// Option for the partner: it is looked up among rows as any kind, and no row is of the kind behind the last.)
 #[derive(Clone, Copy)]
 pub struct Kind {
     pub copies: u8,
     pub partner: u8,
     pub size: u16,
+    pub ghost few: { size ≤ 512 },
 }
 
 // A piece of the box: the number of its kind, and how many copies of it there are.

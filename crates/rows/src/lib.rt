@@ -9,6 +9,7 @@ mod building;
 pub mod chart;
 pub mod images;
 pub mod row;
+pub mod row_system;
 pub mod shown;
 pub mod system;
 

@@ -1,4 +1,4 @@
-// A row of the work slice: eight words, read one by one.
+// A row of the work slice: eight words, read one by one. (Words and no struct: the work slice is lent as words by the C call.)
 ghost use Rattle.std.specs.Prelude.{◌≡◌, ◌+◌, ◌*◌, ◌≤◌, length};
 ghost use Rattle.rows.specs.Rows.{mask_at, row_at};
 

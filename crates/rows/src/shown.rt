@@ -29,21 +29,23 @@ fn place_of(scans: &[u8], cell: usize) -> usize
 }
 
 // The two bytes that an answer has for each cell of the board.
-pub fn show_cells(d: Dims, chart: &Chart, last: &[u8], shown: &mut [u8])
-    requires { (d.size ≤ 128) × (length shown.old ≡ 256) × (d.places ≤ 512) }
-    ensures { Shown d.size (take d.places chart.now.scans) last.now shown.new }
+pub fn show_cells(d: Dims, chart: &Chart, last: &[u8]) -> [u8; 256]
+    requires { (d.size ≤ 128) × (d.places ≤ 512) }
+    ensures { Shown d.size (take d.places chart.now.scans) last.now result }
 {
+    let mut shown = [0; 256];
     // the bytes of the cells before c are written
     for c in 0..d.size {
         let i = place_of(&chart.scans[..d.places], c);
         shown[2 * c] = byte_or(last, 2 * i);
         shown[2 * c + 1] = byte_or(last, 2 * i + 1);
     }
+    shown
 }
 
 // Whether an answer shows one copy, of a piece of row r's kind, on all cells of row r.
-fn is_shown(d: Dims, work: &[u64], chart: &Chart, shown: &[u8], r: usize) -> bool
-    requires { (8 * r + 8 ≤ length work.now) × ((row_at work.now r).p < 128) × (length shown.now ≡ 256) × (d.pieces ≤ 16) }
+fn is_shown(d: Dims, work: &[u64], chart: &Chart, shown: &[u8; 256], r: usize) -> bool
+    requires { (8 * r + 8 ≤ length work.now) × ((row_at work.now r).p < 128) × (d.pieces ≤ 16) }
     ensures { result ≡ shows_row (owned_in chart.now.pieces d.pieces) shown.now (row_at work.now r) }
 {
     let p = row::first_at(work, r);
@@ -69,14 +71,17 @@ fn is_shown(d: Dims, work: &[u64], chart: &Chart, shown: &[u8], r: usize) -> boo
 }
 
 // Whether the packings with row r are to be looked at: all are, but while an answer is waited for only those that may have it.
-pub fn leads(d: Dims, work: &[u64], chart: &Chart, shown: &[u8], waiting: bool, r: usize) -> bool
-    requires { (8 * r + 8 ≤ length work.now) × ((row_at work.now r).p < 128) × (length shown.now ≡ 256) × (d.pieces ≤ 16) }
+pub fn leads(
+    d: Dims,
+    work: &[u64],
+    chart: &Chart,
+    shown: &[u8; 256],
+    waiting: bool,
+    r: usize,
+) -> bool
+    requires { (8 * r + 8 ≤ length work.now) × ((row_at work.now r).p < 128) × (d.pieces ≤ 16) }
     ensures { result ≡ not waiting
         || shows_row (owned_in chart.now.pieces d.pieces) shown.now (row_at work.now r) }
 {
-    if waiting {
-        is_shown(d, work, chart, shown, r)
-    } else {
-        true
-    }
+    !waiting || is_shown(d, work, chart, shown, r)
 }

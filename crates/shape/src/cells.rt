@@ -25,7 +25,7 @@ pub(crate) fn is_fit(s: Coord) -> bool
     s.0 <= 8 && s.1 <= 8 && s.2 <= 8
 }
 
-// How many cells a box has; 0 where a side is above 8.
+// How many cells a box has; 0 where a side is above 8. (No Option: of such sides no grid is lent, and a number of cells is what callers take.)
 pub fn volume_of(s: Coord) -> usize
     ensures { (result ≡ cond (is_fit (as_sides s)) (volume (as_sides s)) 0) × (result ≤ 512) }
 {

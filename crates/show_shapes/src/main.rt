@@ -102,7 +102,8 @@ fn compare(
     println!(rt; "kinds {order} {mirrored}")
 }
 
-fn main(rt: HostRuntime) -> io::Result<()> {
+// All grids and pairs.
+fn show_all(rt: &impl Print) -> io::Result<()> {
     let one = [1];
     let domino = [1, 1];
     let corner = [1, 1, 1, 0];
@@ -115,22 +116,27 @@ fn main(rt: HostRuntime) -> io::Result<()> {
         1, 1, 0, 1, 0, 0, 1, 0, 0, 0, 1, 0, 0, 1, 0, 0, 1, 0, 0, 0, 0, 0, 0, 1,
     ];
     let cube = Coord(2, 2, 2);
-    show(&rt, &one, Coord(1, 1, 1))?;
-    show(&rt, &domino, Coord(1, 1, 2))?;
-    show(&rt, &corner, Coord(1, 2, 2))?;
-    show(&rt, &handed, cube)?;
-    show(&rt, &partner, cube)?;
-    show(&rt, &apart, Coord(1, 1, 3))?;
-    show(&rt, &hollow, Coord(1, 3, 3))?;
-    show(&rt, &row, Coord(1, 1, 4))?;
-    show(&rt, &mixed, Coord(2, 3, 4))?;
-    compare(&rt, &one, Coord(1, 1, 1), &domino, Coord(1, 1, 2))?;
-    compare(&rt, &domino, Coord(1, 1, 2), &domino, Coord(2, 1, 1))?;
-    compare(&rt, &corner, Coord(1, 2, 2), &corner, Coord(2, 2, 1))?;
-    compare(&rt, &handed, cube, &partner, cube)?;
-    compare(&rt, &partner, cube, &handed, cube)?;
-    compare(&rt, &handed, cube, &handed, cube)?;
-    compare(&rt, &hollow, Coord(1, 3, 3), &hollow, Coord(3, 1, 3))?;
-    compare(&rt, &apart, Coord(1, 1, 3), &row, Coord(1, 1, 4))?;
-    compare(&rt, &mixed, Coord(2, 3, 4), &mixed, Coord(4, 3, 2))
+    show(rt, &one, Coord(1, 1, 1))?;
+    show(rt, &domino, Coord(1, 1, 2))?;
+    show(rt, &corner, Coord(1, 2, 2))?;
+    show(rt, &handed, cube)?;
+    show(rt, &partner, cube)?;
+    show(rt, &apart, Coord(1, 1, 3))?;
+    show(rt, &hollow, Coord(1, 3, 3))?;
+    show(rt, &row, Coord(1, 1, 4))?;
+    show(rt, &mixed, Coord(2, 3, 4))?;
+    compare(rt, &one, Coord(1, 1, 1), &domino, Coord(1, 1, 2))?;
+    compare(rt, &domino, Coord(1, 1, 2), &domino, Coord(2, 1, 1))?;
+    compare(rt, &corner, Coord(1, 2, 2), &corner, Coord(2, 2, 1))?;
+    compare(rt, &handed, cube, &partner, cube)?;
+    compare(rt, &partner, cube, &handed, cube)?;
+    compare(rt, &handed, cube, &handed, cube)?;
+    compare(rt, &hollow, Coord(1, 3, 3), &hollow, Coord(3, 1, 3))?;
+    compare(rt, &apart, Coord(1, 1, 3), &row, Coord(1, 1, 4))?;
+    compare(rt, &mixed, Coord(2, 3, 4), &mixed, Coord(4, 3, 2))
+}
+
+// A write that fails ends it, and changes no status.
+fn main(rt: HostRuntime) {
+    let _ = show_all(&rt);
 }

@@ -7,13 +7,15 @@ use Rattle.std.specs.Prelude.{Result, Err}
 use native.Mathlib.Nat.{mul-pos}
 use native.Mathlib.Omega.{arith}
 use lib.Dec.{T}
-use lib.ListN.{length, length-map}
+use lib.ListN.{length, take, length-map, length-take}
 use Rattle.lists.specs.Lists.{below, from}
 use Rattle.lists.proofs.TestLaws.{and_left, and_right}
 use Rattle.lists.proofs.ListLaws.{keep_length}
 use Rattle.lists.proofs.RangeLaws.{length_from, length_below}
 use Rattle.placements.proofs.RefusalLaws.{side_some}
-use Rattle.definitions.specs.Grid.{Grid, volume, same_grid}
+use Rattle.definitions.specs.Answers.{lent_cells}
+use Rattle.definitions.specs.Grid.{Grid, box, volume, same_grid}
+use Rattle.definitions.specs.Scan.{scan_number}
 use Rattle.definitions.specs.Maps.{Map, map_of, turns, mirrorings, map_grid}
 use Rattle.definitions.specs.Kinds.{Tray}
 use Rattle.definitions.specs.Placements.{Compiled, compile}
@@ -48,8 +50,9 @@ use Rattle.rows.specs.Lawful.{Lawful}
 use Rattle.rows.proofs.SystemLaws.{lawful}
 use Rattle.rows.proofs.AnswerLaws.{copies_many}
 use Rattle.rows.proofs.BuildSystemLaws.{fast_call, fast_accepted, turns_numbered, mirrorings_numbered}
-use Rattle.kept.specs.Ready.{Ready}
-use Rattle.kept.proofs.ReadyLaws.{few-rows}
+use Rattle.rows.specs.Ready.{Ready, Sized}
+use Rattle.rows.proofs.ReadyLaws.{few-rows, sized_by}
+use Rattle.theorems.proofs.GridLaws.{length_box}
 
 -- ---- what is lent
 -- no more maps of a board than maps
@@ -178,6 +181,19 @@ system_stands t board bytes s config links lent e work after chart d ok same lon
       places = v;
       behind = b.behind;
     }
+
+-- and it is no larger than they ask: each place of the lent box has a scan number
+module _ (d : Dims) (work : List ℕ) (chart : Chart) (rs : List Record) (board : Record) (bytes : List ℕ) where
+  scans_fit : system_in d work chart ≡ system_of (tray_in rs board bytes) → d.places ≡ volume (sides_of board) → d.places ≤ length chart.scans
+  unfolding system_in system_over system_of compile strip_tray frame_of grid_of
+  scans_fit is v =
+      let scans : take d.places chart.scans ≡ map (scan_number (lent_cells (compile (tray_in rs board bytes)))) (box (sides_of board)) = ap (λ (s : System). s.scans) is in
+      let a = ap (λ (l : List ℕ). length l) scans ∙ length-map (box (sides_of board)) _ ∙ length_box (sides_of board) in
+      let b = length-take d.places chart.scans in
+      omega arith
+
+  pub stands_sized : (config : Config) (links : ℕ) (before : List ℕ) → Stands d rs board bytes config links before work chart → Sized d work chart
+  stands_sized config links before s = sized_by d work chart s.ready (scans_fit s.system s.places)
 
 -- ---- refusals
 -- a call that is refused finds nothing written

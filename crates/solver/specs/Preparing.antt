@@ -12,7 +12,7 @@ use Rattle.placements.specs.Pieces.{tray_in}
 use Rattle.rows.specs.declared.Dims.{Dims}
 use Rattle.rows.specs.declared.chart.Chart.{Chart}
 use Rattle.rows.specs.Systems.{system_in, system_of}
-use Rattle.kept.specs.Ready.{Ready}
+use Rattle.rows.specs.Ready.{Ready}
 
 -- the first row of the table that applies, for slices of so many words and numbers
 unfoldable pub refusal_by : List Record → Record → List ℕ → Config → ℕ → ℕ → ℕ

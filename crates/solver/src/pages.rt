@@ -5,19 +5,18 @@ ghost use Rattle.definitions.specs.Outcomes.{outcome_of};
 ghost use Rattle.definitions.specs.Refusals.{identify_of};
 ghost use Rattle.definitions.specs.Starts.{Meets, outcome_from, reply_of, waits_at};
 ghost use Rattle.placements.specs.Pieces.{records_of};
-ghost use Rattle.rows.specs.Systems.{system_in};
+ghost use Rattle.rows.specs.RowSystems.{seen};
 ghost use Rattle.kept.specs.Emission.{emitted_of};
-ghost use Rattle.kept.specs.Ready.{Ready};
 ghost use Rattle.solver.specs.Lent.{FewLinks, LinksAfter, LongLinks, answers_by, call_with};
 
 use super::{clearing, prepare};
 use definitions::{Config, Listing, Page, Record, SolverKind, Start};
 use fast::listing as fast_listing;
-use kept::emission::{Emission, Wanted};
+use kept::emission::Emission;
 use knuth::listing as knuth_listing;
 use placements::Pieces;
-use rows::Dims;
 use rows::chart::Chart;
+use rows::row_system::RowSystem;
 
 // What a page call hands back for what an engine left: an entry that is still waited for is none of the list.
 fn listed(e: Emission) -> Option<Page>
@@ -31,38 +30,35 @@ fn listed(e: Emission) -> Option<Page>
 
 // The engine's answers over a row system, from a state on. The engines that are not ported list nothing; their calls are refused before.
 fn list(
-    d: Dims,
-    work: &[u64],
-    chart: &Chart,
+    system: &RowSystem,
     config: Config,
     links: &mut [u16],
     last: &[u8],
     answers: &mut [u8],
     e: Emission,
 ) -> Emission
-    requires { Ready d work.now chart.now × (0 < d.places) × LongLinks config.solver links.old × FewLinks config.solver (system_in d work.now chart.now) }
-    ensures page { let S = system_in d work.now chart.now in
-        let room = length answers.old / (2 * d.places) in
+    requires { (0 < system.now.d.places) × LongLinks config.solver links.old × FewLinks config.solver (seen system.now) }
+    ensures page { let room = length answers.old / (2 * system.now.d.places) in
         let old = emitted_of e last.now answers.old in
-        emitted_of result last.now answers.new ≡ emits room (answers_by S (identify_of config) config.solver) old }
+        emitted_of result last.now answers.new ≡ emits room (answers_by (seen system.now) (identify_of config) config.solver) old }
     ensures behind { LinksAfter config.solver links.old links.new }
 {
-    let wanted = Wanted {
-        turned: config.identify_transformed_answers,
-        mirrored: config.identify_mirrored_answers,
-        capacity: answers.len() / (2 * d.places),
-    };
+    let turned = config.identify_transformed_answers;
+    let mirrored = config.identify_mirrored_answers;
+    let capacity = answers.len() / (2 * system.d.places);
     match config.solver {
         SolverKind::Auto | SolverKind::Naive => e,
-        SolverKind::Fast => fast_listing::list(d, work, chart, wanted, last, answers, e),
+        SolverKind::Fast => {
+            fast_listing::list(system, turned, mirrored, capacity, last, answers, e)
+        }
         SolverKind::KnuthAlgorithm => {
-            knuth_listing::list(d, work, chart, wanted, links, last, answers, e)
+            knuth_listing::list(system, turned, mirrored, capacity, links, last, answers, e)
         }
     }
 }
 
 // A call, whatever is lent: the page of the engine's list from its start on, or the first refusal that applies. Where the page does not start behind `last`,
-// what it holds decides nothing.
+// what it holds decides nothing. (What is lent stands one by one, as in the C call.)
 pub fn page(
     pieces: &Pieces,
     board: Record,
@@ -86,7 +82,12 @@ pub fn page(
         written: 0,
         further: false,
     };
-    let e = list(d, work, &chart, config, links, last, answers, begun);
+    let system = RowSystem {
+        d,
+        work,
+        chart: &chart,
+    };
+    let e = list(&system, config, links, last, answers, begun);
     clearing::clear_work(work);
     clearing::clear_links(config.solver, links);
     Ok(listed(e))

@@ -22,7 +22,7 @@ fn taken(pieces: &[Record]) -> Pieces
 }
 
 // A call, whatever is lent: the page of the engine's list from its start on, or the first refusal that applies. `last` is read only where the page starts
-// behind it.
+// behind it. (Beside `pages::page` over `Pieces`: of more than 16 pieces in a file only the count is kept, so that no slice has them.)
 pub fn page(
     pieces: &[Record],
     board: Record,

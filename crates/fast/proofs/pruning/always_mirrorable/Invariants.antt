@@ -6,4 +6,4 @@ use Rattle.fast.proofs.pruning.always_mirrorable.Given as goal
 -- the kinds from k on decide
 abbrev pub invariant-loop-k : goal.invariant-loop-k
 invariant-loop-k l =
-    let n = l.d.kinds in all (mirrors l.chart n) (from l.k (n - l.k)) ≡ all (mirrors l.chart n) (from 0 (n - 0))
+    let n = l.system.d.kinds in all (mirrors l.system.chart.now n) (from l.k (n - l.k)) ≡ all (mirrors l.system.chart.now n) (from 0 (n - 0))

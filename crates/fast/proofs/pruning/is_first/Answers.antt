@@ -1,18 +1,8 @@
 -- `is_first` meets its contract: the two tests, one after the other. Assumes nothing.
 use mathlib.Core.Bool.{not}
 use mathlib.Core.Path.{ap, ◌∙◌}
-use native.Mathlib.Omega.{arith}
-use Rattle.fast.proofs.PrunedLaws.{first_small}
 use Rattle.fast.proofs.UnmetLaws.{test_fails, test_passes}
 use Rattle.fast.proofs.pruning.is_first.Goals as goal
-
-pub leads-requires : goal.leads-requires
-leads-requires c =
-    let a = c.args in
-    let ready = c.requires.0 in
-    let fit = ready.rows_fit in
-    let h = c.requires.1 in
-    (omega arith, first_small a.d a.work.now a.chart.now ready a.r h, c.requires.2, ready.few_pieces)
 
 pub returns-then-not-is_pruned : goal.returns-then-not-is_pruned
 returns-then-not-is_pruned c =

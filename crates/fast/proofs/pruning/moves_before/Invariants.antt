@@ -5,4 +5,4 @@ use Rattle.fast.proofs.pruning.moves_before.Given as goal
 
 -- the maps from m on decide
 abbrev pub invariant-loop-m : goal.invariant-loop-m
-invariant-loop-m l = any (moves l.d l.work l.chart l.r) (from l.m (l.end - l.m)) ≡ any (moves l.d l.work l.chart l.r) (from l.start (l.end - l.start))
+invariant-loop-m l = any (moves l.system.d l.system.work.now l.system.chart.now l.r) (from l.m (l.end - l.m)) ≡ any (moves l.system.d l.system.work.now l.system.chart.now l.r) (from l.start (l.end - l.start))

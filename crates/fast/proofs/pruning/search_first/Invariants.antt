@@ -1,22 +1,22 @@
 use Rattle.std.proofs.Common.{[], ◌≡◌, length}
 use Rattle.definitions.specs.Emission.{emits}
-use Rattle.rows.specs.Systems.{system_in}
-use Rattle.kept.specs.Emission.{emitted_of, identified}
+use Rattle.rows.specs.RowSystems.{seen}
+use Rattle.kept.specs.Emission.{emitted_of}
+use Rattle.kept.specs.Wanted.{identified}
 use Rattle.fast.specs.Searching.{state_by}
-use Rattle.fast.specs.States.{chosen}
 use Rattle.fast.proofs.PrunedLaws.{nothing_covered, first_from}
 use Rattle.fast.proofs.pruning.search_first.Given as goal
 
 -- what the rows from r on list is left
 abbrev pub invariant-loop-r : goal.invariant-loop-r
 invariant-loop-r l =
-    let S = system_in l.d l.work l.chart in
+    let S = seen l.system in
     let i = identified l.wanted in
     let t = state_by S l.initial.state.left nothing_covered [] in
     record {
       same_left : l.state.left ≡ l.initial.state.left;
-      no_rows : chosen l.state ≡ [];
+      no_rows : l.state.path ≡ [];
       answers_long : length l.answers ≡ length l.initial.answers;
-      page : emits l.wanted.capacity (first_from S i t l.d.rows l.r) (emitted_of l.s l.last l.answers)
-          ≡ emits l.wanted.capacity (first_from S i t l.d.rows 0) (emitted_of l.initial.s l.last l.initial.answers);
+      page : emits l.wanted.capacity (first_from S i t l.system.d.rows l.r) (emitted_of l.s l.wanted.last.now l.answers)
+          ≡ emits l.wanted.capacity (first_from S i t l.system.d.rows 0) (emitted_of l.initial.s l.wanted.last.now l.initial.answers);
     }

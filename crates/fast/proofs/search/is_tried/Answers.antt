@@ -5,6 +5,7 @@ use Rattle.masks.specs.declared.Mask.{Mask}
 use Rattle.rows.specs.Rows.{mask_at, row_at}
 use Rattle.rows.specs.Shown.{shows_row}
 use Rattle.rows.specs.Systems.{owned_in}
+use Rattle.rows.proofs.StandingLaws.{stands}
 use Rattle.fast.proofs.UnmetLaws.{test_fails, test_passes}
 use Rattle.fast.proofs.AheadLaws.{goes_below}
 use Rattle.fast.proofs.search.is_tried.Goals as goal
@@ -17,9 +18,10 @@ both false b c = refl
 pub returns-then-leads : goal.returns-then-leads
 returns-then-leads c =
     let a = c.args in
-    let r = c.requires.ready in
-    let clear = apart 128 (has (mask_at a.work.now a.r)) (has a.covered) in
-    let shows = not a.waiting || shows_row (owned_in a.chart.now.pieces a.d.pieces) a.shown.now (row_at a.work.now a.r) in
+    let s = a.system.now in
+    let r = c.requires in
+    let clear = apart 128 (has (mask_at s.work.now a.r)) (has a.covered) in
+    let shows = not a.waiting || shows_row (owned_in s.chart.now.pieces s.d.pieces) a.shown.now (row_at s.work.now a.r) in
     let two : c.if-is_clear.value ≡ (clear && shows) =
     elim c.if-is_clear.branch [
       | then-is_clear w ↦ w.value-is ∙ test_passes clear shows c.is_clear.result w.leads.result c.is_clear.ensures w.if-is_clear.true w.leads.ensures
@@ -27,15 +29,16 @@ returns-then-leads c =
     ] in
     test_passes (clear && shows) _ c.if-is_clear.value _ two c.if-leads.true
     (c.goes_on.ensures
-    ∙ goes_below a.state.now.left a.covered c.union.result r.0 a.r a.kind r.1 r.2
-    (c.union.ensures ∙ ap (λ (m : Mask). either (has a.covered) (has m)) c.mask_at.ensures))
+    ∙ goes_below a.state.now.left a.covered c.union.result (stands a.system.now) a.r a.kind r.0 r.1
+    (c.union.ensures ∙ ap (λ (m : Mask). either (has a.covered) (has m)) c.mask_at-mask.ensures))
     ∙ both clear shows _
 
 pub returns-else-leads : goal.returns-else-leads
 returns-else-leads c =
     let a = c.args in
-    let clear = apart 128 (has (mask_at a.work.now a.r)) (has a.covered) in
-    let shows = not a.waiting || shows_row (owned_in a.chart.now.pieces a.d.pieces) a.shown.now (row_at a.work.now a.r) in
+    let s = a.system.now in
+    let clear = apart 128 (has (mask_at s.work.now a.r)) (has a.covered) in
+    let shows = not a.waiting || shows_row (owned_in s.chart.now.pieces s.d.pieces) a.shown.now (row_at s.work.now a.r) in
     let two : c.if-is_clear.value ≡ (clear && shows) =
     elim c.if-is_clear.branch [
       | then-is_clear w ↦ w.value-is ∙ test_passes clear shows c.is_clear.result w.leads.result c.is_clear.ensures w.if-is_clear.true w.leads.ensures

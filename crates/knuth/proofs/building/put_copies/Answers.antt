@@ -23,13 +23,13 @@ loop-j-preserved c =
     let l = c.loop-j in
     let h : at_copies l.j < length l.links = omega (arith, c.set.ensures.room) in
     rw c.set.ensures.value (elim c.if-j-d.branch [
-      | then-j-d w ↦ stock_cell a.links.now l.links a.d.size l.j c.if-j-d.copies a.chart.now l.invariant h w.if-j-d.true w.copies-is
+      | then-j-d w ↦ stock_cell a.links.now l.links a.system.now.d.size l.j c.if-j-d.copies a.system.now.chart.now l.invariant h w.if-j-d.true w.copies-is
       | else-j-d w ↦
-          stock_kind a.links.now l.links a.d.size l.j c.if-j-d.copies a.chart.now l.invariant h w.if-j-d.false (w.copies-is ∙ w.copies_of-copies.ensures.0)
+          stock_kind a.links.now l.links a.system.now.d.size l.j c.if-j-d.copies a.system.now.chart.now l.invariant h w.if-j-d.false (w.copies-is ∙ w.copies_of-copies.ensures.0)
     ])
 
 pub returns : goal.returns
 returns c =
     let a = c.args in
     let l = c.loop-j in
-    stock_all a.links.now l.links a.d.size a.d.kinds l.j a.chart.now (omega arith) l.invariant
+    stock_all a.links.now l.links a.system.now.d.size a.system.now.d.kinds l.j a.system.now.chart.now (omega arith) l.invariant

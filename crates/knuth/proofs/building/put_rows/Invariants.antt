@@ -6,5 +6,5 @@ use Rattle.knuth.proofs.building.put_rows.Given as goal
 
 abbrev pub invariant-loop-r : goal.invariant-loop-r
 invariant-loop-r l =
-    let s = system_in l.d l.work l.chart in
+    let s = system_in l.system.d l.system.work.now l.system.chart.now in
     (l.x ≡ end_to s l.r) × Laid l.initial.links (columns s) l.links (nodes_to s l.r)

@@ -1,13 +1,15 @@
 -- `choose` and `try_rows` meet their contracts: the measure is the number of uncovered cells, then the rows left in the column. Assumes nothing.
 use native.Mathlib.Omega.{arith}
 use mathlib.Core.Path.{refl, ap, ◌∙◌}
-use Rattle.kept.specs.Emission.{emit_kept, emitted_of, identified}
+use Rattle.kept.specs.Emission.{emit_kept, emitted_of}
+use Rattle.kept.specs.Wanted.{identified}
 use Rattle.rows.specs.Systems.{system_in}
 use Rattle.links.specs.Links.{size_of}
 use Rattle.links.specs.Search.{has_row, pivot}
 use Rattle.links.proofs.Tally.{counted}
 use Rattle.links.proofs.Search.{seek_cells, try_small, try_sized, try_selectable, try_sub, try_selected, try_back, try_less, try_below}
-use Rattle.knuth.proofs.CycleStepLaws.{of_seek, leaf_fills, column_tryable, path_room, row_bound, row_words, row_first, longer_rows, row_choosable}
+use Rattle.rows.proofs.StandingLaws.{stands}
+use Rattle.knuth.proofs.CycleStepLaws.{of_seek, leaf_fills, column_tryable, path_room, row_below, row_bound, longer_rows, row_choosable}
 use Rattle.knuth.proofs.CycleStepLaws.{next_tryable, found_leaf, found_few, found_none, found_rows, found_head, found_stop, found_on, found_passed}
 use Rattle.knuth.proofs.search.+choose_try_rows.Goals as goal
 
@@ -16,65 +18,65 @@ pub choose-emit_kept-requires : goal.choose-emit_kept-requires
 choose-emit_kept-requires t c =
     let a = c.args in
     let q = c.requires.ready in
-    (q.0, rw c.rows.ensures q.1, rw c.rows.ensures (leaf_fills a.d a.work.now a.chart.now c.requires.choosable), q.4)
+    (rw c.rows.ensures q.0, rw c.rows.ensures (leaf_fills a.system.now.d a.system.now.work.now a.system.now.chart.now c.requires.choosable), q.2)
 
 pub choose-returns-then-left-eq0 : goal.choose-returns-then-left-eq0
 choose-returns-then-left-eq0 t c =
     let a = c.args in
-    let S = system_in a.d a.work.now a.chart.now in
+    let S = system_in a.system.now.d a.system.now.work.now a.system.now.chart.now in
     let put = c.emit_kept in
-    let old = emitted_of a.e a.last.now a.answers.now in
-    let new = emitted_of put.result a.last.now put.new.answers in record {
+    let old = emitted_of a.e a.wanted.now.last.now a.answers.now in
+    let new = emitted_of put.result a.wanted.now.last.now put.new.answers in record {
       same = (refl, refl);
-      found = λ w uncovered copies g s e h. found_leaf a.d a.work.now a.chart.now (identified a.wanted) a.wanted.capacity s a.path.now old new g h
-          c.if-left-eq0.true (put.ensures ∙ ap (λ rs. emit_kept S (identified a.wanted) a.wanted.capacity rs old) c.rows.ensures);
+      found = λ w uncovered copies g s e h. found_leaf a.system.now.d a.system.now.work.now a.system.now.chart.now (identified a.wanted.now) a.wanted.now.capacity s a.path.now old new g h
+          c.if-left-eq0.true (put.ensures ∙ ap (λ rs. emit_kept S (identified a.wanted.now) a.wanted.now.capacity rs old) c.rows.ensures);
     }
 
 pub choose-open_columns-requires : goal.choose-open_columns-requires
 choose-open_columns-requires t c =
     let a = c.args in
-    seek_cells (of_seek a.d a.work.now a.chart.now c.requires.choosable.seek)
+    seek_cells (of_seek a.system.now.d a.system.now.work.now a.system.now.chart.now c.requires.choosable.seek)
 
 pub choose-returns-then-open_columns-left : goal.choose-returns-then-open_columns-left
 choose-returns-then-open_columns-left t c =
     let a = c.args in
     let rows = c.open_columns in
-    let old = emitted_of a.e a.last.now a.answers.now in record {
+    let old = emitted_of a.e a.wanted.now.last.now a.answers.now in record {
       same = (refl, refl);
-      found = λ w uncovered copies g s e h. found_few a.d a.work.now a.chart.now (identified a.wanted) a.wanted.capacity s a.path.now old
-          (omega (arith, rows.ensures ∙ counted (has_row a.links.now) a.d.size, c.if-open_columns-left.true)) g;
+      found = λ w uncovered copies g s e h. found_few a.system.now.d a.system.now.work.now a.system.now.chart.now (identified a.wanted.now) a.wanted.now.capacity s a.path.now old
+          (omega (arith, rows.ensures ∙ counted (has_row a.links.now) a.system.now.d.size, c.if-open_columns-left.true)) g;
     }
 
 pub choose-choose_column-requires : goal.choose-choose_column-requires
 choose-choose_column-requires t c =
     let a = c.args in
-    seek_cells (of_seek a.d a.work.now a.chart.now c.requires.choosable.seek)
+    seek_cells (of_seek a.system.now.d a.system.now.work.now a.system.now.chart.now c.requires.choosable.seek)
 
 pub choose-returns-in_default-clause-found : goal.choose-returns-in_default-clause-found
 choose-returns-in_default-clause-found t c = λ w uncovered copies g s e h.
     let a = c.args in
-    let old = emitted_of a.e a.last.now a.answers.now in
-    found_none a.d a.work.now a.chart.now (identified a.wanted) a.wanted.capacity s a.path.now old
-    c.if-left-eq0.false (pivot (size_of a.links.now) a.d.size) refl c.in_default.ensures g h
+    let old = emitted_of a.e a.wanted.now.last.now a.answers.now in
+    found_none a.system.now.d a.system.now.work.now a.system.now.chart.now (identified a.wanted.now) a.wanted.now.capacity s a.path.now old
+    c.if-left-eq0.false (pivot (size_of a.links.now) a.system.now.d.size) refl c.in_default.ensures g h
 
 -- the cell that is found, as a column that `pivot` found
 pub choose-below-k-requires : goal.choose-below-k-requires
 choose-below-k-requires t c =
     let a = c.args in
     let found = c.in-Some.ensures in
-    omega (arith, found.0, found.1, seek_cells (of_seek a.d a.work.now a.chart.now c.requires.choosable.seek))
+    omega (arith, found.0, found.1, seek_cells (of_seek a.system.now.d a.system.now.work.now a.system.now.chart.now c.requires.choosable.seek))
 
 pub choose-try_rows-requires : goal.choose-try_rows-requires
 choose-try_rows-requires t c =
     let a = c.args in
     let found = c.in-Some.ensures in
     let p = c.requires.choosable in
-    let cells = seek_cells (of_seek a.d a.work.now a.chart.now p.seek) in
+    let cells = seek_cells (of_seek a.system.now.d a.system.now.work.now a.system.now.chart.now p.seek) in
     let top = c.below-k in (
       rw (← c.decreases) (try_below a.left top.result c.in-Some.cell),
       (
         c.requires.ready,
-        column_tryable a.d a.work.now a.chart.now p c.if-left-eq0.false c.in-Some.cell found.0 (λ e. omega (arith, found.0, found.1, cells)) top.result top.ensures,
+        column_tryable a.system.now.d a.system.now.work.now a.system.now.chart.now p c.if-left-eq0.false c.in-Some.cell found.0 (λ e. omega (arith, found.0, found.1, cells)) top.result top.ensures,
       ),
     )
 
@@ -84,17 +86,17 @@ choose-returns-clause-found t c = λ w uncovered copies g s e h.
     let found = c.in-Some.ensures in
     let top = c.below-k in
     let rest = c.try_rows in
-    let old = emitted_of a.e a.last.now a.answers.now in
-    let new = emitted_of rest.result a.last.now rest.new.answers in
-    found_rows a.d a.work.now a.chart.now (identified a.wanted) a.wanted.capacity s a.path.now old
+    let old = emitted_of a.e a.wanted.now.last.now a.answers.now in
+    let new = emitted_of rest.result a.wanted.now.last.now rest.new.answers in
+    found_rows a.system.now.d a.system.now.work.now a.system.now.chart.now (identified a.wanted.now) a.wanted.now.capacity s a.path.now old
     c.if-left-eq0.false c.in-Some.cell found.0 new (λ z. omega (arith, found.0, found.1, seek_cells s)) top.result top.ensures e rest.ensures.found g h
 
 -- ---- trying a column's rows
 pub try_rows-returns-then-k-at-clause-found : goal.try_rows-returns-then-k-at-clause-found
 try_rows-returns-then-k-at-clause-found t c = λ w uncovered copies g s st e h.
     let a = c.args in
-    let old = emitted_of a.e a.last.now a.answers.now in
-    found_head a.d a.work.now a.chart.now (identified a.wanted) a.wanted.capacity s a.path.now old a.at.cell a.k c.if-k-at.true g
+    let old = emitted_of a.e a.wanted.now.last.now a.answers.now in
+    found_head a.system.now.d a.system.now.work.now a.system.now.chart.now (identified a.wanted.now) a.wanted.now.capacity s a.path.now old a.at.cell a.k c.if-k-at.true g
 
 pub try_rows-row_of-r-requires : goal.try_rows-row_of-r-requires
 try_rows-row_of-r-requires t c = let p = c.requires.tryable in try_small p.seek p.stand c.if-k-at.false
@@ -102,15 +104,9 @@ try_rows-row_of-r-requires t c = let p = c.requires.tryable in try_small p.seek 
 pub try_rows-leads-requires : goal.try_rows-leads-requires
 try_rows-leads-requires t c =
     let a = c.args in
-    let q = c.requires.ready in
-    let p = c.requires.tryable in
-    let kc = c.if-k-at.false in
-    let row = c.row_of-r in (
-      row_words a.d a.work.now a.chart.now q.0.lawful q.1 p kc row.result row.ensures q.0.rows_fit,
-      row_first a.d a.work.now a.chart.now q.0.lawful q.1 p kc row.result row.ensures,
-      q.2,
-      q.0.few_pieces,
-    )
+    let row = c.row_of-r in
+    row_below a.system.now.d a.system.now.work.now a.system.now.chart.now (stands a.system.now).lawful c.requires.ready.0 c.requires.tryable c.if-k-at.false
+    row.result row.ensures
 
 pub try_rows-below-passed-requires : goal.try_rows-below-passed-requires
 try_rows-below-passed-requires t c = let p = c.requires.tryable in try_small p.seek p.stand c.if-k-at.false
@@ -123,7 +119,7 @@ try_rows-try_rows-requires t c =
     let kc = c.if-k-at.false in
     let next = c.below-passed in (
       omega (arith, c.decreases, try_less p.seek p.stand kc a.links.now refl next.result next.ensures),
-      (q, next_tryable a.d a.work.now a.chart.now q.0.lawful q.1 p kc a.links.now refl next.result next.ensures a.path.now refl),
+      (q, next_tryable a.system.now.d a.system.now.work.now a.system.now.chart.now (stands a.system.now).lawful q.0 p kc a.links.now refl next.result next.ensures a.path.now refl),
     )
 
 pub try_rows-returns-then-not-leads-clause-found : goal.try_rows-returns-then-not-leads-clause-found
@@ -134,10 +130,10 @@ try_rows-returns-then-not-leads-clause-found t c = λ w uncovered copies g s st 
     let led = c.leads in
     let next = c.below-passed in
     let rest = c.try_rows in
-    let old = emitted_of a.e a.last.now a.answers.now in
-    let new = emitted_of rest.result a.last.now rest.new.answers in
-    found_passed a.d a.work.now a.chart.now q.0.lawful q.1 c.requires.tryable c.if-k-at.false row.result row.ensures a.shown.now old q.3
-    led.result (rw c.is_waiting.ensures at led.ensures) c.if-not-leads.true (identified a.wanted) a.wanted.capacity s st e next.result next.ensures new rest.ensures.found g h
+    let old = emitted_of a.e a.wanted.now.last.now a.answers.now in
+    let new = emitted_of rest.result a.wanted.now.last.now rest.new.answers in
+    found_passed a.system.now.d a.system.now.work.now a.system.now.chart.now (stands a.system.now).lawful q.0 c.requires.tryable c.if-k-at.false row.result row.ensures a.wanted.now.shown old q.1
+    led.result (rw c.is_waiting.ensures at led.ensures) c.if-not-leads.true (identified a.wanted.now) a.wanted.now.capacity s st e next.result next.ensures new rest.ensures.found g h
 
 pub try_rows-row_cells-cells-requires : goal.try_rows-row_cells-cells-requires
 try_rows-row_cells-cells-requires t c = let p = c.requires.tryable in try_sized p.seek p.stand c.if-k-at.false
@@ -150,15 +146,15 @@ try_rows-push-requires t c =
     let kc = c.if-k-at.false in
     let row = c.row_of-r in
     let size = c.row_cells-cells in (
-      path_room a.d a.work.now a.chart.now q.0.lawful q.1 p kc size.result size.ensures,
-      omega (arith, row_bound a.d a.work.now a.chart.now q.0.lawful q.1 p kc row.result row.ensures),
+      path_room a.system.now.d a.system.now.work.now a.system.now.chart.now (stands a.system.now).lawful q.0 p kc size.result size.ensures,
+      omega (arith, row_bound a.system.now.d a.system.now.work.now a.system.now.chart.now (stands a.system.now).lawful q.0 p kc row.result row.ensures),
     )
 
 pub try_rows-select_row-a-requires : goal.try_rows-select_row-a-requires
 try_rows-select_row-a-requires t c = let p = c.requires.tryable in try_selectable p.seek p.stand c.if-k-at.false
 
-pub try_rows-overflow_sub-at : goal.try_rows-overflow_sub-at
-try_rows-overflow_sub-at t c =
+pub try_rows-overflow_sub-left : goal.try_rows-overflow_sub-left
+try_rows-overflow_sub-left t c =
     let p = c.requires.tryable in
     let size = c.row_cells-cells in
     (try_sub p.seek p.stand c.if-k-at.false size.result size.ensures).0
@@ -176,13 +172,11 @@ try_rows-choose-s-requires t c =
       omega (arith, c.decreases, try_sub p.seek p.stand kc size.result size.ensures),
       (
         (
-          q.0,
-          longer_rows a.d a.work.now a.chart.now q.0.lawful q.1 p kc size.result size.ensures row.result row.ensures path.new.self path.ensures,
+          longer_rows a.system.now.d a.system.now.work.now a.system.now.chart.now (stands a.system.now).lawful q.0 p kc size.result size.ensures row.result row.ensures path.new.self path.ensures,
+          q.1,
           q.2,
-          q.3,
-          q.4,
         ),
-        row_choosable a.d a.work.now a.chart.now q.0.lawful q.1 p kc size.result size.ensures row.result row.ensures path.new.self path.ensures
+        row_choosable a.system.now.d a.system.now.work.now a.system.now.chart.now (stands a.system.now).lawful q.0 p kc size.result size.ensures row.result row.ensures path.new.self path.ensures
             sel.new.self sel.ensures.done,
       ),
     )
@@ -206,16 +200,16 @@ try_rows-returns-then-s t c =
     let sel = c.select_row-a in
     let path = c.push in
     let s = c.choose-s in
-    let old = emitted_of a.e a.last.now a.answers.now in
-    let new = emitted_of s.result a.last.now s.new.answers in record {
+    let old = emitted_of a.e a.wanted.now.last.now a.answers.now in
+    let new = emitted_of s.result a.wanted.now.last.now s.new.answers in record {
       same = (
         try_back p.seek p.stand kc size.result size.ensures sel.new.self sel.ensures.done sel.result sel.ensures.first
             s.new.links s.ensures.same.0 c.unselect_row.new.self c.unselect_row.ensures,
         c.pop.ensures a.path.now row.result (s.ensures.same.1 ∙ path.ensures),
       );
-      found = λ w uncovered copies g sk st e h. found_stop a.d a.work.now a.chart.now q.0.lawful q.1 p kc
+      found = λ w uncovered copies g sk st e h. found_stop a.system.now.d a.system.now.work.now a.system.now.chart.now (stands a.system.now).lawful q.0 p kc
           size.result size.ensures row.result row.ensures path.new.self path.ensures sel.new.self sel.ensures.done
-          (identified a.wanted) a.wanted.capacity sk st e old new s.ensures.found g h c.if-s.true;
+          (identified a.wanted.now) a.wanted.now.capacity sk st e old new s.ensures.found g h c.if-s.true;
     }
 
 pub try_rows-below-next-requires : goal.try_rows-below-next-requires
@@ -237,8 +231,8 @@ try_rows-try_rows-requires-2 t c =
     let next = c.below-next in (
       omega (arith, c.decreases, try_less p.seek p.stand kc links back next.result next.ensures),
       (
-        (q.0, rw path q.1, q.2, q.3, omega (arith, q.4, s.auto.answers)),
-        next_tryable a.d a.work.now a.chart.now q.0.lawful q.1 p kc links back next.result next.ensures c.pop.new.self path,
+        (rw path q.0, q.1, omega (arith, q.2, s.auto.answers)),
+        next_tryable a.system.now.d a.system.now.work.now a.system.now.chart.now (stands a.system.now).lawful q.0 p kc links back next.result next.ensures c.pop.new.self path,
       ),
     )
 
@@ -258,12 +252,12 @@ try_rows-returns t c =
     let path = c.pop.ensures a.path.now row.result (s.ensures.same.1 ∙ c.push.ensures) in
     let next = c.below-next in
     let rest = c.try_rows-2 in
-    let old = emitted_of a.e a.last.now a.answers.now in
-    let new = emitted_of s.result a.last.now s.new.answers in
-    let end = emitted_of rest.result a.last.now rest.new.answers in record {
+    let old = emitted_of a.e a.wanted.now.last.now a.answers.now in
+    let new = emitted_of s.result a.wanted.now.last.now s.new.answers in
+    let end = emitted_of rest.result a.wanted.now.last.now rest.new.answers in record {
       same = (rest.ensures.same.0 ∙ back, rest.ensures.same.1 ∙ path);
-      found = λ w uncovered copies g sk st e h. found_on a.d a.work.now a.chart.now q.0.lawful q.1 p kc
+      found = λ w uncovered copies g sk st e h. found_on a.system.now.d a.system.now.work.now a.system.now.chart.now (stands a.system.now).lawful q.0 p kc
           size.result size.ensures row.result row.ensures c.push.new.self c.push.ensures sel.new.self sel.ensures.done
-          (identified a.wanted) a.wanted.capacity sk st e old new s.ensures.found g h
+          (identified a.wanted.now) a.wanted.now.capacity sk st e old new s.ensures.found g h
           links back next.result next.ensures c.pop.new.self path end rest.ensures.found;
     }

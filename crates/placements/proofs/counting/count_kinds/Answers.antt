@@ -13,18 +13,18 @@ use Rattle.placements.specs.Counting.{OnBoard, placements_in, PutVariants}
 use Rattle.placements.proofs.MergingLaws.{piece-at}
 use Rattle.placements.proofs.CountingLaws.{placements_at_piece, placements_counted, links_counted}
 use Rattle.placements.proofs.CountingLaws.{links_some, links_none, links_small, whole_few, counted_none, counted_next, counted_all, variants_next}
-use Rattle.placements.proofs.TrayLaws.{lent, few_pieces}
+use Rattle.placements.proofs.TrayLaws.{lent, few_pieces, sound_pieces}
 use Rattle.placements.proofs.counting.count_kinds.Goals as goal
 use Rattle.placements.proofs.counting.count_kinds.Goals.{Start, In-loop-k, After-count_piece-rows, After-count_filled, then-copies_of-gt0, else-copies_of-gt0}
 
 -- there are few kinds
 few_kinds : (c : Start) → length c.args.kinds.now ≤ 16
-few_kinds c = let few = few_pieces c.args.pieces.now.tray.now in omega (arith, c.requires.kinds.few)
+few_kinds c = let few = few_pieces c.args.tray.now in omega (arith, c.requires.kinds.few)
 
 -- of a turn: the number of the kind's piece, and how many rows and links it has at most
-is_piece : (c : In-loop-k) → get_or c.args.kinds.now c.loop-k.k 0 < c.args.pieces.now.tray.now.pieces.count
+is_piece : (c : In-loop-k) → get_or c.args.kinds.now c.loop-k.k 0 < c.args.tray.now.pieces.count
 is_piece c =
-    let t = c.args.pieces.now.tray.now in
+    let t = c.args.tray.now in
     let kinds = c.args.kinds.now in
     piece-at t.pieces t.bytes.now kinds (subst (Ordered t.pieces t.bytes.now) (take-length kinds) c.requires.kinds.ordered) c.loop-k.k c.loop-k-test.true
 
@@ -35,6 +35,9 @@ few_links : (c : After-count_filled) → c.count_piece-rows.result ≤ 3072 → 
 few_links c few =
     let grid = c.piece_grid-piece.result in
     links_small c.count_piece-rows.result c.count_filled.result few (whole_few grid.sides grid.cells.now c.count_filled.result grid.whole c.count_filled.ensures.1)
+
+pub invariant_of-pieces : goal.invariant_of-pieces
+invariant_of-pieces c = record { many = omega arith; sound = sound_pieces c.args.tray.now; smallest = c.requires.smallest }
 
 pub loop-k-init : goal.loop-k-init
 loop-k-init c =
@@ -79,7 +82,7 @@ pub loop-k-preserved : goal.loop-k-preserved
 loop-k-preserved c =
     let at = goal.at.loop-k-preserved c in
     let a = c.args in
-    let t = a.pieces.now.tray.now in
+    let t = a.tray.now in
     let kinds = a.kinds.now in
     let k = c.loop-k.k in
     let i = get_or kinds k 0 in
@@ -112,7 +115,7 @@ pub returns-clause-counted : goal.returns-clause-counted
 unfolding grid_of
 returns-clause-counted c =
     let a = c.args in
-    let t = a.pieces.now.tray.now in
+    let t = a.tray.now in
     let bytes = t.bytes.now in
     let kinds = a.kinds.now in
     let places = a.board.now.places.now in
@@ -124,9 +127,9 @@ returns-clause-counted c =
       are_kinds = c.requires.kinds;
       each_kind = λ j h. c.loop-k.invariant.1 j (omega (arith, c.loop-k-test.false));
       counts = record {
-        placements = all.0 ∙ placements_counted t.pieces t.board bytes (lent t) a.pieces.now.many kinds (length kinds) c.requires.kinds (omega arith) o places (length places) on
+        placements = all.0 ∙ placements_counted t.pieces t.board bytes (lent t) (omega arith) kinds (length kinds) c.requires.kinds (omega arith) o places (length places) on
             _ c.requires.board;
-        links = all.1 ∙ links_counted t.pieces t.board bytes (lent t) a.pieces.now.many kinds (length kinds) c.requires.kinds (omega arith) o places (length places) on
+        links = all.1 ∙ links_counted t.pieces t.board bytes (lent t) (omega arith) kinds (length kinds) c.requires.kinds (omega arith) o places (length places) on
             _ c.requires.board;
       };
     }

@@ -10,7 +10,7 @@ use Rattle.placements.proofs.counting.count_kinds.Given as goal
 -- what is counted and the counts of the kinds from k on make all, and the variants of the kinds before k stand in the slice
 abbrev pub invariant-loop-k : goal.invariant-loop-k
 invariant-loop-k l =
-    let t = l.pieces.tray.now in
+    let t = l.tray in
     let o = as_order l.board.order in
     let b = grid_of l.board.grid in
     let n = length l.kinds in

@@ -12,7 +12,7 @@ use Rattle.shape.specs.Scans.{as_order}
 use Rattle.shape.proofs.PlaceLaws.{volume_small}
 use Rattle.placements.specs.Counting.{Counted}
 use Rattle.placements.proofs.CountingLaws.{board_few, on-board, counted_front, kinds_listed}
-use Rattle.placements.proofs.TrayLaws.{lent, few_pieces}
+use Rattle.placements.proofs.TrayLaws.{lent, few_pieces, sound_pieces}
 use Rattle.placements.proofs.counting.count_tray.Goals as goal
 use Rattle.placements.proofs.counting.count_tray.Goals.{After-merge-kinds}
 
@@ -20,6 +20,12 @@ pub plan_coords-size-requires : goal.plan_coords-size-requires
 plan_coords-size-requires c =
     let grid = c.board_grid-grid.result in
     (volume_small (as_sides grid.sides) grid.whole.fit).1
+
+pub smallest_maps-small-requires : goal.smallest_maps-small-requires
+smallest_maps-small-requires c = sound_pieces c.args.tray
+
+pub invariant_of-pieces : goal.invariant_of-pieces
+invariant_of-pieces c = record { many = omega arith; sound = sound_pieces c.args.tray; smallest = c.smallest_maps-small.ensures.0 }
 
 pub invariant_of-board : goal.invariant_of-board
 unfolding grid_of
@@ -43,9 +49,9 @@ few_kinds c = let few = few_pieces c.args.tray in omega (arith, c.merge-kinds.en
 pub slice_bounds-first-end : goal.slice_bounds-first-end
 slice_bounds-first-end c = few_kinds (goal.at.slice_bounds-first-end c).After-merge-kinds
 
-pub slice_bounds-count_kinds-end : goal.slice_bounds-count_kinds-end
-slice_bounds-count_kinds-end c =
-    sym (length-take-le c.merge-kinds.result c.merge-kinds.new.first (few_kinds (goal.at.slice_bounds-count_kinds-end c).After-merge-kinds))
+pub slice_bounds-count_kinds-end-2 : goal.slice_bounds-count_kinds-end-2
+slice_bounds-count_kinds-end-2 c =
+    sym (length-take-le c.merge-kinds.result c.merge-kinds.new.first (few_kinds (goal.at.slice_bounds-count_kinds-end-2 c).After-merge-kinds))
 
 pub count_kinds-counts-requires-clause-kinds : goal.count_kinds-counts-requires-clause-kinds
 count_kinds-counts-requires-clause-kinds c =

@@ -2,13 +2,16 @@
 use Rattle.std.proofs.Common.{arith}
 use Rattle.placements.proofs.CountingLaws.{board_fits}
 use Rattle.placements.proofs.StrippingLaws.{grids_written, strips_tray}
-use Rattle.placements.proofs.TrayLaws.{lent}
+use Rattle.placements.proofs.TrayLaws.{lent, sound_pieces}
 use Rattle.placements.proofs.stripping.strip_tray.Goals as goal
 
 pub strip_record-board-requires : goal.strip_record-board-requires
 strip_record-board-requires c =
     let fits = board_fits _ _ _ (lent c.args.tray.now) in
     (fits.0, fits.1, omega arith)
+
+pub strip_pieces-pieces-requires : goal.strip_pieces-pieces-requires
+strip_pieces-pieces-requires c = (sound_pieces c.args.tray.now, omega (arith, c.strip_record-board.auto.out))
 
 pub returns : goal.returns
 returns c =

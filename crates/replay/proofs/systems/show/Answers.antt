@@ -1,10 +1,10 @@
--- `show` meets its contract: the rows fit into the part of the work slice that is lent. Assumes nothing.
-use Rattle.std.proofs.Common.{◌*◌, ◌≤◌, length, length-append, arith}
+-- `show` meets its contract: what is prepared is a row system that stands in the slices. Assumes nothing.
 use Rattle.solver.specs.Preparing.{Prepares}
+use Rattle.solver.proofs.PreparedLaws.{stands_sized}
 use Rattle.replay.proofs.systems.show.Goals as goal
 
-pub show_system-requires : goal.show_system-requires
+pub invariant_of-system : goal.invariant_of-system
 unfolding Prepares
-show_system-requires g c =
-    let fit : 8 * c.in-Ok.d.rows ≤ length c.prepare-prepared.new.work = c.in-Ok.ensures.ready.rows_fit in
-    simp length-append (omega arith)
+invariant_of-system g c =
+    let s = c.in-Ok.ensures in
+    record { sized = stands_sized _ _ _ _ _ _ _ _ _ s; ready = ∣ s.ready ∣₁ }

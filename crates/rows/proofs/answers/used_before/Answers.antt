@@ -4,11 +4,8 @@ use native.Mathlib.Omega.{arith}
 use lib.Dec.{eqb}
 use Rattle.lists.proofs.CountLaws.{count_end}
 use Rattle.rows.specs.Rows.{row_at}
-use Rattle.rows.proofs.AnsweringLaws.{row_in, kind_counted}
+use Rattle.rows.proofs.AnsweringLaws.{kind_counted}
 use Rattle.rows.proofs.answers.used_before.Goals as goal
-
-pub kind_at-requires : goal.kind_at-requires
-kind_at-requires c = row_in c.args.work.now c.args.path.now c.requires c.loop-r.r-index (omega arith)
 
 pub returns : goal.returns
 returns c =

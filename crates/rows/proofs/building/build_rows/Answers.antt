@@ -17,7 +17,7 @@ use Rattle.rows.specs.Rows.{spread, Appended}
 use Rattle.rows.specs.declared.board.NumberedBoard.{NumberedBoard}
 use Rattle.rows.proofs.RowLaws.{reached_none, reached_more, reached_all, reached_room}
 use Rattle.rows.proofs.BuildLaws.{placements_by, left_from, left_kind, left_kinds_end, placements_all, placements_room}
-use Rattle.rows.proofs.CountedLaws.{lent-of, first_of, kind_number, kind_within, kind_below, piece_below}
+use Rattle.rows.proofs.CountedLaws.{lent-of, first_of, kind_number, kind_within, kind_below}
 use Rattle.rows.proofs.building.build_rows.Goals as goal
 
 -- the board's axes in order
@@ -26,15 +26,6 @@ ordered b g e = ap (λ (h : Grid). axes h.sides) (sym e) ∙ b.numbered.is_order
 
 pub loop-k-init : goal.loop-k-init
 loop-k-init c = (refl, reached_none c.args.work.now 0 _ _ refl)
-
-pub piece_grid-piece-requires : goal.piece_grid-piece-requires
-piece_grid-piece-requires c = piece_below c.args.counted.now (omega arith) _ c.kinds-first-items.ensures c.loop-k.k c.loop-k-test.true
-
-pub turnings_of-requires : goal.turnings_of-requires
-turnings_of-requires c = kind_below c.args.counted.now (omega arith) _ c.kinds-first-items.ensures c.loop-k.k c.loop-k-test.true
-
-pub rows_by-r-requires-clause-few : goal.rows_by-r-requires-clause-few
-rows_by-r-requires-clause-few c = c.turnings_of.ensures.1
 
 -- ---- the grid of kind k's piece, and its variants
 module _ (d : CountedTray) (long : length d.first ≡ 16) (kinds : List ℕ) (is : kinds ≡ take d.counts.kinds d.first) (k : ℕ) (l : k < length kinds)

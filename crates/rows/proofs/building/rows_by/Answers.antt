@@ -26,9 +26,6 @@ cell_at-at-requires c =
     let b = c.args.board.now in
     (b.planned.grid.whole.fit, place_below _ _ _ _ b.planned.on_board c.loop-p.p (omega arith))
 
-pub rows_at-t-requires-clause-cell : goal.rows_at-t-requires-clause-cell
-rows_at-t-requires-clause-cell c = (c.cell_at-at.ensures.1, c.pose_all.ensures.0.stand)
-
 pub rows_at-t-requires-clause-room : goal.rows_at-t-requires-clause-room
 rows_at-t-requires-clause-room c =
     let a = c.args in

@@ -1,4 +1,4 @@
-use Prim.Native.Nat.{ℕ, ◌<◌}
+use Prim.Native.Nat.{ℕ, ◌≤◌, ◌<◌}
 use mathlib.Core.List.{List}
 use mathlib.Core.Path.{◌≡◌, sym, ap, ◌∙◌}
 use native.Mathlib.Omega.{arith}
@@ -16,7 +16,7 @@ use Rattle.placements.specs.declared.Pieces.{Pieces}
 use Rattle.placements.specs.declared.counted.CountedTray.{CountedTray}
 use Rattle.placements.specs.Merging.{grid_at, copies_at, moved_form, forms_of}
 use Rattle.rows.specs.declared.chart.Kind.{Kind}
-use Rattle.rows.proofs.CountedLaws.{first_of, kind_below, kind_number, kind_within, piece_below}
+use Rattle.rows.proofs.CountedLaws.{first_of, kind_below, kind_number, kind_within}
 use Rattle.rows.proofs.KindListLaws.{mirrored_by, partner_at, size_at, copies_fit, number_fits, kind_next, kinds_end}
 use Rattle.rows.proofs.system.list_kinds.Goals as goal
 
@@ -27,15 +27,6 @@ partner_is : (t : Pieces) (bytes first : List ℕ) (n i m : ℕ) (g : Grid) (kin
 partner_is t bytes first n i m g kind is made e =
     e ∙ ap (λ (f : Form). before (same_form f) (forms_of t bytes (take n first)))
     (mirrored_by t bytes i m (ap (map_grid (map_of m)) (sym is) ∙ made ∙ ap (λ (h : Grid). smallest (map_grid (map_of 26) h)) is))
-
-pub piece_grid-piece-requires : goal.piece_grid-piece-requires
-piece_grid-piece-requires c = piece_below c.args.counted.now (omega arith) _ c.kinds-first-items.ensures c.loop-k.k c.loop-k-test.true
-
-pub copies_of-requires : goal.copies_of-requires
-copies_of-requires c = piece_below c.args.counted.now (omega arith) _ c.kinds-first-items.ensures c.loop-k.k c.loop-k-test.true
-
-pub kind_of-requires : goal.kind_of-requires
-kind_of-requires c = piece_below c.args.counted.now (omega arith) _ c.kinds-first-items.ensures c.loop-k.k c.loop-k-test.true
 
 -- what is written of a kind fits
 module _ (d : CountedTray) (long : length d.first ≡ 16) where
@@ -49,7 +40,7 @@ module _ (d : CountedTray) (long : length d.first ≡ 16) where
       let h = number_fits d.tray.pieces d.tray.board d.tray.bytes.now d.first d.counts.kinds d.tray.accepted d.counted.are_kinds (kind_within d long) g in
       omega arith
 
-few_cells : (g : CubicGrid) → length g.cells.now < 65536
+few_cells : (g : CubicGrid) → length g.cells.now ≤ 512
 few_cells g = let v = (volume_small (as_sides g.sides) g.whole.fit).1 in let e = g.whole.size in omega arith
 
 pub overflow_cast-kinds : goal.overflow_cast-kinds
@@ -68,6 +59,9 @@ overflow_cast-kinds-in-loop-k c =
 
 pub overflow_cast-kinds-in-loop-k-2 : goal.overflow_cast-kinds-in-loop-k-2
 overflow_cast-kinds-in-loop-k-2 c = omega (arith, c.count_filled.ensures.1, few_cells c.piece_grid-piece.result)
+
+pub invariant_of-kinds : goal.invariant_of-kinds
+invariant_of-kinds c = omega (arith, c.count_filled.ensures.1, few_cells c.piece_grid-piece.result)
 
 pub bounds-kinds-k : goal.bounds-kinds-k
 bounds-kinds-k c =
@@ -90,9 +84,14 @@ loop-k-preserved c =
     let here = c.piece_grid-piece.ensures in
     let partner = partner_is t.pieces t.bytes.now d.first d.counts.kinds i c.smallest_of-m.result.0 g c.kind_of.result here c.smallest_of-m.ensures.1
     c.kind_of.ensures in
-    let entry : Kind = record { copies = c.copies_of.result; partner = c.kind_of.result; size = c.count_filled.result } in (
-      length-set l.kinds l.k entry ∙ l.invariant.0,
-      kind_next t.pieces t.board t.bytes.now d.first d.counts.kinds t.accepted d.counted.are_kinds within l.kinds l.k entry (omega arith) l.invariant.1
+    let entry : Kind = record {
+      copies = c.copies_of.result;
+      partner = c.kind_of.result;
+      size = c.count_filled.result;
+      few = omega (arith, c.count_filled.ensures.1, few_cells c.piece_grid-piece.result);
+    } in (
+      length-set l.kinds l.k _ ∙ l.invariant.0,
+      kind_next t.pieces t.board t.bytes.now d.first d.counts.kinds t.accepted d.counted.are_kinds within l.kinds l.k _ (omega arith) l.invariant.1
           (c.copies_of.ensures ∙ ap (copies_at t.pieces t.bytes.now) is)
           (partner ∙ ap (partner_at t.pieces t.bytes.now d.first d.counts.kinds) is)
           (c.count_filled.ensures.0 ∙ ap (λ (h : Grid). how_many (eqb 1) h.cells) here ∙ ap (size_at t.pieces t.bytes.now) is),

@@ -13,12 +13,6 @@ use Rattle.rows.proofs.CountedLaws.{lent-of, kind_within}
 use Rattle.rows.proofs.KindListLaws.{count_fits, number_fits, piece_next, pieces_end}
 use Rattle.rows.proofs.system.list_pieces.Goals as goal
 
-pub kind_of-requires : goal.kind_of-requires
-kind_of-requires c = omega (arith, c.count_pieces-i-end.ensures.0)
-
-pub piece-requires : goal.piece-requires
-piece-requires c = omega (arith, c.count_pieces-i-end.ensures.0)
-
 pub bounds-counted-i : goal.bounds-counted-i
 bounds-counted-i c = omega (arith, c.count_pieces-i-end.ensures.0, (lent-of c.args.counted.now).few)
 

@@ -1,5 +1,5 @@
 -- `clear_links` meets its contract: only KnuthAlgorithm builds links. Assumes nothing.
-use Rattle.std.proofs.Common.{◌≤◌, length, cond, Bool, ap, sym, ◌∙◌, length-take-le}
+use Rattle.std.proofs.Common.{cond, Bool, ap, sym, ◌∙◌, length-take-le}
 use Rattle.definitions.specs.Outcomes.{cleared}
 use Rattle.solver.proofs.ClearingLaws.{cleared_by, knuth_built}
 use Rattle.solver.proofs.clearing.clear_links.Goals as goal

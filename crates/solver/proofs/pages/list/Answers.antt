@@ -1,32 +1,39 @@
 -- `list` meets its contract: the engine that the configuration names lists, and one that is not ported lists nothing. Assumes nothing.
-use Prim.Native.Nat.{◌*◌}
-use mathlib.Core.Path.{refl, ap}
+use Prim.Native.Nat.{◌*◌, ◌≤◌}
+use mathlib.Core.Path.{sym, refl, ap, subst}
 use native.Mathlib.Nat.{div-mul-le_self}
 use lib.ListN.{length}
 use Rattle.definitions.specs.Refusals.{identify_of, is_knuth}
+use Rattle.definitions.specs.declared.SolverKind.TheVariants.{Fast, KnuthAlgorithm}
+use Rattle.rows.specs.RowSystems.{seen}
 use Rattle.solver.specs.Lent.{LinksAfter, answers_by}
 use Rattle.solver.proofs.CallLaws.{by_engine, unported}
 use Rattle.solver.proofs.pages.list.Goals as goal
 
 pub list-requires : goal.list-requires
-list-requires c = (c.requires.0, div-mul-le_self (length c.args.answers.now) (2 * c.args.d.places))
+list-requires c = let a = c.args in div-mul-le_self (length a.answers.now) (2 * a.system.now.d.places)
 
 pub list-requires-in-KnuthAlgorithm : goal.list-requires-in-KnuthAlgorithm
 unfolding is_knuth
 list-requires-in-KnuthAlgorithm c =
-    let is = ap is_knuth c.in-KnuthAlgorithm.is in
-    (c.requires.0, c.requires.2 is, c.requires.3 is, div-mul-le_self (length c.args.answers.now) (2 * c.args.d.places))
+    let a = c.args in
+    let is = ap is_knuth c.in-KnuthAlgorithm.is in record {
+      links = (c.requires.1 is, c.requires.2 is);
+      room = div-mul-le_self (length a.answers.now) (2 * a.system.now.d.places);
+    }
 
 pub returns-in-Auto : goal.returns-in-Auto
 returns-in-Auto c = let h = unported c.in-Auto.is _ _ _ _ _ in record { page = h.0; behind = h.1 }
 
 pub returns-in-Fast : goal.returns-in-Fast
 unfolding answers_by LinksAfter identify_of
-returns-in-Fast c = let h = by_engine c.in-Fast.is _ _ _ _ _ _ _ c.list.ensures refl in record { page = h.0; behind = h.1 }
+returns-in-Fast c =
+    let h = by_engine c.in-Fast.is _ _ _ _ _ _ _ c.list.ensures refl in
+    record { page = h.0; behind = h.1 }
 
 pub returns-in-KnuthAlgorithm : goal.returns-in-KnuthAlgorithm
 unfolding answers_by LinksAfter identify_of
 returns-in-KnuthAlgorithm c =
-    let listed = c.list-in-KnuthAlgorithm.ensures in
-    let h = by_engine c.in-KnuthAlgorithm.is _ _ _ _ _ _ _ listed.page listed.behind in
+    let all = c.list-in-KnuthAlgorithm.ensures in
+    let h = by_engine c.in-KnuthAlgorithm.is _ _ _ _ _ _ _ all.page all.behind in
     record { page = h.0; behind = h.1 }

@@ -8,15 +8,22 @@ use Rattle.definitions.specs.declared.Refusal.{Refusal}
 use Rattle.theorems.proofs.StartLaws.{meets_from}
 use Rattle.placements.specs.Pieces.{records_of}
 use Rattle.solver.specs.Preparing.{Prepares}
+use Rattle.solver.proofs.PreparedLaws.{stands_sized}
 use Rattle.solver.proofs.CallLaws.{box_some, links_few, links-long, page_left, refused_outcome, work-long}
 use Rattle.solver.proofs.pages.page.Goals as goal
+
+-- the row system stands in the slices
+pub invariant_of-system : goal.invariant_of-system
+unfolding Prepares
+invariant_of-system c =
+    let s = c.in_ok-d.ensures in
+    record { sized = stands_sized _ _ _ _ _ _ _ _ _ s; ready = ∣ s.ready ∣₁ }
 
 pub list-e-requires : goal.list-e-requires
 unfolding Prepares
 list-e-requires c =
     let a = c.args in
     let s = c.in_ok-d.ensures in (
-      s.ready,
       box_some _ _ _ _ a.answers.now _ a.links.now _ _ _ s,
       links-long _ _ _ _ a.answers.now _ a.links.now _ _ _ s,
       links_few _ _ _ _ a.answers.now _ a.links.now _ _ _ s,

@@ -1,5 +1,5 @@
 -- `State::begin` meets its contract. Assumes nothing.
-use mathlib.Core.Path.{refl, ◌∙◌}
+use mathlib.Core.Path.{◌∙◌}
 use native.Mathlib.Omega.{arith}
 use lib.ListN.{length-set}
 use Rattle.fast.proofs.ListingLaws.{left_next, left_end}
@@ -14,4 +14,4 @@ loop-k-preserved c =
 pub returns : goal.returns
 returns c =
     let l = c.loop-k in
-    (refl, left_end c.args.chart.now l.left c.args.kinds (omega arith) (λ j h. l.invariant.1 j (omega arith)))
+    (c.new.ensures, left_end c.args.chart.now l.left c.args.kinds (omega arith) (λ j h. l.invariant.1 j (omega arith)))

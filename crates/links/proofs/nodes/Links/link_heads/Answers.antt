@@ -1,30 +1,20 @@
--- `link_heads` meets its contract: after each turn the heads below i are linked. Assumes nothing.
+-- `link_heads` meets its contract: after each turn the heads before i are linked. Assumes nothing.
 use Prim.Native.Nat.{ℕ}
 use native.Mathlib.Omega.{arith}
 use native.Mathlib.Numerals.{add-one}
-use mathlib.Core.Path.{refl, ap, ◌∙◌, subst}
-use lib.ListN.{length}
+use mathlib.Core.Path.{refl, ◌∙◌, subst}
 use Rattle.links.specs.Build.{Headed}
-use Rattle.links.proofs.Build.{headed_none, headed_next, headed_len, headed_still}
+use Rattle.links.proofs.Build.{headed_none, headed_next, headed_still}
 use Rattle.links.proofs.nodes.Links.link_heads.Goals as goal
 
 pub loop-i-init : goal.loop-i-init
-loop-i-init c = (omega arith, refl, λ t law f e. headed_none law f, λ k h. refl)
+loop-i-init c = (λ t law f e. headed_none law f, λ k h. refl)
 
 pub loop-i-preserved : goal.loop-i-preserved
 loop-i-preserved c = (
-  omega arith,
-  ap length c.link_head.ensures ∙ headed_len _ _ ∙ c.loop-i.invariant.1,
-  λ t law f e. rw (c.link_head.ensures, add-one) (headed_next law (c.loop-i.invariant.2 t law f e)
-      (omega arith)),
-  λ k h. rw c.link_head.ensures (headed_still _ _
-      (omega arith) k h
-      ∙ c.loop-i.invariant.3 k h),
+  λ t law f e. rw (c.link_head.ensures, add-one) (headed_next law (c.loop-i.invariant.0 t law f e) (omega arith)),
+  λ k h. rw c.link_head.ensures (headed_still _ _ (omega arith) k h ∙ c.loop-i.invariant.1 k h),
 )
 
-pub returns : goal.returns
-returns c = record {
-  linked = λ t law f e. subst (λ (n : ℕ). Headed t n c.loop-i.self) (omega (arith, c.loop-i-test.false, c.loop-i.invariant.0))
-      (c.loop-i.invariant.2 t law f e);
-  behind = c.loop-i.invariant.3;
-}
+pub returns-clause-linked : goal.returns-clause-linked
+returns-clause-linked c = λ t law f e. subst (λ (n : ℕ). Headed t n c.loop-i.self) (omega arith) (c.loop-i.invariant.0 t law f e)

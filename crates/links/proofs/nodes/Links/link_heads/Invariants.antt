@@ -1,11 +1,10 @@
-use Prim.Native.Nat.{ℕ, ◌≤◌}
+use Prim.Native.Nat.{ℕ}
 use mathlib.Core.Path.{◌≡◌}
-use lib.ListN.{length, get_or}
+use lib.ListN.{get_or}
 use Rattle.links.specs.Links.{Still, Matrix, LawfulMatrix, Fields}
 use Rattle.links.specs.Build.{Headed}
 use Rattle.links.proofs.nodes.Links.link_heads.Given as goal
 
 abbrev pub invariant-loop-i : goal.invariant-loop-i
-invariant-loop-i l = (l.i ≤ l.cols) × (length l.self ≡ length l.initial.self) ×
-    ((t : Matrix) → LawfulMatrix t → Fields t l.initial.self → l.cols ≡ t.cols → Headed t l.i l.self) ×
+invariant-loop-i l = ((t : Matrix) → LawfulMatrix t → Fields t l.initial.self → l.cols ≡ t.cols → Headed t l.i l.self) ×
     ((k : ℕ) → Still k → get_or l.self k 0 ≡ get_or l.initial.self k 0)

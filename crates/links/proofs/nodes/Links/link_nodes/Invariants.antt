@@ -1,11 +1,11 @@
 use Prim.Native.Nat.{ℕ, ◌≤◌}
 use mathlib.Core.Path.{◌≡◌}
-use lib.ListN.{length, get_or}
+use lib.ListN.{get_or}
 use Rattle.links.specs.Links.{Still, Matrix, LawfulMatrix}
 use Rattle.links.specs.Build.{Partial}
 use Rattle.links.proofs.nodes.Links.link_nodes.Given as goal
 
 abbrev pub invariant-loop-x : goal.invariant-loop-x
-invariant-loop-x l = (l.cols ≤ l.x) × (l.x ≤ l.nodes) × (length l.self ≡ length l.initial.self) ×
-    ((t : Matrix) → LawfulMatrix t → Partial t l.cols l.initial.self → l.cols ≡ t.cols → l.nodes ≡ t.nodes → Partial t l.x l.self) ×
-    ((k : ℕ) → Still k → get_or l.self k 0 ≡ get_or l.initial.self k 0)
+invariant-loop-x l = (l.x ≤ l.nodes)
+    × ((t : Matrix) → LawfulMatrix t → Partial t l.cols l.initial.self → l.cols ≡ t.cols → l.nodes ≡ t.nodes → Partial t l.x l.self)
+    × ((k : ℕ) → Still k → get_or l.self k 0 ≡ get_or l.initial.self k 0)

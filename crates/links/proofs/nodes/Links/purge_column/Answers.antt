@@ -1,5 +1,5 @@
 -- `purge_column` meets its contract: after each turn the column's live rows before k are hidden. Assumes nothing.
-use Rattle.links.proofs.Cover.{walk_start, walk_hidable, walk_small, walk_less, walk_next, walk_end}
+use Rattle.links.proofs.Cover.{walk_start, walk_hidable, walk_small, walk_less, walk_next}
 use Rattle.links.proofs.nodes.Links.purge_column.Goals as goal
 
 pub loop-k-init : goal.loop-k-init
@@ -26,6 +26,3 @@ loop-k-smaller c =
 pub loop-k-preserved : goal.loop-k-preserved
 loop-k-preserved c =
     λ w s l o. walk_next w s l o (c.loop-k.invariant w s l o) c.loop-k-test.true _ c.hide_row.ensures _ c.get-k-in-loop-k.ensures.value
-
-pub returns : goal.returns
-returns c = λ w s l o. walk_end w s l o (c.loop-k.invariant w s l o) c.loop-k-test.false

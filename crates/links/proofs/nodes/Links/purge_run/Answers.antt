@@ -1,5 +1,5 @@
 -- `purge_run` meets its contract: after each turn the columns of the nodes before y are covered. Assumes nothing.
-use Rattle.links.proofs.Select.{running_start, running_coverable, running_next, running_end}
+use Rattle.links.proofs.Select.{running_start, running_coverable, running_next}
 use Rattle.links.proofs.nodes.Links.purge_run.Goals as goal
 
 pub loop-y-init : goal.loop-y-init
@@ -14,6 +14,3 @@ purge_column-requires c =
 pub loop-y-preserved : goal.loop-y-preserved
 loop-y-preserved c =
     λ w s r. running_next w s r (c.loop-y.invariant w s r) c.loop-y-test.true _ c.get-c.ensures.value _ c.purge_column.ensures
-
-pub returns : goal.returns
-returns c = λ w s r. running_end w s r (c.loop-y.invariant w s r) c.loop-y-test.false

@@ -27,12 +27,14 @@ impl Path {
         }
     }
 
+    #[inline]
     pub fn rows(&self) -> &[u16]
         ensures { result.now ≡ self.now }
     {
         &self.numbers[..self.n]
     }
 
+    #[inline]
     pub fn push(&mut self, r: usize)
         requires { (length self.old < 128) × (r < 65536) }
         ensures { self.new ≡ self.old ++ r ∷ [] }
@@ -42,6 +44,7 @@ impl Path {
     }
 
     // Undoes `push`.
+    #[inline]
     pub fn pop(&mut self)
         requires { 0 < length self.old }
         ensures { (rows : List ℕ) (r : ℕ) → self.old ≡ rows ++ r ∷ [] → self.new ≡ rows }
