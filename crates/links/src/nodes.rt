@@ -1,8 +1,10 @@
 // The nodes of the links, by their numbers, in a slice that is lent: eight numbers to a node. The slice is the caller's, fixed in size and of plain numbers, so
 // a node names others by their numbers; nothing here follows them.
-ghost use Rattle.std.specs.Prelude.{◌≡◌, ℕ, List, ◌≤◌, ◌<◌, length, get_or, set};
+ghost use Rattle.std.specs.Prelude.{◌≡◌, ℕ, List, ◌≤◌, ◌<◌, length, get_or, set, take};
 ghost use Rattle.links.specs.Links.{at};
 
+use super::steps;
+use super::steps::Numbers;
 use std::marker::Model;
 
 // What a node's eight numbers are, in the order in which they stand.
@@ -29,22 +31,23 @@ pub enum Field {
 // What contracts see of it is the list of its numbers.
 #[derive(Drop)]
 pub struct Links<'a> {
-    pub(super) numbers: &'a mut [u16],
+    pub(super) numbers: &'a mut Numbers,
 }
 
 impl<'a> Model for Links<'a> {
     ghost Value = { List ℕ };
 
     ghost view = { λ l. l.numbers.now };
-
-    ghost invariant = { λ l. 32768 ≤ length l.numbers.now };
 }
 
 impl<'a> Links<'a> {
     pub fn new(numbers: &'a mut [u16]) -> Links<'a>
         requires { 32768 ≤ length numbers.old }
-        ensures { result ≡ numbers.entry.now }
+        ensures { result ≡ take 32768 numbers.entry.now }
     {
+        let Some(numbers) = numbers.first_chunk_mut() else {
+            unreachable!()
+        };
         Links { numbers }
     }
 
@@ -55,7 +58,7 @@ impl<'a> Links<'a> {
         ensures value { result ≡ get_or self.now (at f x) 0 }
         ensures small { result < 65536 }
     {
-        self.numbers[8 * x + f as usize] as usize
+        steps::get(self.numbers, x, f)
     }
 
     // Writes n into field f of node x.
@@ -65,6 +68,6 @@ impl<'a> Links<'a> {
         ensures value { self.new ≡ set self.old (at f x) n }
         ensures room { 32768 ≤ length self.old }
     {
-        self.numbers[8 * x + f as usize] = n as u16;
+        steps::set(self.numbers, x, f, n);
     }
 }

@@ -4,16 +4,18 @@ use Rattle.links.proofs.nodes.Links.select_row.Goals as goal
 
 pub take_copy-a-requires : goal.take_copy-a-requires
 take_copy-a-requires c =
-    sel_takes c.requires.seek c.requires.live _ _ c.get-first.ensures.value c.get-end.ensures.value
+    let p = (rw (← c.self.view_is) at c.requires) in
+    sel_takes p.seek p.live _ _ c.get-first.ensures.value c.get-end.ensures.value
 
 pub purge_run-requires : goal.purge_run-requires
 purge_run-requires c =
-    sel_runnable c.requires.seek c.requires.live _ _ c.get-first.ensures.value c.get-end.ensures.value _ _ c.take_copy-a.ensures.less c.take_copy-a.ensures.first
+    let p = (rw (← c.self.view_is) at c.requires) in
+    sel_runnable p.seek p.live _ _ c.get-first.ensures.value c.get-end.ensures.value _ _ c.take_copy-a.ensures.less c.take_copy-a.ensures.first
 
 pub returns : goal.returns
-returns c = record {
+returns c = rw (← c.self.view_is) (record {
   done = λ w uncovered copies primary left s l. sel_done s l _ _ c.get-first.ensures.value c.get-end.ensures.value _ _ c.take_copy-a.ensures.less
       c.take_copy-a.ensures.first _ c.purge_run.ensures;
   first = λ w uncovered copies primary left s l. sel_first s l _ _ c.get-first.ensures.value c.get-end.ensures.value _ _
       c.take_copy-a.ensures.less c.take_copy-a.ensures.first;
-}
+})

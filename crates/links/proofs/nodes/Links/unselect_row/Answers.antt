@@ -4,14 +4,16 @@ use Rattle.links.proofs.nodes.Links.unselect_row.Goals as goal
 
 pub unpurge_run-requires : goal.unpurge_run-requires
 unpurge_run-requires c =
-    unsel_ran c.requires.seek c.requires.live c.requires.so _ c.requires.first _ _ c.get-first.ensures.value c.get-end.ensures.value
+    let p = (rw (← c.self.view_is) at c.requires) in
+    unsel_ran p.seek p.live p.so _ p.first _ _ c.get-first.ensures.value c.get-end.ensures.value
 
 pub give_copy-requires : goal.give_copy-requires
 give_copy-requires c =
-    unsel_gives c.requires.seek c.requires.live c.requires.so _ c.requires.first _ _ c.get-first.ensures.value c.get-end.ensures.value _
+    let p = (rw (← c.self.view_is) at c.requires) in
+    unsel_gives p.seek p.live p.so _ p.first _ _ c.get-first.ensures.value c.get-end.ensures.value _
     c.unpurge_run.ensures
 
 pub returns : goal.returns
 returns c =
-    λ w uncovered copies primary left m s l f e. unsel_back s l e _ f _ _ c.get-first.ensures.value c.get-end.ensures.value _
-    c.unpurge_run.ensures _ c.give_copy.ensures
+    rw (← c.self.view_is) (λ w uncovered copies primary left m s l f e. unsel_back s l e _ f _ _ c.get-first.ensures.value c.get-end.ensures.value _
+    c.unpurge_run.ensures _ c.give_copy.ensures)

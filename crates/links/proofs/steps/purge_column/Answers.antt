@@ -1,6 +1,6 @@
 -- `purge_column` meets its contract: after each turn the column's live rows before k are hidden. Assumes nothing.
 use Rattle.links.proofs.Cover.{walk_start, walk_hidable, walk_small, walk_less, walk_next}
-use Rattle.links.proofs.nodes.Links.purge_column.Goals as goal
+use Rattle.links.proofs.steps.purge_column.Goals as goal
 
 pub loop-k-init : goal.loop-k-init
 loop-k-init c = λ w s l o. walk_start w s l o _ c.get-k.ensures.value

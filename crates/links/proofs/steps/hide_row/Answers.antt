@@ -1,7 +1,7 @@
 -- `hide_row` meets its contract: after each turn the row's nodes below y are hidden. Assumes nothing.
 use native.Mathlib.Omega.{arith}
 use Rattle.links.proofs.Rows.{hiding_start, hiding_one, hiding_next, hiding_end, row_end}
-use Rattle.links.proofs.nodes.Links.hide_row.Goals as goal
+use Rattle.links.proofs.steps.hide_row.Goals as goal
 
 pub loop-y-init : goal.loop-y-init
 loop-y-init c = λ w s l. (hiding_start w s l _ c.get-first.ensures.value, row_end w s l _ c.get-end.ensures.value)

@@ -1,7 +1,7 @@
 -- `show_row` meets its contract: after each turn the row's nodes below y are still hidden, and no others. Assumes nothing.
 use native.Mathlib.Omega.{arith}
 use Rattle.links.proofs.Rows.{row_first, showing_start, showing_one, showing_next, showing_end}
-use Rattle.links.proofs.nodes.Links.show_row.Goals as goal
+use Rattle.links.proofs.steps.show_row.Goals as goal
 
 pub loop-y-init : goal.loop-y-init
 loop-y-init c = λ w m s l q. (showing_start w s l q _ c.get-end.ensures.value, row_first w s l q _ c.get-first.ensures.value)

@@ -1,6 +1,6 @@
 -- `unpurge_column` meets its contract: after each turn the column's live rows up to k are still hidden, and no others. Assumes nothing.
 use Rattle.links.proofs.Cover.{unwalk_start, unwalk_hidden, unwalk_small, unwalk_less, unwalk_next, unwalk_end}
-use Rattle.links.proofs.nodes.Links.unpurge_column.Goals as goal
+use Rattle.links.proofs.steps.unpurge_column.Goals as goal
 
 pub loop-k-init : goal.loop-k-init
 loop-k-init c = λ w m s l o q. unwalk_start w s l o _ q _ c.get-k.ensures.value

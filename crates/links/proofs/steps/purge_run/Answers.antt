@@ -1,6 +1,6 @@
 -- `purge_run` meets its contract: after each turn the columns of the nodes before y are covered. Assumes nothing.
 use Rattle.links.proofs.Select.{running_start, running_coverable, running_next}
-use Rattle.links.proofs.nodes.Links.purge_run.Goals as goal
+use Rattle.links.proofs.steps.purge_run.Goals as goal
 
 pub loop-y-init : goal.loop-y-init
 loop-y-init c = λ w s r. running_start w s r

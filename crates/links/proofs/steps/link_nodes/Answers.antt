@@ -5,7 +5,7 @@ use native.Mathlib.Numerals.{add-one}
 use mathlib.Core.Path.{refl, ◌∙◌, subst}
 use Rattle.links.specs.Build.{Partial}
 use Rattle.links.proofs.Build.{partial_joinable, partial_next, link_last_still}
-use Rattle.links.proofs.nodes.Links.link_nodes.Goals as goal
+use Rattle.links.proofs.steps.link_nodes.Goals as goal
 
 pub loop-x-init : goal.loop-x-init
 loop-x-init c = (let p = c.requires in omega (arith, p.law.some, p.c_is, p.n_is), λ t law q e g. q, λ k h. refl)
@@ -29,4 +29,4 @@ loop-x-preserved c =
     )
 
 pub returns-clause-linked : goal.returns-clause-linked
-returns-clause-linked c = λ t law q e g. subst (λ (n : ℕ). Partial t n c.loop-x.self) (omega arith) (c.loop-x.invariant.1 t law q e g)
+returns-clause-linked c = λ t law q e g. subst (λ (n : ℕ). Partial t n c.loop-x.numbers) (omega arith) (c.loop-x.invariant.1 t law q e g)

@@ -5,7 +5,7 @@ use native.Mathlib.Numerals.{add-one}
 use mathlib.Core.Path.{refl, ◌∙◌, subst}
 use Rattle.links.specs.Build.{Headed}
 use Rattle.links.proofs.Build.{headed_none, headed_next, headed_still}
-use Rattle.links.proofs.nodes.Links.link_heads.Goals as goal
+use Rattle.links.proofs.steps.link_heads.Goals as goal
 
 pub loop-i-init : goal.loop-i-init
 loop-i-init c = (λ t law f e. headed_none law f, λ k h. refl)
@@ -17,4 +17,4 @@ loop-i-preserved c = (
 )
 
 pub returns-clause-linked : goal.returns-clause-linked
-returns-clause-linked c = λ t law f e. subst (λ (n : ℕ). Headed t n c.loop-i.self) (omega arith) (c.loop-i.invariant.0 t law f e)
+returns-clause-linked c = λ t law f e. subst (λ (n : ℕ). Headed t n c.loop-i.numbers) (omega arith) (c.loop-i.invariant.0 t law f e)
