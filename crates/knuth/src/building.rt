@@ -1,5 +1,5 @@
 // The links of a row system: heads of cells and kinds, then for each row of a kind that has copies a node for its kind and one for each of its cells.
-ghost use Rattle.std.specs.Prelude.{[], ◌∷◌, map, count_by, ◌≡◌, ℕ, suc, ◌+◌, ◌*◌, ◌≤◌, ◌<◌, length};
+ghost use Rattle.std.specs.Prelude.{[], ◌∷◌, map, count_by, ◌≡◌, suc, ◌+◌, ◌≤◌, ◌<◌, length};
 ghost use Rattle.std.specs.List.{range_with_len};
 ghost use Rattle.lists.specs.Lists.{below, how_many, keep};
 ghost use Rattle.masks.specs.Masks.{has};

@@ -1,5 +1,5 @@
 // The search as a cycle of two functions: choosing a column and trying its rows, each calling the other (`search_internal`).
-ghost use Rattle.std.specs.Prelude.{◌≡◌, Bool, ℕ, ◌*◌, ◌≤◌, ◌<◌, length, take};
+ghost use Rattle.std.specs.Prelude.{◌≡◌, Bool, ℕ, ◌*◌, ◌≤◌, ◌<◌, length};
 ghost use Rattle.rows.specs.RowSystems.{seen};
 ghost use Rattle.kept.specs.Emission.{emitted_of};
 ghost use Rattle.kept.specs.Wanted.{LastShown, identified};

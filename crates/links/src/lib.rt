@@ -4,7 +4,7 @@
 mod nodes;
 mod steps;
 
-ghost use Rattle.std.specs.Prelude.{◌≡◌, Bool, true, cond, List, ℕ, ◌+◌, ◌-◌, ◌≤◌, ◌<◌, MatchOption, get_or, count_by};
+ghost use Rattle.std.specs.Prelude.{◌≡◌, Bool, true, List, ℕ, ◌-◌, ◌≤◌, ◌<◌, MatchOption, get_or, count_by};
 ghost use Rattle.std.specs.List.{range_with_len};
 ghost use Rattle.links.specs.Search.{better, has_row, pivot, Seek, Shape, Sized, Selectable, Selected, selected, first_covered};
 ghost use Rattle.links.specs.Links.{down, first_of, end_of, size_of, copies_of, row_number, Still, Matrix, LawfulMatrix};

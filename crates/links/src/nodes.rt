@@ -1,5 +1,5 @@
-// The nodes of the links, by their numbers, in a slice that is lent: eight numbers to a node. The slice is the caller's, fixed in size and of plain numbers, so
-// a node names others by their numbers; nothing here follows them.
+// The nodes of the links, by their numbers, in a slice that is lent: eight numbers to a node. The slice is the caller's, and its first 32,768 numbers serve
+// as an array; they are plain numbers, so a node names others by their numbers; nothing here follows them.
 ghost use Rattle.std.specs.Prelude.{◌≡◌, ℕ, List, ◌≤◌, ◌<◌, length, get_or, set, take};
 ghost use Rattle.links.specs.Links.{at};
 
@@ -41,6 +41,7 @@ impl<'a> Model for Links<'a> {
 }
 
 impl<'a> Links<'a> {
+    // The links in the first numbers of a slice, as they stand there.
     pub fn new(numbers: &'a mut [u16]) -> Links<'a>
         requires { 32768 ≤ length numbers.old }
         ensures { result ≡ take 32768 numbers.entry.now }
