@@ -27,7 +27,7 @@ use Rattle.rows.specs.Systems.{System, system_in, images_in, owned_in, kind_by, 
 use Rattle.rows.specs.Shown.{Shown, shows_row}
 use Rattle.kept.specs.Normal.{row_of, image_of}
 use Rattle.rows.specs.Ready.{Ready}
-use Rattle.kept.specs.Ready.{AreRows}
+use Rattle.kept.specs.Packings.{AreRows}
 use Rattle.kept.specs.Entries.{entries}
 use Rattle.fast.specs.Searching.{Searching, fast_below, state_by}
 use Rattle.fast.specs.Pruned.{moved_before, always_mirrorable_by, pruned_by, first_rows, fast_first}

@@ -24,7 +24,7 @@ use Rattle.rows.specs.Ranges.{start_of}
 use Rattle.rows.specs.Shown.{Shown, shows_row}
 use Rattle.kept.specs.Normal.{row_of}
 use Rattle.rows.specs.Ready.{Ready}
-use Rattle.kept.specs.Ready.{AreRows}
+use Rattle.kept.specs.Packings.{AreRows}
 use Rattle.kept.specs.Emission.{emit_kept}
 use Rattle.fast.specs.Searching.{fast_below, uncovered, state_by, Searching, goes_on}
 use Rattle.rows.specs.declared.Dims.{Dims}

@@ -6,7 +6,7 @@ ghost use Rattle.lists.specs.Lists.{below};
 ghost use Rattle.rows.specs.Charts.{kind_copies};
 ghost use Rattle.rows.specs.RowSystems.{seen};
 ghost use Rattle.kept.specs.Emission.{emitted_of};
-ghost use Rattle.kept.specs.Wanted.{LastShown, identified};
+ghost use Rattle.kept.specs.Wanted.{identified};
 ghost use Rattle.fast.specs.Listing.{cells_in, fast_answers};
 
 use super::state::State;
@@ -47,18 +47,18 @@ fn is_kind_0_first(system: &RowSystem, turned: bool) -> bool
 }
 
 // The answers of the list below, of what is wanted.
-fn list_over(system: &RowSystem, wanted: &Wanted, answers: &mut [u8], e: Emission) -> Emission
-    requires { let w = wanted.now in
-        LastShown system.now w × (w.capacity * (2 * system.now.d.places) ≤ length answers.old) }
+fn list_over(wanted: &Wanted, answers: &mut [u8], e: Emission) -> Emission
+    requires { let w = wanted.now in w.capacity * (2 * w.system.d.places) ≤ length answers.old }
     ensures { let w = wanted.now in
         let old = emitted_of e w.last.now answers.old in
-        emitted_of result w.last.now answers.new ≡ emits w.capacity (fast_answers (seen system.now) (identified w)) old }
+        emitted_of result w.last.now answers.new ≡ emits w.capacity (fast_answers (seen w.system) (identified w)) old }
 {
+    let system = &wanted.system;
     let mut state = State::begin(system.chart, system.d.kinds);
     if is_kind_0_first(system, wanted.turned) {
-        return pruning::search_first(system, wanted, &mut state, answers, e);
+        return pruning::search_first(wanted, &mut state, answers, e);
     }
-    search::search(system, wanted, &mut state, Mask::empty(), answers, e)
+    search::search(wanted, &mut state, Mask::empty(), answers, e)
 }
 
 // The answers of Fast's list, one after the other, until the page is full and a further one is known.
@@ -76,5 +76,5 @@ pub fn list(
         emitted_of result last.now answers.new ≡ emits capacity (fast_answers (seen system.now) (identifies turned mirrored)) old }
 {
     let wanted = Wanted::new(system, turned, mirrored, capacity, last);
-    list_over(system, &wanted, answers, e)
+    list_over(&wanted, answers, e)
 }

@@ -2,6 +2,7 @@
 ghost use Rattle.std.specs.Prelude.{◌&&◌, ◌||◌, not, [], ◌≡◌, ◌+◌, ◌*◌, ◌-◌, ◌≤◌, ◌<◌, get_or, length, set, take};
 ghost use Rattle.lists.specs.Lists.{any, from};
 ghost use Rattle.definitions.specs.Emission.{emits};
+ghost use Rattle.definitions.specs.Starts.{waits_at};
 ghost use Rattle.definitions.specs.Orders.{choose};
 ghost use Rattle.masks.specs.Masks.{apart, has};
 ghost use Rattle.rows.specs.Rows.{mask_at, row_at};
@@ -9,8 +10,8 @@ ghost use Rattle.rows.specs.RowSystems.{seen};
 ghost use Rattle.rows.specs.Shown.{shows_row};
 ghost use Rattle.rows.specs.Systems.{owned_in};
 ghost use Rattle.kept.specs.Emission.{emitted_of};
-ghost use Rattle.kept.specs.Wanted.{LastShown, identified};
-ghost use Rattle.kept.specs.Ready.{AreRows};
+ghost use Rattle.kept.specs.Wanted.{identified};
+ghost use Rattle.kept.specs.Packings.{AreRows};
 ghost use Rattle.fast.specs.Searching.{Searching, fast_below, goes_on, state_by};
 
 use super::state::State;
@@ -70,50 +71,50 @@ fn goes_on(system: &RowSystem, state: &State, kind: usize, covered: Mask) -> boo
 // Whether row r, of a kind that has copies left, is tried: none of its cells is covered, while an answer is waited for the answer shows it, and the search
 // goes on below it.
 fn is_tried(
-    system: &RowSystem,
+    wanted: &Wanted,
     state: &State,
     covered: Mask,
-    shown: &[u8; 256],
-    waiting: bool,
+    e: &Emission,
     kind: usize,
     r: usize,
 ) -> bool
-    requires { let s = system.now in
+    requires { let s = wanted.now.system in
         (r < s.d.rows) × (kind ≡ (row_at s.work.now r).kind) × (0 < get_or state.now.left kind 0) }
-    ensures { let s = system.now in
+    ensures { let s = wanted.now.system in
         let row = row_at s.work.now r in
-        let shows = shows_row (owned_in s.chart.now.pieces s.d.pieces) shown.now row in
+        let shows = shows_row (owned_in s.chart.now.pieces s.d.pieces) wanted.now.shown row in
         let below = choose (state_by (seen s) state.now.left covered []) row in
-        result ≡ apart 128 (has (mask_at s.work.now r)) (has covered) && ((not waiting || shows) && goes_on (seen s) below) }
+        result ≡ apart 128 (has (mask_at s.work.now r)) (has covered) && ((not (waits_at e.now.start) || shows) && goes_on (seen s) below) }
 {
+    let system = &wanted.system;
     let mask = row::mask_at(system.work, r);
     is_clear(system.work, covered, r)
-        && system.leads(shown, waiting, r)
+        && system.leads(wanted.shown_while(e), r)
         && goes_on(system, state, kind, covered.union(mask))
 }
 
 // The packings that extend the rows chosen, one after the other, until the page is full and a further one is known.
 pub fn search(
-    system: &RowSystem,
     wanted: &Wanted,
     state: &mut State,
     covered: Mask,
     answers: &mut [u8],
     e: Emission,
 ) -> Emission
-    requires ready { let d = system.now.d in
-        AreRows d state.old.path × LastShown system.now wanted.now × (wanted.now.capacity * (2 * d.places) ≤ length answers.old) }
-    requires searching { Searching (seen system.now) state.old.left covered state.old.path }
-    ensures page { let S = seen system.now in
-        let w = wanted.now in
+    requires ready { let w = wanted.now in
+        AreRows w.system.d state.old.path × (w.capacity * (2 * w.system.d.places) ≤ length answers.old) }
+    requires searching { Searching (seen wanted.now.system) state.old.left covered state.old.path }
+    ensures page { let w = wanted.now in
+        let S = seen w.system in
         let t = state_by S state.old.left covered state.old.path in
         let old = emitted_of e w.last.now answers.old in
         emitted_of result w.last.now answers.new ≡ emits w.capacity (fast_below S (identified w) t) old }
     ensures restored { (state.new.left ≡ state.old.left) × (state.new.path ≡ state.old.path) }
 {
+    let system = &wanted.system;
     let c = covered.next_open(0);
     if system.d.size <= c {
-        return emission::emit_kept(system, wanted, state.rows(), answers, e);
+        return emission::emit_kept(wanted, state.rows(), answers, e);
     }
     let mut s = e;
     // The rows at cell c, kind by kind: s is what those of the kinds before have left, and copies and path are as they were.
@@ -123,18 +124,10 @@ pub fn search(
             let end = system.chart.start_at(128 * kind + c + 1);
             // The same of the rows of this kind before r.
             for r in start..end {
-                if is_tried(
-                    system,
-                    state,
-                    covered,
-                    &wanted.shown,
-                    s.is_waiting(),
-                    kind,
-                    r,
-                ) {
+                if is_tried(wanted, state, covered, &s, kind, r) {
                     state.place_row(kind, r);
                     let more = covered.union(row::mask_at(system.work, r));
-                    s = search(system, wanted, state, more, answers, s);
+                    s = search(wanted, state, more, answers, s);
                     state.put_back(kind);
                     if s.further {
                         return s;

@@ -26,7 +26,7 @@ use Rattle.rows.specs.Systems.{System, system_in, owned_in, system_over}
 use Rattle.rows.specs.Answering.{Held, answers_over, answer_by, copies_by, path_in, taken_by}
 use Rattle.kept.specs.Normal.{sort_rows, row_of, of_kind, normal, InKinds}
 use Rattle.rows.specs.Ready.{Ready}
-use Rattle.kept.specs.Ready.{AreRows, Fillable}
+use Rattle.kept.specs.Packings.{AreRows, Fillable}
 use Rattle.kept.specs.Emission.{emit_kept, emitted_of, entry_of}
 use Rattle.kept.specs.declared.emission.Emission.{Emission}
 use Rattle.kept.specs.Entries.{entry_by}

@@ -25,7 +25,7 @@ use Rattle.rows.specs.Answering.{path_in}
 use Rattle.kept.specs.Normal.{sort_rows, row_of, of_kind, image_of, moved_rows, counted, key_of, image_key, image_smaller, mirrorable, normal}
 use Rattle.kept.specs.Orders.{OrderIs, decided}
 use Rattle.rows.specs.Ready.{Ready}
-use Rattle.kept.specs.Ready.{AreRows}
+use Rattle.kept.specs.Packings.{AreRows}
 use Rattle.rows.proofs.ReadyLaws.{kinds_many, rows_many, few-rows}
 use Rattle.kept.proofs.ReadyLaws.{row_is, image_is}
 

@@ -25,7 +25,7 @@ use Rattle.rows.specs.declared.Dims.{Dims}
 use Rattle.kept.specs.Normal.{row_of, of_kind, InKinds, start_of, KindStarts}
 use Rattle.kept.specs.Starts.{part_of}
 use Rattle.rows.specs.Ready.{Ready}
-use Rattle.kept.specs.Ready.{AreRows}
+use Rattle.kept.specs.Packings.{AreRows}
 use Rattle.rows.proofs.ReadyLaws.{kinds_many, row_kind}
 use Rattle.kept.proofs.ReadyLaws.{row_is}
 use Rattle.kept.proofs.NormalFormLaws.{of-kind}

@@ -1,7 +1,7 @@
 pub mod Normal
 pub mod Orders
 pub mod Starts
-pub mod Ready
+pub mod Packings
 pub mod Wanted
 pub mod Emission
 pub mod Entries

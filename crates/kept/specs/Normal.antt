@@ -63,11 +63,11 @@ normal s Mirrored rs =
 unfoldable pub start_of : List ℕ → List ℕ → ℕ → ℕ
 start_of work rows k = how_many (λ q. ltb q.kind k) (map (row_at work) rows)
 
--- these are so many numbers, for each kind, and behind them where the last one ends
+-- for each kind, by these numbers, how many rows are of kinds before it; and behind them how many are of all kinds
 abbrev pub KindStarts : List ℕ → List ℕ → ℕ → List ℕ → Type 0
 KindStarts work rows kinds starts = (k : ℕ) → k ≤ kinds → get_or starts k 0 ≡ start_of work rows k
 
--- the rows stand kind by kind
+-- the rows stand kind by kind. (In no type: rows of one owner, by the kinds that another's system has.)
 abbrev pub InKinds : System → List ℕ → Type 0
 InKinds s rs = each (below (length s.copies)) (λ k. of_kind s k rs) ≡ rs
 

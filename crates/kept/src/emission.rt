@@ -6,12 +6,11 @@ ghost use Rattle.rows.specs.Answering.{Held, answers_over, taken_in};
 ghost use Rattle.rows.specs.RowSystems.{seen};
 ghost use Rattle.kept.specs.Emission.{emit_kept, emitted_of};
 ghost use Rattle.kept.specs.Wanted.{identified};
-ghost use Rattle.kept.specs.Ready.{AreRows, Fillable};
+ghost use Rattle.kept.specs.Packings.{AreRows, Fillable};
 
 use super::wanted::Wanted;
 use super::{normal_form, sorting};
 use definitions::Start;
-use rows::row_system::RowSystem;
 
 // Where the rest of the page starts: behind the lent entry while that is waited for, else at the entry with this number among those to come; how many were
 // written, and whether a further one is known.
@@ -32,17 +31,12 @@ impl Emission {
 }
 
 // The answer of the packing with these rows, which ascend: met or passed by, skipped, written behind those before it, or the further one.
-fn emit_answer(
-    system: &RowSystem,
-    wanted: &Wanted,
-    rows: &[u16],
-    answers: &mut [u8],
-    e: Emission,
-) -> Emission
-    requires { let s = system.now in
-        Held s.d s.work.now s.chart.now rows.now × (wanted.now.capacity * (2 * s.d.places) ≤ length answers.old) }
-    ensures { let s = system.now in
-        let w = wanted.now in
+fn emit_answer(wanted: &Wanted, rows: &[u16], answers: &mut [u8], e: Emission) -> Emission
+    requires { let w = wanted.now in
+        let s = w.system in
+        Held s.d s.work.now s.chart.now rows.now × (w.capacity * (2 * s.d.places) ≤ length answers.old) }
+    ensures { let w = wanted.now in
+        let s = w.system in
         let taken = taken_in s.d s.work.now s.chart.now rows.now in
         let answer = answers_over taken (take s.d.places s.chart.now.scans) in
         let old = emitted_of e w.last.now answers.old in
@@ -53,7 +47,7 @@ fn emit_answer(
     }
     match e.start {
         Start::Behind => {
-            let met = system.is_answer(rows, wanted.last);
+            let met = wanted.system.is_answer(rows, wanted.last);
             let start = if met { Start::Entry(0) } else { Start::Behind };
             Emission { start, ..e }
         }
@@ -62,7 +56,8 @@ fn emit_answer(
             ..e
         },
         Start::Entry(_) if e.written < wanted.capacity => {
-            system.reconstruct_answer(rows, answers, e.written * (2 * system.d.places));
+            let at = e.written * (2 * wanted.system.d.places);
+            wanted.system.reconstruct_answer(rows, answers, at);
             Emission {
                 written: e.written + 1,
                 ..e
@@ -73,24 +68,19 @@ fn emit_answer(
 }
 
 // The packing with these rows, in any order: on the page if it is kept.
-pub fn emit_kept(
-    system: &RowSystem,
-    wanted: &Wanted,
-    path: &[u16],
-    answers: &mut [u8],
-    e: Emission,
-) -> Emission
-    requires { let d = system.now.d in
-        AreRows d path.now × Fillable (seen system.now) path.now × (wanted.now.capacity * (2 * d.places) ≤ length answers.old) }
+pub fn emit_kept(wanted: &Wanted, path: &[u16], answers: &mut [u8], e: Emission) -> Emission
+    requires { let w = wanted.now in
+        let s = w.system in
+        AreRows s.d path.now × Fillable (seen s) path.now × (w.capacity * (2 * s.d.places) ≤ length answers.old) }
     ensures { let w = wanted.now in
         let old = emitted_of e w.last.now answers.old in
-        emitted_of result w.last.now answers.new ≡ emit_kept (seen system.now) (identified w) w.capacity path.now old }
+        emitted_of result w.last.now answers.new ≡ emit_kept (seen w.system) (identified w) w.capacity path.now old }
 {
     let mut sorted = [0u16; 128];
     let rows = &mut sorted[..path.len()];
     sorting::sort_path(path, rows);
-    if !normal_form::is_normal_form(system, wanted, rows) {
+    if !normal_form::is_normal_form(wanted, rows) {
         return e;
     }
-    emit_answer(system, wanted, rows, answers, e)
+    emit_answer(wanted, rows, answers, e)
 }

@@ -4,7 +4,7 @@ ghost use Rattle.lists.specs.Lists.{all};
 
 use rows::answers;
 
-// Where the rows of each kind begin, and behind these where the last ones end.
+// Where the rows of each kind begin, and behind these where the last ones end. (A number of kinds beside an array: nothing is put on a heap.)
 #[derive(Drop)]
 pub struct Starts {
     kinds: usize,

@@ -17,7 +17,7 @@ use Rattle.rows.specs.Lawful.{Lawful}
 use Rattle.rows.specs.declared.Dims.{Dims}
 use Rattle.kept.specs.Emission.{emit_kept}
 use Rattle.kept.specs.Normal.{row_of}
-use Rattle.kept.specs.Ready.{AreRows, Fillable}
+use Rattle.kept.specs.Packings.{AreRows, Fillable}
 use Rattle.rows.proofs.ReadyLaws.{rows_many}
 use Rattle.kept.proofs.ReadyLaws.{row_is as row-stands}
 use Rattle.links.specs.Links.{down, first_of, end_of, size_of, row_number}

@@ -4,7 +4,7 @@ ghost use Rattle.definitions.specs.Emission.{emits};
 ghost use Rattle.definitions.specs.Refusals.{identifies};
 ghost use Rattle.rows.specs.RowSystems.{seen};
 ghost use Rattle.kept.specs.Emission.{emitted_of};
-ghost use Rattle.kept.specs.Wanted.{LastShown, identified};
+ghost use Rattle.kept.specs.Wanted.{identified};
 ghost use Rattle.knuth.specs.Matrix.{link_nodes};
 ghost use Rattle.knuth.specs.Listing.{knuth_answers};
 
@@ -16,25 +16,18 @@ use links::Links;
 use rows::row_system::RowSystem;
 
 // The answers of the list below, over numbers that are all free for the links.
-fn list_over(
-    system: &RowSystem,
-    wanted: &Wanted,
-    numbers: &mut [u16],
-    answers: &mut [u8],
-    e: Emission,
-) -> Emission
-    requires links { (32768 ≤ length numbers.old) × (length (link_nodes (seen system.now)) ≤ 4096) }
-    requires wanted { let w = wanted.now in
-        LastShown system.now w × (w.capacity * (2 * system.now.d.places) ≤ length answers.old) }
+fn list_over(wanted: &Wanted, numbers: &mut [u16], answers: &mut [u8], e: Emission) -> Emission
+    requires links { (32768 ≤ length numbers.old) × (length (link_nodes (seen wanted.now.system)) ≤ 4096) }
+    requires room { let w = wanted.now in w.capacity * (2 * w.system.d.places) ≤ length answers.old }
     ensures { let w = wanted.now in
         let old = emitted_of e w.last.now answers.old in
-        emitted_of result w.last.now answers.new ≡ emits w.capacity (knuth_answers (seen system.now) (identified w)) old }
+        emitted_of result w.last.now answers.new ≡ emits w.capacity (knuth_answers (seen w.system) (identified w)) old }
 {
     let mut links = Links::new(numbers);
-    building::build_links(system, &mut links);
+    building::build_links(&wanted.system, &mut links);
     let mut path = Path::new();
-    let size = system.d.size;
-    search::choose(system, wanted, &mut links, size, &mut path, answers, e)
+    let size = wanted.system.d.size;
+    search::choose(wanted, &mut links, size, &mut path, answers, e)
 }
 
 // The answers of KnuthAlgorithm's list, one after the other, until the page is full and a further one is known. The links are built first, and stand in
@@ -57,5 +50,5 @@ pub fn list(
 {
     let wanted = Wanted::new(system, turned, mirrored, capacity, last);
     let numbers = &mut links[..32768];
-    list_over(system, &wanted, numbers, answers, e)
+    list_over(&wanted, numbers, answers, e)
 }

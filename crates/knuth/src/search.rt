@@ -2,8 +2,8 @@
 ghost use Rattle.std.specs.Prelude.{◌≡◌, Bool, ℕ, ◌*◌, ◌≤◌, ◌<◌, length};
 ghost use Rattle.rows.specs.RowSystems.{seen};
 ghost use Rattle.kept.specs.Emission.{emitted_of};
-ghost use Rattle.kept.specs.Wanted.{LastShown, identified};
-ghost use Rattle.kept.specs.Ready.{AreRows};
+ghost use Rattle.kept.specs.Wanted.{identified};
+ghost use Rattle.kept.specs.Packings.{AreRows};
 ghost use Rattle.links.specs.Cover.{Reduced};
 ghost use Rattle.links.specs.Search.{At, Seek};
 ghost use Rattle.knuth.specs.Matrix.{matrix_of};
@@ -14,7 +14,6 @@ use kept::emission::Emission;
 use kept::path::Path;
 use kept::wanted::Wanted;
 use links::Links;
-use rows::row_system::RowSystem;
 
 // The column that a search covers: its cell, and how many cells are uncovered.
 #[derive(Clone, Copy)]
@@ -26,7 +25,6 @@ pub struct Column {
 // The packings that extend the rows chosen: the uncovered cell with the fewest rows still possible, but at least one, is covered in each way.
 #[cycle(choose_try_rows)]
 pub fn choose(
-    system: &RowSystem,
     wanted: &Wanted,
     links: &mut Links,
     left: usize,
@@ -34,36 +32,35 @@ pub fn choose(
     answers: &mut [u8],
     e: Emission,
 ) -> Emission
-    requires ready { let d = system.now.d in
-        AreRows d path.old × LastShown system.now wanted.now × (wanted.now.capacity * (2 * d.places) ≤ length answers.old) }
-    requires choosable { Choosable (seen system.now) links.old left path.old }
+    requires ready { let w = wanted.now in
+        AreRows w.system.d path.old × (w.capacity * (2 * w.system.d.places) ≤ length answers.old) }
+    requires choosable { Choosable (seen wanted.now.system) links.old left path.old }
     ensures same { (links.new ≡ links.old) × (path.new ≡ path.old) }
-    ensures found { let s = system.now in
+    ensures found { let asked = wanted.now in
+        let s = asked.system in
         let S = seen s in
-        let asked = wanted.now in
         let old = emitted_of e asked.last.now answers.old in
         let new = emitted_of result asked.last.now answers.new in
         ((w : Reduced) (uncovered : ℕ → Bool) (copies : ℕ → ℕ) (g : ℕ) → Seek w uncovered copies s.d.size left links.old
         → w.t ≡ matrix_of S → left < g → new ≡ emit_all S (identified asked) asked.capacity (knuth_below S path.old g w copies left) old) }
 {
     if left == 0 {
-        return emission::emit_kept(system, wanted, path.rows(), answers, e);
+        return emission::emit_kept(wanted, path.rows(), answers, e);
     }
-    if links.open_columns(system.d.size) < left {
+    if links.open_columns(wanted.system.d.size) < left {
         return e;
     }
-    let Some(cell) = links.choose_column(system.d.size) else {
+    let Some(cell) = links.choose_column(wanted.system.d.size) else {
         return e;
     };
     let k = links.below(cell);
     let at = Column { cell, left };
-    try_rows(system, wanted, links, at, k, path, answers, e)
+    try_rows(wanted, links, at, k, path, answers, e)
 }
 
 // The same, by the rows of a column from node k of its ring on.
 #[cycle(choose_try_rows)]
 fn try_rows(
-    system: &RowSystem,
     wanted: &Wanted,
     links: &mut Links,
     at: Column,
@@ -72,13 +69,13 @@ fn try_rows(
     answers: &mut [u8],
     e: Emission,
 ) -> Emission
-    requires ready { let d = system.now.d in
-        AreRows d path.old × LastShown system.now wanted.now × (wanted.now.capacity * (2 * d.places) ≤ length answers.old) }
-    requires tryable { Tryable (seen system.now) links.old at.left at.cell k path.old }
+    requires ready { let w = wanted.now in
+        AreRows w.system.d path.old × (w.capacity * (2 * w.system.d.places) ≤ length answers.old) }
+    requires tryable { Tryable (seen wanted.now.system) links.old at.left at.cell k path.old }
     ensures same { (links.new ≡ links.old) × (path.new ≡ path.old) }
-    ensures found { let s = system.now in
+    ensures found { let asked = wanted.now in
+        let s = asked.system in
         let S = seen s in
-        let asked = wanted.now in
         let old = emitted_of e asked.last.now answers.old in
         let new = emitted_of result asked.last.now answers.new in
         ((w : Reduced) (uncovered : ℕ → Bool) (copies : ℕ → ℕ) (g : ℕ) → Seek w uncovered copies s.d.size at.left links.old
@@ -89,20 +86,20 @@ fn try_rows(
         return e;
     }
     let r = links.row_of(k);
-    if !system.leads(&wanted.shown, e.is_waiting(), r) {
+    if !wanted.system.leads(wanted.shown_while(&e), r) {
         let passed = links.below(k);
-        return try_rows(system, wanted, links, at, passed, path, answers, e);
+        return try_rows(wanted, links, at, passed, path, answers, e);
     }
     let cells = links.row_cells(k);
     path.push(r);
     let a = links.select_row(k);
     let left = at.left - cells;
-    let s = choose(system, wanted, links, left, path, answers, e);
+    let s = choose(wanted, links, left, path, answers, e);
     links.unselect_row(k, a);
     path.pop();
     if s.further {
         return s;
     }
     let next = links.below(k);
-    try_rows(system, wanted, links, at, next, path, answers, s)
+    try_rows(wanted, links, at, next, path, answers, s)
 }

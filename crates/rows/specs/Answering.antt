@@ -55,7 +55,7 @@ unfoldable pub answer_by : System → List Placement → List ℕ
 answer_by s P = answers_over (taken_by s.pieces (length s.copies) P) s.scans
 
 -- what an answer asks of a path: its rows stand in the work slice, ascend by kind, are of kinds below a number, cover cells below another, and of each
--- kind there are enough copies
+-- kind there are enough copies. (In no type: a path is lent by one, and the system whose rows it names by another.)
 pub record Held (d : Dims) (work : List ℕ) (chart : Chart) (path : List ℕ) : Type 0 where
   pub are_rows : T (all (λ r. ltb (8 * r + 7) (length work)) path)
   pub few_cells : d.size ≤ 128

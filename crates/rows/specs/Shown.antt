@@ -1,5 +1,5 @@
 -- What an answer shows on the cells of the board. Proved in proofs/ShownLaws: a row of a packing is shown by the packing's answer.
-use Rattle.std.specs.Prelude.{ℕ, ◌+◌, ◌*◌, ◌<◌, Bool, ◌&&◌, List, ◌≡◌, eqb, ltb, length, get_or}
+use Rattle.std.specs.Prelude.{ℕ, ◌+◌, ◌*◌, ◌<◌, Bool, true, ◌&&◌, Option, Some, None, List, ◌≡◌, eqb, ltb, length, get_or}
 use Rattle.lists.specs.Lists.{all, before}
 use Rattle.definitions.specs.Placements.{Placement}
 use Rattle.rows.specs.Charts.{nothing_owned}
@@ -17,3 +17,8 @@ shows_row pieces shown q =
     let copy = get_or shown (2 * q.p + 1) 0 in
     ltb piece (length pieces) && (eqb (get_or pieces piece nothing_owned).kind q.kind
     && all (λ c. eqb (get_or shown (2 * c) 0) piece && eqb (get_or shown (2 * c + 1) 0) copy) q.cells)
+
+-- the packings with a row are to be looked at: all are where no answer is waited for, else those whose row an answer that shows this much shows
+abbrev pub leads_by : List Owned → Option (List ℕ) → Placement → Bool
+leads_by pieces None q = true
+leads_by pieces (Some shown) q = shows_row pieces shown q

@@ -132,7 +132,8 @@ pub(crate) fn build_rows(board: &NumberedBoard, counted: &CountedTray, work: &mu
     r
 }
 
-// Where the rows of the ranges from i on begin, those of kind k at cell c being range 128·k + c: the row is looked for from r on, which is no later.
+// Where the rows of the ranges from i on begin, those of kind k at cell c being range 128·k + c: the row is looked for from r on, which is no later; the
+// number of rows where there is none. (No Option: ranges without rows begin and end there.)
 fn start_from(work: &[u64], rows: usize, r: usize, i: usize) -> usize
     requires { (8 * rows ≤ length work.now) × (r ≤ start_of (rows_in work.now rows) i)
         × T (all (λ q. ltb (128 * q.kind + q.p) 2048) (rows_in work.now rows)) }

@@ -1,12 +1,12 @@
 // A row system that stands in the slices that an engine is lent, and what the engines ask of it.
-ghost use Rattle.std.specs.Prelude.{◌||◌, not, map, ◌≡◌, ◌+◌, ◌*◌, ◌≤◌, ◌<◌, length, take};
+ghost use Rattle.std.specs.Prelude.{map, option_copied, ◌≡◌, ◌+◌, ◌*◌, ◌≤◌, ◌<◌, length, take};
 ghost use Rattle.std.proofs.Math.Seq.{paste};
 ghost use Rattle.lists.specs.Lists.{below, same};
 ghost use Rattle.rows.specs.Charts.{kind_partner};
 ghost use Rattle.rows.specs.Rows.{row_at, rows_in};
 ghost use Rattle.rows.specs.Systems.{kind_by, moved_by, owned_in, row_with};
 ghost use Rattle.rows.specs.Answering.{Held, answers_over, taken_in};
-ghost use Rattle.rows.specs.Shown.{Shown, shows_row};
+ghost use Rattle.rows.specs.Shown.{Shown, leads_by};
 ghost use Rattle.rows.specs.Ready.{Ready, Sized};
 
 use super::chart::Chart;
@@ -24,7 +24,15 @@ pub struct RowSystem<'a> {
 }
 
 impl<'a> RowSystem<'a> {
-    ghost use Rattle.rows.specs.RowSystems.{images_under};
+    ghost use Rattle.rows.specs.RowSystems.{images_under, is_mirroring};
+
+    // Whether map m is a mirroring: those stand behind the turns.
+    #[inline]
+    pub fn is_mirroring(&self, m: usize) -> bool
+        ensures { result ≡ is_mirroring self.now m }
+    {
+        self.d.turns <= m
+    }
 
     // The kind after a map.
     #[inline]
@@ -36,15 +44,16 @@ impl<'a> RowSystem<'a> {
         images::kind_after(self.chart, self.d.kinds, odd, kind)
     }
 
-    // The image of row r under a map: its number, and the number of rows where it has none.
+    // The image of row r under map m: its number, and the number of rows where it has none.
     #[inline]
-    pub fn image_row(&self, m: usize, odd: bool, r: usize) -> usize
+    pub fn image_row(&self, m: usize, r: usize) -> usize
         requires { let d = self.now.d in (m < d.turns + d.mirrorings) × (r < d.rows) }
         ensures { let s = self.now in
             let partners = map (kind_partner s.chart.now.kinds) (below s.d.kinds) in
-            let moved = moved_by partners odd (images_under s m) (row_at s.work.now r) in
+            let moved = moved_by partners (is_mirroring s m) (images_under s m) (row_at s.work.now r) in
             result ≡ row_with (rows_in s.work.now s.d.rows) moved }
     {
+        let odd = self.is_mirroring(m);
         images::image_row(self.d, self.work, self.chart, m, odd, r)
     }
 
@@ -56,14 +65,14 @@ impl<'a> RowSystem<'a> {
         shown::show_cells(self.d, self.chart, last)
     }
 
-    // Whether the packings with row r are to be looked at: all are, but while an answer is waited for only those that may have it.
+    // Whether the packings with row r are to be looked at: all are where no answer is waited for, else those that may have it, by what it shows.
     #[inline]
-    pub fn leads(&self, shown: &[u8; 256], waiting: bool, r: usize) -> bool
+    pub fn leads(&self, shown: Option<&[u8; 256]>, r: usize) -> bool
         requires { r < self.now.d.rows }
         ensures { let s = self.now in
-            result ≡ not waiting || shows_row (owned_in s.chart.now.pieces s.d.pieces) shown.now (row_at s.work.now r) }
+            result ≡ leads_by (owned_in s.chart.now.pieces s.d.pieces) (option_copied shown.entry) (row_at s.work.now r) }
     {
-        shown::leads(self.d, self.work, self.chart, shown, waiting, r)
+        shown::leads(self.d, self.work, self.chart, shown, r)
     }
 
     // The answer of a packing whose rows are those of an ascending path: two bytes for each place of the board's box, from a place of the slice on.

@@ -1,9 +1,9 @@
 // What an answer shows on the cells of the board, and which rows can be in a packing with that answer.
-ghost use Rattle.std.specs.Prelude.{◌||◌, not, ◌≡◌, ◌+◌, ◌*◌, ◌≤◌, ◌<◌, eqb, get_or, length, take};
+ghost use Rattle.std.specs.Prelude.{option_copied, ◌≡◌, ◌+◌, ◌*◌, ◌≤◌, ◌<◌, eqb, get_or, length, take};
 ghost use Rattle.lists.specs.Lists.{before};
 ghost use Rattle.rows.specs.Rows.{row_at};
 ghost use Rattle.rows.specs.Systems.{owned_in};
-ghost use Rattle.rows.specs.Shown.{Shown, shows_row};
+ghost use Rattle.rows.specs.Shown.{Shown, leads_by, shows_row};
 
 use super::chart::Chart;
 use super::{Dims, row};
@@ -70,18 +70,13 @@ fn is_shown(d: Dims, work: &[u64], chart: &Chart, shown: &[u8; 256], r: usize) -
     true
 }
 
-// Whether the packings with row r are to be looked at: all are, but while an answer is waited for only those that may have it.
-pub fn leads(
-    d: Dims,
-    work: &[u64],
-    chart: &Chart,
-    shown: &[u8; 256],
-    waiting: bool,
-    r: usize,
-) -> bool
+// Whether the packings with row r are to be looked at: all are where no answer is waited for, else those that may have it, by what it shows.
+pub fn leads(d: Dims, work: &[u64], chart: &Chart, shown: Option<&[u8; 256]>, r: usize) -> bool
     requires { (8 * r + 8 ≤ length work.now) × ((row_at work.now r).p < 128) × (d.pieces ≤ 16) }
-    ensures { result ≡ not waiting
-        || shows_row (owned_in chart.now.pieces d.pieces) shown.now (row_at work.now r) }
+    ensures { result ≡ leads_by (owned_in chart.now.pieces d.pieces) (option_copied shown.entry) (row_at work.now r) }
 {
-    !waiting || is_shown(d, work, chart, shown, r)
+    match shown {
+        None => true,
+        Some(shown) => is_shown(d, work, chart, shown, r),
+    }
 }

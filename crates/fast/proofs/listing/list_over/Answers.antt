@@ -7,7 +7,7 @@ use Rattle.rows.specs.declared.Dims.{Dims}
 use Rattle.rows.specs.RowSystems.{seen}
 use Rattle.kept.specs.Emission.{emitted_of}
 use Rattle.kept.specs.Wanted.{identified}
-use Rattle.kept.specs.Ready.{AreRows}
+use Rattle.kept.specs.Packings.{AreRows}
 use Rattle.fast.specs.Listing.{cells_in}
 use Rattle.fast.specs.Searching.{Searching, fast_below, state_by}
 use Rattle.fast.proofs.ListingLaws.{copies_in, first_one, first_told, left_some, searching, lists_first, lists_below}
@@ -20,7 +20,7 @@ no_rows {d} rs e = subst (λ (xs : List ℕ). AreRows d xs) (sym e) (record { fe
 pub search_first-requires : goal.search_first-requires
 search_first-requires c =
     let a = c.args in
-    let s = a.system.now in
+    let s = a.wanted.now.system in
     let w = a.wanted.now in
     let state = c.begin-state in
     let left = state.result.left in
@@ -39,7 +39,7 @@ search_first-requires c =
 pub returns-then-is_kind_0_first : goal.returns-then-is_kind_0_first
 returns-then-is_kind_0_first c =
     let a = c.args in
-    let s = a.system.now in
+    let s = a.wanted.now.system in
     let w = a.wanted.now in
     let state = c.begin-state in
     let left = state.result.left in
@@ -53,7 +53,7 @@ returns-then-is_kind_0_first c =
 pub search-requires : goal.search-requires
 search-requires c =
     let a = c.args in
-    let s = a.system.now in
+    let s = a.wanted.now.system in
     let state = c.begin-state in
     let left = state.result.left in
     record {
@@ -69,7 +69,7 @@ search-requires c =
 pub returns : goal.returns
 returns c =
     let a = c.args in
-    let s = a.system.now in
+    let s = a.wanted.now.system in
     let w = a.wanted.now in
     let state = c.begin-state in
     let left = state.result.left in

@@ -10,14 +10,14 @@ use Rattle.fast.proofs.pruning.is_pruned.Goals as goal
 pub returns-then-not-wanted : goal.returns-then-not-wanted
 returns-then-not-wanted c =
     let a = c.args in
-    let s = a.system.now in
+    let s = a.wanted.now.system in
     let w = a.wanted.now in
     pruned_none (seen s) a.r w.turned w.mirrored c.if-not-wanted.true
 
 pub returns-then-moves_before : goal.returns-then-moves_before
 returns-then-moves_before c =
     let a = c.args in
-    let s = a.system.now in
+    let s = a.wanted.now.system in
     let w = a.wanted.now in
     let moved = c.moves_before.ensures ∙ turned_before s.d s.work.now s.chart.now a.r in
     pruned_turned (seen s) a.r w.turned w.mirrored c.if-not-wanted.false (sym moved ∙ c.if-moves_before.true)
@@ -25,7 +25,7 @@ returns-then-moves_before c =
 pub returns-then-not-wanted-2 : goal.returns-then-not-wanted-2
 returns-then-not-wanted-2 c =
     let a = c.args in
-    let s = a.system.now in
+    let s = a.wanted.now.system in
     let w = a.wanted.now in
     let moved = c.moves_before.ensures ∙ turned_before s.d s.work.now s.chart.now a.r in
     pruned_not (seen s) a.r w.turned w.mirrored c.if-not-wanted.false (sym moved ∙ c.if-moves_before.false)
@@ -34,7 +34,7 @@ returns-then-not-wanted-2 c =
 pub returns-then-not-always_mirrorable : goal.returns-then-not-always_mirrorable
 returns-then-not-always_mirrorable c =
     let a = c.args in
-    let s = a.system.now in
+    let s = a.wanted.now.system in
     let w = a.wanted.now in
     let moved = c.moves_before.ensures ∙ turned_before s.d s.work.now s.chart.now a.r in
     pruned_unlike (seen s) a.r w.turned w.mirrored c.if-not-wanted.false (sym moved ∙ c.if-moves_before.false)
@@ -42,7 +42,7 @@ returns-then-not-always_mirrorable c =
 
 pub kind_after-requires : goal.kind_after-requires
 kind_after-requires c =
-    let s = c.args.system.now in
+    let s = c.args.wanted.now.system in
     let kind = row_kind s.d s.work.now s.chart.now (stands s).lawful c.args.r c.requires in
     omega arith
 
@@ -50,7 +50,7 @@ pub returns-then-kind_after-ne0 : goal.returns-then-kind_after-ne0
 unfolding system_in system_over
 returns-then-kind_after-ne0 c =
     let a = c.args in
-    let s = a.system.now in
+    let s = a.wanted.now.system in
     let w = a.wanted.now in
     let moved = c.moves_before.ensures ∙ turned_before s.d s.work.now s.chart.now a.r in
     pruned_other (seen s) a.r w.turned w.mirrored c.if-not-wanted.false (sym moved ∙ c.if-moves_before.false)
@@ -61,7 +61,7 @@ pub returns : goal.returns
 unfolding system_in system_over
 returns c =
     let a = c.args in
-    let s = a.system.now in
+    let s = a.wanted.now.system in
     let w = a.wanted.now in
     let moved = c.moves_before.ensures ∙ turned_before s.d s.work.now s.chart.now a.r in
     pruned_mirrored (seen s) a.r w.turned w.mirrored c.if-not-wanted.false (sym moved ∙ c.if-moves_before.false)

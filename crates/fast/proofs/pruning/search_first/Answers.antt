@@ -82,7 +82,7 @@ loop-r-init c = record { same_left = refl; no_rows = c.requires.ready.3; answers
 pub returns-then-kind_at-gt0 : goal.returns-then-kind_at-gt0
 returns-then-kind_at-gt0 c =
     let a = c.args in
-    let system = a.system.now in
+    let system = a.wanted.now.system in
     let wanted = a.wanted.now in
     let ready = stands system in
     let q = c.requires.ready in
@@ -103,7 +103,7 @@ returns-then-kind_at-gt0 c =
 pub place_row-requires : goal.place_row-requires
 place_row-requires c =
     let a = c.args in
-    let system = a.system.now in
+    let system = a.wanted.now.system in
     let ready = stands system in
     let q = c.requires.ready in
     let l = c.loop-r in
@@ -116,7 +116,7 @@ place_row-requires c =
 pub search-s-requires : goal.search-s-requires
 search-s-requires c =
     let a = c.args in
-    let system = a.system.now in
+    let system = a.wanted.now.system in
     let ready = stands system in
     let q = c.requires.ready in
     let l = c.loop-r in
@@ -140,7 +140,7 @@ search-s-requires c =
 pub put_back-requires : goal.put_back-requires
 put_back-requires c =
     let a = c.args in
-    let system = a.system.now in
+    let system = a.wanted.now.system in
     let ready = stands system in
     let q = c.requires.ready in
     let l = c.loop-r in
@@ -159,7 +159,7 @@ put_back-requires c =
 pub returns-then-s : goal.returns-then-s
 returns-then-s c =
     let a = c.args in
-    let system = a.system.now in
+    let system = a.wanted.now.system in
     let wanted = a.wanted.now in
     let ready = stands system in
     let q = c.requires.ready in
@@ -192,7 +192,7 @@ returns-then-s c =
 pub loop-r-preserved : goal.loop-r-preserved
 loop-r-preserved c =
     let a = c.args in
-    let system = a.system.now in
+    let system = a.wanted.now.system in
     let wanted = a.wanted.now in
     let ready = stands system in
     let q = c.requires.ready in
@@ -238,7 +238,7 @@ loop-r-preserved c =
 pub returns : goal.returns
 returns c =
     let a = c.args in
-    let system = a.system.now in
+    let system = a.wanted.now.system in
     let wanted = a.wanted.now in
     let l = c.loop-r in
     let inv = l.invariant in

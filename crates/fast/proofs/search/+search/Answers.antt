@@ -18,7 +18,7 @@ use Rattle.rows.specs.RowSystems.{seen}
 use Rattle.kept.specs.Emission.{emit_kept, emitted_of}
 use Rattle.kept.specs.Wanted.{identified}
 use Rattle.rows.specs.Ready.{Ready}
-use Rattle.kept.specs.Ready.{AreRows}
+use Rattle.kept.specs.Packings.{AreRows}
 use Rattle.kept.specs.declared.emission.Emission.{Emission}
 use Rattle.fast.specs.Searching.{Searching, uncovered, state_by, goes_on}
 use Rattle.fast.specs.declared.state.State.{State}
@@ -61,7 +61,7 @@ module _ (left₀ rs₀ left rs : List ℕ) (k r : ℕ) (same_left : left ≡ le
 pub returns-then-system-c : goal.returns-then-system-c
 returns-then-system-c t c =
     let a = c.args in
-    let system = a.system.now in
+    let system = a.wanted.now.system in
     let wanted = a.wanted.now in
     let ready = stands system in
     let q = c.requires.ready in
@@ -76,7 +76,7 @@ returns-then-system-c t c =
 pub loop-kind-init : goal.loop-kind-init
 loop-kind-init t c =
     let a = c.args in
-    let system = a.system.now in
+    let system = a.wanted.now.system in
     let wanted = a.wanted.now in
     let ready = stands system in
     let q = c.requires.ready in
@@ -91,7 +91,7 @@ loop-kind-init t c =
 pub loop-r-init : goal.loop-r-init
 loop-r-init t c =
     let a = c.args in
-    let system = a.system.now in
+    let system = a.wanted.now.system in
     let wanted = a.wanted.now in
     let ready = stands system in
     let q = c.requires.ready in
@@ -111,7 +111,7 @@ loop-r-init t c =
 pub is_tried-requires : goal.is_tried-requires
 is_tried-requires t c =
     let a = c.args in
-    let system = a.system.now in
+    let system = a.wanted.now.system in
     let ready = stands system in
     let q = c.requires.ready in
     let x = opened ready q.0 c.requires.searching c.next_open-c.ensures c.if-system-c.false in
@@ -124,7 +124,7 @@ is_tried-requires t c =
 pub place_row-requires : goal.place_row-requires
 place_row-requires t c =
     let a = c.args in
-    let system = a.system.now in
+    let system = a.wanted.now.system in
     let ready = stands system in
     let q = c.requires.ready in
     let x = opened ready q.0 c.requires.searching c.next_open-c.ensures c.if-system-c.false in
@@ -143,7 +143,7 @@ place_row-requires t c =
 pub mask_at-requires : goal.mask_at-requires
 mask_at-requires t c =
     let a = c.args in
-    let system = a.system.now in
+    let system = a.wanted.now.system in
     let ready = stands system in
     let q = c.requires.ready in
     let x = opened ready q.0 c.requires.searching c.next_open-c.ensures c.if-system-c.false in
@@ -154,7 +154,7 @@ mask_at-requires t c =
 pub search-s-requires : goal.search-s-requires
 search-s-requires t c =
     let a = c.args in
-    let system = a.system.now in
+    let system = a.wanted.now.system in
     let wanted = a.wanted.now in
     let ready = stands system in
     let q = c.requires.ready in
@@ -185,7 +185,7 @@ search-s-requires t c =
 pub put_back-requires : goal.put_back-requires
 put_back-requires t c =
     let a = c.args in
-    let system = a.system.now in
+    let system = a.wanted.now.system in
     let ready = stands system in
     let q = c.requires.ready in
     let x = opened ready q.0 c.requires.searching c.next_open-c.ensures c.if-system-c.false in
@@ -208,7 +208,7 @@ put_back-requires t c =
 pub returns-then-s : goal.returns-then-s
 returns-then-s t c =
     let a = c.args in
-    let system = a.system.now in
+    let system = a.wanted.now.system in
     let wanted = a.wanted.now in
     let ready = stands system in
     let q = c.requires.ready in
@@ -240,7 +240,7 @@ returns-then-s t c =
 pub loop-r-preserved : goal.loop-r-preserved
 loop-r-preserved t c =
     let a = c.args in
-    let system = a.system.now in
+    let system = a.wanted.now.system in
     let wanted = a.wanted.now in
     let ready = stands system in
     let q = c.requires.ready in
@@ -295,7 +295,7 @@ loop-r-preserved t c =
 pub loop-kind-preserved : goal.loop-kind-preserved
 loop-kind-preserved t c =
     let a = c.args in
-    let system = a.system.now in
+    let system = a.wanted.now.system in
     let wanted = a.wanted.now in
     let ready = stands system in
     let q = c.requires.ready in
@@ -331,7 +331,7 @@ loop-kind-preserved t c =
 pub returns : goal.returns
 returns t c =
     let a = c.args in
-    let system = a.system.now in
+    let system = a.wanted.now.system in
     let wanted = a.wanted.now in
     let ready = stands system in
     let q = c.requires.ready in

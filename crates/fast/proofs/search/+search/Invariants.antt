@@ -9,12 +9,12 @@ use Rattle.fast.proofs.ChoiceLaws.{choices_from}
 use Rattle.fast.proofs.search.+search.Given as goal
 
 abbrev pub decreases-search : goal.decreases-search
-decreases-search l = length (uncovered l.system.now.d.size l.covered)
+decreases-search l = length (uncovered l.wanted.now.system.d.size l.covered)
 
 -- the rows of a kind
 abbrev pub invariant-loop-r : goal.invariant-loop-r
 invariant-loop-r l =
-    let S = seen l.system in
+    let S = seen l.wanted.system in
     let i = identified l.wanted in
     let t = state_by S l.fn.state.left l.covered l.fn.state.path in
     record {
@@ -27,7 +27,7 @@ invariant-loop-r l =
 
 abbrev pub invariant-loop-kind : goal.invariant-loop-kind
 invariant-loop-kind l =
-    let S = seen l.system in
+    let S = seen l.wanted.system in
     let i = identified l.wanted in
     let t = state_by S l.fn.state.left l.covered l.fn.state.path in
     record {

@@ -18,7 +18,7 @@ both false b c = refl
 pub returns-then-leads : goal.returns-then-leads
 returns-then-leads c =
     let a = c.args in
-    let s = a.system.now in
+    let s = a.wanted.now.system in
     let r = c.requires in
     let clear = apart 128 (has (mask_at s.work.now a.r)) (has a.covered) in
     let shows = not a.waiting || shows_row (owned_in s.chart.now.pieces s.d.pieces) a.shown.now (row_at s.work.now a.r) in
@@ -29,14 +29,14 @@ returns-then-leads c =
     ] in
     test_passes (clear && shows) _ c.if-is_clear.value _ two c.if-leads.true
     (c.goes_on.ensures
-    ∙ goes_below a.state.now.left a.covered c.union.result (stands a.system.now) a.r a.kind r.0 r.1
+    ∙ goes_below a.state.now.left a.covered c.union.result (stands a.wanted.now.system) a.r a.kind r.0 r.1
     (c.union.ensures ∙ ap (λ (m : Mask). either (has a.covered) (has m)) c.mask_at-mask.ensures))
     ∙ both clear shows _
 
 pub returns-else-leads : goal.returns-else-leads
 returns-else-leads c =
     let a = c.args in
-    let s = a.system.now in
+    let s = a.wanted.now.system in
     let clear = apart 128 (has (mask_at s.work.now a.r)) (has a.covered) in
     let shows = not a.waiting || shows_row (owned_in s.chart.now.pieces s.d.pieces) a.shown.now (row_at s.work.now a.r) in
     let two : c.if-is_clear.value ≡ (clear && shows) =

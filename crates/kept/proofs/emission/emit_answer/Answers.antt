@@ -33,22 +33,22 @@ returns-in-Entry c =
     let w = a.wanted.now in
     skipped a.e w.last.now a.answers.now w.capacity _ c.if-e.false c.in-Entry.skip c.in-Entry.is c.if-skip-gt0.true
 
-pub overflow_mul-e : goal.overflow_mul-e
-overflow_mul-e c =
+pub overflow_mul-at-in-Entry-2 : goal.overflow_mul-at-in-Entry-2
+overflow_mul-at-in-Entry-2 c =
     let a = c.args in
     let w = a.wanted.now in
-    omega (arith, room a.e.written w.capacity (2 * a.system.now.d.places) (length a.answers.now) c.if-e-wanted.true c.requires.1)
+    omega (arith, room a.e.written w.capacity (2 * a.wanted.now.system.d.places) (length a.answers.now) c.if-e-wanted.true c.requires.1)
 
 pub reconstruct_answer-requires : goal.reconstruct_answer-requires
 reconstruct_answer-requires c =
     let a = c.args in
     let w = a.wanted.now in
-    (c.requires.0, room a.e.written w.capacity (2 * a.system.now.d.places) (length a.answers.now) c.if-e-wanted.true c.requires.1)
+    (c.requires.0, room a.e.written w.capacity (2 * a.wanted.now.system.d.places) (length a.answers.now) c.if-e-wanted.true c.requires.1)
 
 pub returns-in-Entry-2 : goal.returns-in-Entry-2
 returns-in-Entry-2 c =
     let a = c.args in
-    let s = a.system.now in
+    let s = a.wanted.now.system in
     let w = a.wanted.now in
     let taken = taken_in s.d s.work.now s.chart.now a.rows.now in
     put a.e w.last.now a.answers.now w.capacity _ c.if-e.false c.in-Entry.skip c.in-Entry.is c.if-skip-gt0.false taken s.chart.now.scans s.d.places

@@ -8,7 +8,7 @@ use Rattle.kept.proofs.emission.emit_kept.Goals as goal
 pub is_normal_form-requires : goal.is_normal_form-requires
 is_normal_form-requires c =
     let a = c.args in
-    let system = a.system.now in
+    let system = a.wanted.now.system in
     let ready = stands system in
     let p = c.requires in
     let r = c.sort_path in (
@@ -20,7 +20,7 @@ is_normal_form-requires c =
 pub returns-then-not-is_normal_form : goal.returns-then-not-is_normal_form
 returns-then-not-is_normal_form c =
     let a = c.args in
-    let system = a.system.now in
+    let system = a.wanted.now.system in
     let wanted = a.wanted.now in
     let ready = stands system in
     let p = c.requires in
@@ -32,7 +32,7 @@ returns-then-not-is_normal_form c =
 pub emit_answer-requires : goal.emit_answer-requires
 emit_answer-requires c =
     let a = c.args in
-    let system = a.system.now in
+    let system = a.wanted.now.system in
     let ready = stands system in
     let p = c.requires in
     let r = c.sort_path in
@@ -41,7 +41,7 @@ emit_answer-requires c =
 pub returns : goal.returns
 returns c =
     let a = c.args in
-    let system = a.system.now in
+    let system = a.wanted.now.system in
     let wanted = a.wanted.now in
     let ready = stands system in
     let p = c.requires in

@@ -21,17 +21,17 @@ choose-requires c =
         c.requires.wanted.0,
         c.requires.wanted.1,
       );
-      choosable = rw c.new-path.ensures (choosable a.system.now.d a.system.now.work.now a.system.now.chart.now c.build_links.new.links c.build_links.ensures);
+      choosable = rw c.new-path.ensures (choosable a.wanted.now.system.d a.wanted.now.system.work.now a.wanted.now.system.chart.now c.build_links.new.links c.build_links.ensures);
     }
 
 pub returns : goal.returns
 returns c =
     let a = c.args in
-    let S = system_in a.system.now.d a.system.now.work.now a.system.now.chart.now in
+    let S = system_in a.wanted.now.system.d a.wanted.now.system.work.now a.wanted.now.system.chart.now in
     let w = a.wanted.now in
     let links = c.build_links.new.links in
     let b = c.build_links.ensures in
     let old = emitted_of a.e w.last.now a.answers.now in
-    rw (← lists a.system.now.d a.system.now.work.now a.system.now.chart.now links b (stands a.system.now).lawful (identified w) w.capacity old)
-    (rw c.new-path.ensures at (c.choose.ensures.found (whole (matrix_of S) b.law) every_column b.copies (a.system.now.d.size + 1)
-    (begins a.system.now.d a.system.now.work.now a.system.now.chart.now links b) refl (omega arith)))
+    rw (← lists a.wanted.now.system.d a.wanted.now.system.work.now a.wanted.now.system.chart.now links b (stands a.wanted.now.system).lawful (identified w) w.capacity old)
+    (rw c.new-path.ensures at (c.choose.ensures.found (whole (matrix_of S) b.law) every_column b.copies (a.wanted.now.system.d.size + 1)
+    (begins a.wanted.now.system.d a.wanted.now.system.work.now a.wanted.now.system.chart.now links b) refl (omega arith)))

@@ -18,24 +18,24 @@ pub choose-emit_kept-requires : goal.choose-emit_kept-requires
 choose-emit_kept-requires t c =
     let a = c.args in
     let q = c.requires.ready in
-    (rw c.rows.ensures q.0, rw c.rows.ensures (leaf_fills a.system.now.d a.system.now.work.now a.system.now.chart.now c.requires.choosable), q.2)
+    (rw c.rows.ensures q.0, rw c.rows.ensures (leaf_fills a.wanted.now.system.d a.wanted.now.system.work.now a.wanted.now.system.chart.now c.requires.choosable), q.2)
 
 pub choose-returns-then-left-eq0 : goal.choose-returns-then-left-eq0
 choose-returns-then-left-eq0 t c =
     let a = c.args in
-    let S = system_in a.system.now.d a.system.now.work.now a.system.now.chart.now in
+    let S = system_in a.wanted.now.system.d a.wanted.now.system.work.now a.wanted.now.system.chart.now in
     let put = c.emit_kept in
     let old = emitted_of a.e a.wanted.now.last.now a.answers.now in
     let new = emitted_of put.result a.wanted.now.last.now put.new.answers in record {
       same = (refl, refl);
-      found = λ w uncovered copies g s e h. found_leaf a.system.now.d a.system.now.work.now a.system.now.chart.now (identified a.wanted.now) a.wanted.now.capacity s a.path.now old new g h
+      found = λ w uncovered copies g s e h. found_leaf a.wanted.now.system.d a.wanted.now.system.work.now a.wanted.now.system.chart.now (identified a.wanted.now) a.wanted.now.capacity s a.path.now old new g h
           c.if-left-eq0.true (put.ensures ∙ ap (λ rs. emit_kept S (identified a.wanted.now) a.wanted.now.capacity rs old) c.rows.ensures);
     }
 
 pub choose-open_columns-requires : goal.choose-open_columns-requires
 choose-open_columns-requires t c =
     let a = c.args in
-    seek_cells (of_seek a.system.now.d a.system.now.work.now a.system.now.chart.now c.requires.choosable.seek)
+    seek_cells (of_seek a.wanted.now.system.d a.wanted.now.system.work.now a.wanted.now.system.chart.now c.requires.choosable.seek)
 
 pub choose-returns-then-open_columns-left : goal.choose-returns-then-open_columns-left
 choose-returns-then-open_columns-left t c =
@@ -43,40 +43,40 @@ choose-returns-then-open_columns-left t c =
     let rows = c.open_columns in
     let old = emitted_of a.e a.wanted.now.last.now a.answers.now in record {
       same = (refl, refl);
-      found = λ w uncovered copies g s e h. found_few a.system.now.d a.system.now.work.now a.system.now.chart.now (identified a.wanted.now) a.wanted.now.capacity s a.path.now old
-          (omega (arith, rows.ensures ∙ counted (has_row a.links.now) a.system.now.d.size, c.if-open_columns-left.true)) g;
+      found = λ w uncovered copies g s e h. found_few a.wanted.now.system.d a.wanted.now.system.work.now a.wanted.now.system.chart.now (identified a.wanted.now) a.wanted.now.capacity s a.path.now old
+          (omega (arith, rows.ensures ∙ counted (has_row a.links.now) a.wanted.now.system.d.size, c.if-open_columns-left.true)) g;
     }
 
 pub choose-choose_column-requires : goal.choose-choose_column-requires
 choose-choose_column-requires t c =
     let a = c.args in
-    seek_cells (of_seek a.system.now.d a.system.now.work.now a.system.now.chart.now c.requires.choosable.seek)
+    seek_cells (of_seek a.wanted.now.system.d a.wanted.now.system.work.now a.wanted.now.system.chart.now c.requires.choosable.seek)
 
 pub choose-returns-in_default-clause-found : goal.choose-returns-in_default-clause-found
 choose-returns-in_default-clause-found t c = λ w uncovered copies g s e h.
     let a = c.args in
     let old = emitted_of a.e a.wanted.now.last.now a.answers.now in
-    found_none a.system.now.d a.system.now.work.now a.system.now.chart.now (identified a.wanted.now) a.wanted.now.capacity s a.path.now old
-    c.if-left-eq0.false (pivot (size_of a.links.now) a.system.now.d.size) refl c.in_default.ensures g h
+    found_none a.wanted.now.system.d a.wanted.now.system.work.now a.wanted.now.system.chart.now (identified a.wanted.now) a.wanted.now.capacity s a.path.now old
+    c.if-left-eq0.false (pivot (size_of a.links.now) a.wanted.now.system.d.size) refl c.in_default.ensures g h
 
 -- the cell that is found, as a column that `pivot` found
 pub choose-below-k-requires : goal.choose-below-k-requires
 choose-below-k-requires t c =
     let a = c.args in
     let found = c.in-Some.ensures in
-    omega (arith, found.0, found.1, seek_cells (of_seek a.system.now.d a.system.now.work.now a.system.now.chart.now c.requires.choosable.seek))
+    omega (arith, found.0, found.1, seek_cells (of_seek a.wanted.now.system.d a.wanted.now.system.work.now a.wanted.now.system.chart.now c.requires.choosable.seek))
 
 pub choose-try_rows-requires : goal.choose-try_rows-requires
 choose-try_rows-requires t c =
     let a = c.args in
     let found = c.in-Some.ensures in
     let p = c.requires.choosable in
-    let cells = seek_cells (of_seek a.system.now.d a.system.now.work.now a.system.now.chart.now p.seek) in
+    let cells = seek_cells (of_seek a.wanted.now.system.d a.wanted.now.system.work.now a.wanted.now.system.chart.now p.seek) in
     let top = c.below-k in (
       rw (← c.decreases) (try_below a.left top.result c.in-Some.cell),
       (
         c.requires.ready,
-        column_tryable a.system.now.d a.system.now.work.now a.system.now.chart.now p c.if-left-eq0.false c.in-Some.cell found.0 (λ e. omega (arith, found.0, found.1, cells)) top.result top.ensures,
+        column_tryable a.wanted.now.system.d a.wanted.now.system.work.now a.wanted.now.system.chart.now p c.if-left-eq0.false c.in-Some.cell found.0 (λ e. omega (arith, found.0, found.1, cells)) top.result top.ensures,
       ),
     )
 
@@ -88,7 +88,7 @@ choose-returns-clause-found t c = λ w uncovered copies g s e h.
     let rest = c.try_rows in
     let old = emitted_of a.e a.wanted.now.last.now a.answers.now in
     let new = emitted_of rest.result a.wanted.now.last.now rest.new.answers in
-    found_rows a.system.now.d a.system.now.work.now a.system.now.chart.now (identified a.wanted.now) a.wanted.now.capacity s a.path.now old
+    found_rows a.wanted.now.system.d a.wanted.now.system.work.now a.wanted.now.system.chart.now (identified a.wanted.now) a.wanted.now.capacity s a.path.now old
     c.if-left-eq0.false c.in-Some.cell found.0 new (λ z. omega (arith, found.0, found.1, seek_cells s)) top.result top.ensures e rest.ensures.found g h
 
 -- ---- trying a column's rows
@@ -96,7 +96,7 @@ pub try_rows-returns-then-k-at-clause-found : goal.try_rows-returns-then-k-at-cl
 try_rows-returns-then-k-at-clause-found t c = λ w uncovered copies g s st e h.
     let a = c.args in
     let old = emitted_of a.e a.wanted.now.last.now a.answers.now in
-    found_head a.system.now.d a.system.now.work.now a.system.now.chart.now (identified a.wanted.now) a.wanted.now.capacity s a.path.now old a.at.cell a.k c.if-k-at.true g
+    found_head a.wanted.now.system.d a.wanted.now.system.work.now a.wanted.now.system.chart.now (identified a.wanted.now) a.wanted.now.capacity s a.path.now old a.at.cell a.k c.if-k-at.true g
 
 pub try_rows-row_of-r-requires : goal.try_rows-row_of-r-requires
 try_rows-row_of-r-requires t c = let p = c.requires.tryable in try_small p.seek p.stand c.if-k-at.false
@@ -105,7 +105,7 @@ pub try_rows-leads-requires : goal.try_rows-leads-requires
 try_rows-leads-requires t c =
     let a = c.args in
     let row = c.row_of-r in
-    row_below a.system.now.d a.system.now.work.now a.system.now.chart.now (stands a.system.now).lawful c.requires.ready.0 c.requires.tryable c.if-k-at.false
+    row_below a.wanted.now.system.d a.wanted.now.system.work.now a.wanted.now.system.chart.now (stands a.wanted.now.system).lawful c.requires.ready.0 c.requires.tryable c.if-k-at.false
     row.result row.ensures
 
 pub try_rows-below-passed-requires : goal.try_rows-below-passed-requires
@@ -119,7 +119,7 @@ try_rows-try_rows-requires t c =
     let kc = c.if-k-at.false in
     let next = c.below-passed in (
       omega (arith, c.decreases, try_less p.seek p.stand kc a.links.now refl next.result next.ensures),
-      (q, next_tryable a.system.now.d a.system.now.work.now a.system.now.chart.now (stands a.system.now).lawful q.0 p kc a.links.now refl next.result next.ensures a.path.now refl),
+      (q, next_tryable a.wanted.now.system.d a.wanted.now.system.work.now a.wanted.now.system.chart.now (stands a.wanted.now.system).lawful q.0 p kc a.links.now refl next.result next.ensures a.path.now refl),
     )
 
 pub try_rows-returns-then-not-leads-clause-found : goal.try_rows-returns-then-not-leads-clause-found
@@ -132,7 +132,7 @@ try_rows-returns-then-not-leads-clause-found t c = λ w uncovered copies g s st 
     let rest = c.try_rows in
     let old = emitted_of a.e a.wanted.now.last.now a.answers.now in
     let new = emitted_of rest.result a.wanted.now.last.now rest.new.answers in
-    found_passed a.system.now.d a.system.now.work.now a.system.now.chart.now (stands a.system.now).lawful q.0 c.requires.tryable c.if-k-at.false row.result row.ensures a.wanted.now.shown old q.1
+    found_passed a.wanted.now.system.d a.wanted.now.system.work.now a.wanted.now.system.chart.now (stands a.wanted.now.system).lawful q.0 c.requires.tryable c.if-k-at.false row.result row.ensures a.wanted.now.shown old q.1
     led.result (rw c.is_waiting.ensures at led.ensures) c.if-not-leads.true (identified a.wanted.now) a.wanted.now.capacity s st e next.result next.ensures new rest.ensures.found g h
 
 pub try_rows-row_cells-cells-requires : goal.try_rows-row_cells-cells-requires
@@ -146,8 +146,8 @@ try_rows-push-requires t c =
     let kc = c.if-k-at.false in
     let row = c.row_of-r in
     let size = c.row_cells-cells in (
-      path_room a.system.now.d a.system.now.work.now a.system.now.chart.now (stands a.system.now).lawful q.0 p kc size.result size.ensures,
-      omega (arith, row_bound a.system.now.d a.system.now.work.now a.system.now.chart.now (stands a.system.now).lawful q.0 p kc row.result row.ensures),
+      path_room a.wanted.now.system.d a.wanted.now.system.work.now a.wanted.now.system.chart.now (stands a.wanted.now.system).lawful q.0 p kc size.result size.ensures,
+      omega (arith, row_bound a.wanted.now.system.d a.wanted.now.system.work.now a.wanted.now.system.chart.now (stands a.wanted.now.system).lawful q.0 p kc row.result row.ensures),
     )
 
 pub try_rows-select_row-a-requires : goal.try_rows-select_row-a-requires
@@ -172,11 +172,11 @@ try_rows-choose-s-requires t c =
       omega (arith, c.decreases, try_sub p.seek p.stand kc size.result size.ensures),
       (
         (
-          longer_rows a.system.now.d a.system.now.work.now a.system.now.chart.now (stands a.system.now).lawful q.0 p kc size.result size.ensures row.result row.ensures path.new.self path.ensures,
+          longer_rows a.wanted.now.system.d a.wanted.now.system.work.now a.wanted.now.system.chart.now (stands a.wanted.now.system).lawful q.0 p kc size.result size.ensures row.result row.ensures path.new.self path.ensures,
           q.1,
           q.2,
         ),
-        row_choosable a.system.now.d a.system.now.work.now a.system.now.chart.now (stands a.system.now).lawful q.0 p kc size.result size.ensures row.result row.ensures path.new.self path.ensures
+        row_choosable a.wanted.now.system.d a.wanted.now.system.work.now a.wanted.now.system.chart.now (stands a.wanted.now.system).lawful q.0 p kc size.result size.ensures row.result row.ensures path.new.self path.ensures
             sel.new.self sel.ensures.done,
       ),
     )
@@ -207,7 +207,7 @@ try_rows-returns-then-s t c =
             s.new.links s.ensures.same.0 c.unselect_row.new.self c.unselect_row.ensures,
         c.pop.ensures a.path.now row.result (s.ensures.same.1 ∙ path.ensures),
       );
-      found = λ w uncovered copies g sk st e h. found_stop a.system.now.d a.system.now.work.now a.system.now.chart.now (stands a.system.now).lawful q.0 p kc
+      found = λ w uncovered copies g sk st e h. found_stop a.wanted.now.system.d a.wanted.now.system.work.now a.wanted.now.system.chart.now (stands a.wanted.now.system).lawful q.0 p kc
           size.result size.ensures row.result row.ensures path.new.self path.ensures sel.new.self sel.ensures.done
           (identified a.wanted.now) a.wanted.now.capacity sk st e old new s.ensures.found g h c.if-s.true;
     }
@@ -232,7 +232,7 @@ try_rows-try_rows-requires-2 t c =
       omega (arith, c.decreases, try_less p.seek p.stand kc links back next.result next.ensures),
       (
         (rw path q.0, q.1, omega (arith, q.2, s.auto.answers)),
-        next_tryable a.system.now.d a.system.now.work.now a.system.now.chart.now (stands a.system.now).lawful q.0 p kc links back next.result next.ensures c.pop.new.self path,
+        next_tryable a.wanted.now.system.d a.wanted.now.system.work.now a.wanted.now.system.chart.now (stands a.wanted.now.system).lawful q.0 p kc links back next.result next.ensures c.pop.new.self path,
       ),
     )
 
@@ -256,7 +256,7 @@ try_rows-returns t c =
     let new = emitted_of s.result a.wanted.now.last.now s.new.answers in
     let end = emitted_of rest.result a.wanted.now.last.now rest.new.answers in record {
       same = (rest.ensures.same.0 ∙ back, rest.ensures.same.1 ∙ path);
-      found = λ w uncovered copies g sk st e h. found_on a.system.now.d a.system.now.work.now a.system.now.chart.now (stands a.system.now).lawful q.0 p kc
+      found = λ w uncovered copies g sk st e h. found_on a.wanted.now.system.d a.wanted.now.system.work.now a.wanted.now.system.chart.now (stands a.wanted.now.system).lawful q.0 p kc
           size.result size.ensures row.result row.ensures c.push.new.self c.push.ensures sel.new.self sel.ensures.done
           (identified a.wanted.now) a.wanted.now.capacity sk st e old new s.ensures.found g h
           links back next.result next.ensures c.pop.new.self path end rest.ensures.found;

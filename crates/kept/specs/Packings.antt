@@ -5,7 +5,7 @@ use Rattle.rows.specs.Systems.{System}
 use Rattle.kept.specs.Normal.{of_kind}
 use Rattle.rows.specs.declared.Dims.{Dims}
 
--- these are rows, and no more than a packing has
+-- these are rows, and no more than a packing has. (In no type: the numbers are lent by one, and the system in which they are rows by another.)
 pub record AreRows (d : Dims) (rows : List ℕ) : Type 0 where
   pub few : length rows ≤ 128
   pub are_rows : T (all (λ r. ltb r d.rows) rows)
