@@ -397,9 +397,6 @@ module _ {t : Matrix} (law : LawfulMatrix t) where
         count = p.count;
       }
 
-  pub headed_none : {m : List ℕ} → Fields t m → Headed t 0 m
-  headed_none f = record { fields = f; ups = λ j l. absurd (omega arith); downs = λ j l. absurd (omega arith); none = λ j l. absurd (omega arith) }
-
 pub link_last_still : {m : List ℕ} {x : ℕ} → Joinable m x → (k : ℕ) → Still k → get_or (link_last m x) k 0 ≡ get_or m k 0
 unfolding link_last
 link_last_still {m} {x} j k h =

@@ -109,9 +109,6 @@ module _ (w : Reduced) {m₀ : List ℕ} (s : Holds w m₀) {a b : ℕ} (r : Run
   unfolding run_to
   running_start = record { low = omega arith; high = r.order; so = ap (λ (n : ℕ). run_to w a m₀ n) (let z : 0 ≡ a - a = omega arith in z) }
 
-  pub ran_start : {m : List ℕ} → m ≡ run_to w a m₀ (b - a) → Running w a b m₀ m b
-  ran_start e = record { low = r.order; high = omega arith; so = e }
-
   module _ {m : List ℕ} {y : ℕ} (v : Running w a b m₀ m y) where
     pub ran_end : y ≤ a → m ≡ m₀
     unfolding run_to

@@ -2,13 +2,10 @@
 use Prim.Native.Nat.{ℕ}
 use native.Mathlib.Omega.{arith}
 use native.Mathlib.Numerals.{add-one}
-use mathlib.Core.Path.{refl, ◌∙◌, subst}
+use mathlib.Core.Path.{◌∙◌, subst}
 use Rattle.links.specs.Build.{Partial}
 use Rattle.links.proofs.Build.{partial_joinable, partial_next, link_last_still}
 use Rattle.links.proofs.steps.link_nodes.Goals as goal
-
-pub loop-x-init : goal.loop-x-init
-loop-x-init c = (let p = c.requires in omega (arith, p.law.some, p.c_is, p.n_is), λ t law q e g. q, λ k h. refl)
 
 pub link_last-requires : goal.link_last-requires
 link_last-requires c =

@@ -1,9 +1,6 @@
 -- `unpurge_run` meets its contract: after each turn the columns of the nodes before y are still covered, and no others. Assumes nothing.
-use Rattle.links.proofs.Select.{ran_start, ran_covered, ran_next, ran_end}
+use Rattle.links.proofs.Select.{ran_covered, ran_next, ran_end}
 use Rattle.links.proofs.steps.unpurge_run.Goals as goal
-
-pub loop-y-init : goal.loop-y-init
-loop-y-init c = λ w m s r q. ran_start w s r q
 
 pub unpurge_column-requires : goal.unpurge_column-requires
 unpurge_column-requires c =
