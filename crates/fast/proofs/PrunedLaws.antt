@@ -9,6 +9,7 @@ use borrow.Author.Tests.{ltb-true, lt-ltb, le-ltb, le-leb, lt-leb, eq-eqb, ne_eq
 use lib.Dec.{ltb, leb, eqb, lt→ltb}
 use lib.ListN.{length, get_or, take, set}
 use Rattle.lists.specs.Lists.{all, any, below, from, keep, each}
+use Rattle.lists.proofs.CountLaws.{at_most_sum}
 use Rattle.lists.proofs.TestLaws.{and_both}
 use Rattle.lists.proofs.ListLaws.{any_map, any_same, all_same, keep_fails}
 use Rattle.lists.proofs.RangeLaws.{from-end, from_next, from_at, below_at, get_or_of}
@@ -32,10 +33,11 @@ use Rattle.kept.specs.Entries.{entries}
 use Rattle.fast.specs.Searching.{Searching, fast_below, state_by}
 use Rattle.fast.specs.Pruned.{moved_before, always_mirrorable_by, pruned_by, first_rows, fast_first}
 use Rattle.rows.specs.declared.Dims.{Dims}
-use Rattle.rows.proofs.ReadyLaws.{kinds_many, rows_many, rows_kinds}
+use Rattle.rows.proofs.ReadyLaws.{kinds_many, row_kind, rows_many, rows_kinds}
 use Rattle.kept.proofs.ReadyLaws.{row_is, image_is}
 use Rattle.kept.proofs.NormalRowLaws.{row_of_in}
 use Rattle.fast.proofs.SearchingLaws.{fits, fits_possible, child_state, child_searching}
+use Rattle.fast.proofs.StateLaws.{Chosen}
 use Rattle.fast.proofs.UnmetLaws.{untried, unmet}
 use Rattle.fast.proofs.ChoiceLaws.{entries_append}
 use Rattle.rows.specs.declared.chart.Chart.{Chart}
@@ -243,7 +245,7 @@ nothing_has : (p : ℕ) → has nothing_covered p ≡ false
 unfolding nothing
 nothing_has p = ap (λ (f : ℕ → Bool). f p) hit2_zero
 
-module _ (d : Dims) (work : List ℕ) (chart : Chart) (ready : Ready d work chart) (r : ℕ) (h : r < d.rows) where
+module _ {d : Dims} {work : List ℕ} {chart : Chart} (ready : Ready d work chart) {r : ℕ} (h : r < d.rows) where
   abbrev sys : System
   sys = system_in d work chart
 
@@ -260,6 +262,16 @@ module _ (d : Dims) (work : List ℕ) (chart : Chart) (ready : Ready d work char
   module _ (kind : (row_at work r).kind ≡ 0) where
     pub first_kind : (row_of (system_in d work chart) r).kind ≡ 0
     first_kind = ap (λ (q : Placement). q.kind) at_row ∙ kind
+
+    -- no more than 128 copies of it are left
+    pub first_few : (left₀ : List ℕ) → Searching (system_in d work chart) left₀ nothing_covered [] → get_or left₀ 0 0 ≤ 128
+    first_few left₀ all =
+        let m = kinds_many d work chart in
+        let k = row_kind d work chart ready.lawful r h in
+        let t = all.taken 0 (omega arith) in
+        let s = at_most_sum (system_in d work chart).copies 0 in
+        let f = ready.lawful.few_copies in
+        omega arith
 
     in_rows : r < length sys.rows
     in_rows = let e = rows_many d work chart in omega arith
@@ -301,21 +313,20 @@ module _ (d : Dims) (work : List ℕ) (chart : Chart) (ready : Ready d work char
             (untried (not (pruned_by sys i r)) x.waiting (shows_row (owned_in chart.pieces d.pieces) shown (row_at work r)) f)
 
     -- the copies and the rows with it chosen
-    module _ (left₀ placed rs : List ℕ) (left_is : placed ≡ set left₀ 0 (get_or left₀ 0 0 - 1)) (rows_are : rs ≡ r ∷ []) where
+    module _ {left₀ placed rs : List ℕ} (z : Chosen left₀ [] 0 r placed rs) where
       pub first_rows_are : AreRows d rs
       first_rows_are =
           record {
-            few = let e = ap length rows_are in omega arith;
-            are_rows = rw rows_are (and_both (ltb r d.rows) true (lt→ltb r d.rows h) tt);
+            few = let e = ap length z.rows_are in omega arith;
+            are_rows = rw z.rows_are (and_both (ltb r d.rows) true (lt→ltb r d.rows h) tt);
           }
 
-      module _ (mask : Mask) (m : mask ≡ mask_at work r) where
-        pub first_state : state_by (system_in d work chart) placed mask rs
-            ≡ choose (state_by (system_in d work chart) left₀ nothing_covered []) (row_of (system_in d work chart) r)
+      module _ {mask : Mask} (m : mask ≡ mask_at work r) where
+        first_state : state_by sys placed mask rs ≡ choose (state_by sys left₀ nothing_covered []) (row_of sys r)
         first_state =
-            ap (λ (l : List ℕ). state_by sys l mask rs) left_is
+            ap (λ (l : List ℕ). state_by sys l mask rs) z.left_is
             ∙ ap (λ (x : Mask). state_by sys (set left₀ 0 (get_or left₀ 0 0 - 1)) x rs) m
-            ∙ ap (state_by sys (set left₀ 0 (get_or left₀ 0 0 - 1)) (mask_at work r)) rows_are
+            ∙ ap (state_by sys (set left₀ 0 (get_or left₀ 0 0 - 1)) (mask_at work r)) z.rows_are
             ∙ ap (λ (k : ℕ). state_by sys (set left₀ k (get_or left₀ k 0 - 1)) (mask_at work r) (r ∷ [])) (sym first_kind)
             ∙ child_state sys ready.lawful left₀ nothing_covered (mask_at work r) [] r in_rows row_mask (mask_at work r) (with_nothing (mask_at work r))
 
@@ -324,9 +335,18 @@ module _ (d : Dims) (work : List ℕ) (chart : Chart) (ready : Ready d work char
         first_searching all some =
             let law = ready.lawful.row (row_of sys r) (row_of_in sys r in_rows) in
             let p = (row_of sys r).p in
-            subst (λ (l : List ℕ). Searching sys l mask rs) (sym left_is)
+            subst (λ (l : List ℕ). Searching sys l mask rs) (sym z.left_is)
             (subst (λ (x : Mask). Searching sys (set left₀ 0 (get_or left₀ 0 0 - 1)) x rs) (sym m)
-            (subst (Searching sys (set left₀ 0 (get_or left₀ 0 0 - 1)) (mask_at work r)) (sym rows_are)
+            (subst (Searching sys (set left₀ 0 (get_or left₀ 0 0 - 1)) (mask_at work r)) (sym z.rows_are)
             (subst (λ (k : ℕ). Searching sys (set left₀ k (get_or left₀ k 0 - 1)) (mask_at work r) (r ∷ [])) first_kind
             (child_searching sys ready.lawful left₀ nothing_covered (mask_at work r) [] r in_rows row_mask (mask_at work r) (with_nothing (mask_at work r))
             p refl (nothing_has p) (law.on_board p law.covers_p) all (fits_first left₀ some)))))
+
+        -- its search emits what is listed below it, and what is left to list is that of the rows behind
+        pub first_turns : (i : Identify) (capacity : ℕ) (x y whole : Emitted) → pruned_by (system_in d work chart) i r ≡ false
+            → y ≡ emits capacity (fast_below (system_in d work chart) i (state_by (system_in d work chart) placed mask rs)) x
+            → emits capacity (first_from (system_in d work chart) i (state_by (system_in d work chart) left₀ nothing_covered []) d.rows r) x ≡ whole
+            → emits capacity (first_from (system_in d work chart) i (state_by (system_in d work chart) left₀ nothing_covered []) d.rows (r + 1)) y ≡ whole
+        first_turns i capacity x y whole pruned page e =
+            first_emitted sys i (state_by sys left₀ nothing_covered []) d.rows r capacity x whole y h first_kind pruned
+            (page ∙ ap (λ (u : State). emits capacity (fast_below sys i u) x) first_state) e

@@ -36,6 +36,7 @@ use Rattle.rows.proofs.ReadyLaws as laws
 use Rattle.kept.proofs.ReadyLaws as numbers
 use Rattle.fast.proofs.SearchingLaws.{goes_same, fits, fits_apart, first_uncovered, none_uncovered, some_uncovered, fits_possible, child_state, child_less}
 use Rattle.fast.proofs.SearchingLaws.{child_searching}
+use Rattle.fast.proofs.StateLaws.{Chosen}
 use Rattle.fast.proofs.UnmetLaws.{untried, unmet}
 use Rattle.rows.specs.declared.chart.Chart.{Chart}
 
@@ -411,7 +412,7 @@ module _ {d : Dims} {work : List ℕ} {chart : Chart} {left rs : List ℕ} {cove
   fit₀ : fits left covered (mask_at work r) (row_at work r).kind ≡ true
   fit₀ = fits_apart left covered (mask_at work r) (row_at work r).kind (subst (λ (j : ℕ). 0 < get_or left j 0) y.kind y.some) ∙ y.clear
 
-  module _ (more m : Mask) (is-mask : m ≡ mask_at work r) (union : has more ≡ either (has covered) (has m)) where
+  module _ (more : Mask) {m : Mask} (is-mask : m ≡ mask_at work r) (union : has more ≡ either (has covered) (has m)) where
     union_is : has more ≡ either (has covered) (has (mask_at work r))
     union_is = union ∙ ap (λ (z : Mask). either (has covered) (has z)) is-mask
 
@@ -419,18 +420,18 @@ module _ {d : Dims} {work : List ℕ} {chart : Chart} {left rs : List ℕ} {cove
     place_falls = call_less x r y.row y.at fit₀ more union_is
 
     -- the copies and the rows with it chosen
-    module _ (left' rs' : List ℕ) (l : left' ≡ set left k (get_or left k 0 - 1)) (p : rs' ≡ rs ++ (r ∷ [])) where
+    module _ {left' rs' : List ℕ} (z : Chosen left rs k r left' rs') where
       left_is : left' ≡ set left (row_at work r).kind (get_or left (row_at work r).kind 0 - 1)
-      left_is = l ∙ ap (λ (j : ℕ). set left j (get_or left j 0 - 1)) y.kind
+      left_is = z.left_is ∙ ap (λ (j : ℕ). set left j (get_or left j 0 - 1)) y.kind
 
       pub place_searching : Searching (system_in d work chart) left' more rs'
-      place_searching = call_searching x r y.row y.at fit₀ more union_is left' rs' left_is p
+      place_searching = call_searching x r y.row y.at fit₀ more union_is left' rs' left_is z.rows_are
 
       pub place_rows : AreRows d rs'
-      place_rows = call_rows x r y.row y.at fit₀ more union_is left' rs' left_is p
+      place_rows = call_rows x r y.row y.at fit₀ more union_is left' rs' left_is z.rows_are
 
       pub place_turns : (i : Identify) (capacity : ℕ) (e e' whole : Emitted)
           → e' ≡ emits capacity (fast_below (system_in d work chart) i (state_by (system_in d work chart) left' more rs')) e
           → emits capacity (choices_from (system_in d work chart) i (state_by (system_in d work chart) left covered rs) r) e ≡ whole
           → emits capacity (choices_from (system_in d work chart) i (state_by (system_in d work chart) left covered rs) (r + 1)) e' ≡ whole
-      place_turns = turn x r y.row y.at fit₀ more union_is left' rs' left_is p
+      place_turns = turn x r y.row y.at fit₀ more union_is left' rs' left_is z.rows_are

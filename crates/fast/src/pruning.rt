@@ -1,5 +1,5 @@
 // Kind 0 first (`use_pre_pruning`): a row of kind 0 that an allowed map takes onto one before it starts no packing that is kept.
-ghost use Rattle.std.specs.Prelude.{◌&&◌, ◌||◌, not, [], ◌≡◌, ◌+◌, ◌*◌, ◌-◌, ◌≤◌, ◌<◌, leb, ltb, get_or, length, take};
+ghost use Rattle.std.specs.Prelude.{◌&&◌, ◌||◌, not, [], ◌≡◌, ◌+◌, ◌*◌, ◌-◌, ◌≤◌, ◌<◌, ltb, get_or, length};
 ghost use Rattle.lists.specs.Lists.{any, from};
 ghost use Rattle.definitions.specs.Emission.{emits};
 ghost use Rattle.definitions.specs.Starts.{waits_at};

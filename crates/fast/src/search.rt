@@ -1,5 +1,5 @@
 // The search: the first uncovered cell is covered in each way that is still possible.
-ghost use Rattle.std.specs.Prelude.{◌&&◌, ◌||◌, not, [], ◌≡◌, ◌+◌, ◌*◌, ◌-◌, ◌≤◌, ◌<◌, get_or, length, set, take};
+ghost use Rattle.std.specs.Prelude.{◌&&◌, ◌||◌, not, [], ◌≡◌, ◌+◌, ◌*◌, ◌-◌, ◌≤◌, ◌<◌, get_or, length, set};
 ghost use Rattle.lists.specs.Lists.{any, from};
 ghost use Rattle.definitions.specs.Emission.{emits};
 ghost use Rattle.definitions.specs.Starts.{waits_at};
