@@ -1,6 +1,6 @@
 -- `list_over` meets its contract: a search begins with all copies left and nothing covered, and what it emits is Fast's list, with kind 0 first or not. Assumes
 -- nothing.
-use Rattle.std.proofs.Common.{ℕ, List, [], ◌≡◌, sym, ap, ◌∙◌, subst, arith}
+use Rattle.std.proofs.Common.{ℕ, List, [], ◌≡◌, sym, ap, ◌∙◌, arith}
 use Rattle.definitions.specs.Emission.{Listed, emits}
 use Rattle.masks.specs.Masks.{has, nothing}
 use Rattle.masks.specs.declared.Mask.{Mask}

@@ -1,12 +1,10 @@
 -- `search_first` meets its contract: what the rows of kind 0 from r on list, behind what is on the page, is the whole; each row is searched as the
 -- definition chooses it, and its copy is put back. Assumes nothing.
-use Rattle.std.proofs.Common.{ℕ, Bool, List, [], ◌∷◌, ◌++◌, ◌+◌, ◌-◌, ◌≤◌, ◌<◌, ◌≡◌, ◌&&◌, ◌||◌, not, true, false, refl, sym, ap, ap₂, ◌∙◌, subst, length, get_or, set, arith}
+use Rattle.std.proofs.Common.{ℕ, List, [], ◌+◌, ◌<◌, ◌≡◌, true, false, refl, sym, ap, ap₂, ◌∙◌, subst, length, get_or, arith}
 use borrow.Author.Tests.{not-true}
 use Rattle.lists.proofs.TestLaws.{and_true_left}
 use Rattle.definitions.specs.Emission.{Emitted, Listed, emits}
 use Rattle.rows.specs.Rows.{row_at}
-use Rattle.rows.specs.Shown.{shows_row}
-use Rattle.rows.specs.Systems.{owned_in}
 use Rattle.rows.proofs.ReadyLaws.{few-rows, rows_many}
 use Rattle.rows.proofs.StandingLaws.{stands}
 use Rattle.rows.specs.RowSystems.{seen}

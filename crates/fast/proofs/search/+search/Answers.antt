@@ -1,26 +1,22 @@
 -- The proof of the cycle of calls {search}: a turn of the inner loop is a choice of the definition's search, and what is left of the choices makes the whole;
 -- the outer loop passes what is no choice. The measure is the number of uncovered cells. Assumes nothing.
-use Rattle.std.proofs.Common.{ℕ, Bool, true, not, ◌&&◌, ◌||◌, List, [], ◌∷◌, ◌++◌, ◌+◌, ◌-◌, ◌*◌, ◌≤◌, ◌<◌, ◌≡◌, refl, sym, ap, ap₂, ◌∙◌, subst, length, get_or, set, arith}
+use Rattle.std.proofs.Common.{ℕ, Bool, true, not, ◌&&◌, ◌||◌, List, [], ◌+◌, ◌*◌, ◌≤◌, ◌<◌, ◌≡◌, refl, sym, ap, ap₂, ◌∙◌, subst, length, get_or, arith}
 use Rattle.lists.proofs.TestLaws.{and_true_left}
 use Rattle.definitions.specs.Emission.{Emitted, emits}
 use Rattle.definitions.specs.Orders.{choose}
 use Rattle.definitions.specs.Starts.{waits_at}
 use Rattle.theorems.proofs.EmissionLaws.{emits_done}
-use Rattle.masks.specs.Masks.{has, apart, FirstOpen}
-use Rattle.masks.specs.declared.Mask.{Mask}
+use Rattle.masks.specs.Masks.{has, apart}
 use Rattle.rows.specs.Rows.{mask_at, row_at}
 use Rattle.rows.specs.Shown.{shows_row}
 use Rattle.rows.specs.Ranges.{start_of}
-use Rattle.rows.specs.Systems.{owned_in, system_in}
-use Rattle.rows.specs.declared.Dims.{Dims}
+use Rattle.rows.specs.Systems.{owned_in}
 use Rattle.rows.proofs.StandingLaws.{stands}
 use Rattle.rows.specs.RowSystems.{seen}
 use Rattle.kept.specs.Emission.{emit_kept, emitted_of}
 use Rattle.kept.specs.Wanted.{identified}
-use Rattle.rows.specs.Ready.{Ready}
-use Rattle.kept.specs.Packings.{AreRows}
 use Rattle.kept.specs.declared.emission.Emission.{Emission}
-use Rattle.fast.specs.Searching.{Searching, uncovered, state_by, goes_on}
+use Rattle.fast.specs.Searching.{uncovered, state_by, goes_on}
 use Rattle.fast.specs.declared.state.State.{State}
 use Rattle.fast.proofs.ChoiceLaws.{choices_from}
 use Rattle.fast.proofs.StateLaws.{chosen, to_put_back, is_back}
@@ -30,7 +26,6 @@ use Rattle.fast.proofs.TurnLaws.{place_falls, place_searching, place_rows, place
 use Rattle.fast.proofs.search.+search.Goals as goal
 use Rattle.fast.proofs.search.+search.Goals.{After-next_open-c, In-loop-r}
 use Rattle.fast.proofs.search.+search.Goals.{then-is_tried+else-s, else-is_tried, then-left_of-gt0+else-loop-r-test, else-left_of-gt0}
-use Rattle.rows.specs.declared.chart.Chart.{Chart}
 
 -- a cell is left, and the first that is
 opened : (t : ℕ) (c : After-next_open-c t) → c.next_open-c.result < c.args.wanted.now.system.d.size
