@@ -1,7 +1,4 @@
 -- `build_links` meets its contract: heads, copies and rows make the system's matrix, and `link_all` links it. Assumes nothing.
-use Prim.Native.Nat.{ℕ, ◌≤◌}
-use mathlib.Core.List.{List}
-use native.Mathlib.Omega.{arith}
 use Rattle.rows.proofs.StandingLaws.{stands}
 use Rattle.knuth.proofs.BuildingLaws.{posed, begun}
 use Rattle.knuth.proofs.building.build_links.Goals as goal

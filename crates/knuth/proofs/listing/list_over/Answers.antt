@@ -14,24 +14,20 @@ use Rattle.knuth.proofs.listing.list_over.Goals as goal
 -- every row is possible, and none is chosen
 pub choose-requires : goal.choose-requires
 choose-requires c =
-    let a = c.args in
+    let y = c.args.wanted.now.system in
     record {
-      ready = (
-        rw c.new-path.ensures (record { few = omega arith; are_rows = tt }),
-        c.requires.wanted.0,
-        c.requires.wanted.1,
-      );
-      choosable = rw c.new-path.ensures (choosable a.wanted.now.system.d a.wanted.now.system.work.now a.wanted.now.system.chart.now c.build_links.new.links c.build_links.ensures);
+      ready = (rw c.new-path.ensures (record { few = omega arith; are_rows = tt }), c.requires.room);
+      choosable = rw c.new-path.ensures (choosable y.d y.work.now y.chart.now c.build_links.new.links c.build_links.ensures);
     }
 
 pub returns : goal.returns
 returns c =
-    let a = c.args in
-    let S = system_in a.wanted.now.system.d a.wanted.now.system.work.now a.wanted.now.system.chart.now in
-    let w = a.wanted.now in
+    let w = c.args.wanted.now in
+    let y = w.system in
+    let S = system_in y.d y.work.now y.chart.now in
     let links = c.build_links.new.links in
     let b = c.build_links.ensures in
-    let old = emitted_of a.e w.last.now a.answers.now in
-    rw (← lists a.wanted.now.system.d a.wanted.now.system.work.now a.wanted.now.system.chart.now links b (stands a.wanted.now.system).lawful (identified w) w.capacity old)
-    (rw c.new-path.ensures at (c.choose.ensures.found (whole (matrix_of S) b.law) every_column b.copies (a.wanted.now.system.d.size + 1)
-    (begins a.wanted.now.system.d a.wanted.now.system.work.now a.wanted.now.system.chart.now links b) refl (omega arith)))
+    let old = emitted_of c.args.e w.last.now c.args.answers.now in
+    rw (← lists y.d y.work.now y.chart.now links b (stands y).lawful (identified w) w.capacity old)
+    (rw c.new-path.ensures at (c.choose.ensures.found (whole (matrix_of S) b.law) every_column b.copies (y.d.size + 1)
+    (begins y.d y.work.now y.chart.now links b) refl (omega arith)))

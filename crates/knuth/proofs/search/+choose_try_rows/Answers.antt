@@ -9,6 +9,7 @@ use Rattle.links.specs.Search.{has_row, pivot}
 use Rattle.links.proofs.Tally.{counted}
 use Rattle.links.proofs.Search.{seek_cells, try_small, try_sized, try_selectable, try_sub, try_selected, try_back, try_less, try_below}
 use Rattle.rows.proofs.StandingLaws.{stands}
+use Rattle.kept.proofs.WantedLaws.{leads_while}
 use Rattle.knuth.proofs.CycleStepLaws.{of_seek, leaf_fills, column_tryable, path_room, row_below, row_bound, longer_rows, row_choosable}
 use Rattle.knuth.proofs.CycleStepLaws.{next_tryable, found_leaf, found_few, found_none, found_rows, found_head, found_stop, found_on, found_passed}
 use Rattle.knuth.proofs.search.+choose_try_rows.Goals as goal
@@ -17,86 +18,96 @@ use Rattle.knuth.proofs.search.+choose_try_rows.Goals as goal
 pub choose-emit_kept-requires : goal.choose-emit_kept-requires
 choose-emit_kept-requires t c =
     let a = c.args in
+    let y = a.wanted.now.system in
     let q = c.requires.ready in
-    (rw c.rows.ensures q.0, rw c.rows.ensures (leaf_fills a.wanted.now.system.d a.wanted.now.system.work.now a.wanted.now.system.chart.now c.requires.choosable), q.2)
+    (rw c.rows.ensures q.0, rw c.rows.ensures (leaf_fills y.d y.work.now y.chart.now c.requires.choosable), q.1)
 
 pub choose-returns-then-left-eq0 : goal.choose-returns-then-left-eq0
 choose-returns-then-left-eq0 t c =
     let a = c.args in
-    let S = system_in a.wanted.now.system.d a.wanted.now.system.work.now a.wanted.now.system.chart.now in
+    let y = a.wanted.now.system in
+    let S = system_in y.d y.work.now y.chart.now in
     let put = c.emit_kept in
     let old = emitted_of a.e a.wanted.now.last.now a.answers.now in
     let new = emitted_of put.result a.wanted.now.last.now put.new.answers in record {
       same = (refl, refl);
-      found = λ w uncovered copies g s e h. found_leaf a.wanted.now.system.d a.wanted.now.system.work.now a.wanted.now.system.chart.now (identified a.wanted.now) a.wanted.now.capacity s a.path.now old new g h
+      found = λ w uncovered copies g s e h. found_leaf y.d y.work.now y.chart.now (identified a.wanted.now) a.wanted.now.capacity s a.path.now old new g h
           c.if-left-eq0.true (put.ensures ∙ ap (λ rs. emit_kept S (identified a.wanted.now) a.wanted.now.capacity rs old) c.rows.ensures);
     }
 
 pub choose-open_columns-requires : goal.choose-open_columns-requires
 choose-open_columns-requires t c =
     let a = c.args in
-    seek_cells (of_seek a.wanted.now.system.d a.wanted.now.system.work.now a.wanted.now.system.chart.now c.requires.choosable.seek)
+    let y = a.wanted.now.system in
+    seek_cells (of_seek y.d y.work.now y.chart.now c.requires.choosable.seek)
 
 pub choose-returns-then-open_columns-left : goal.choose-returns-then-open_columns-left
 choose-returns-then-open_columns-left t c =
     let a = c.args in
+    let y = a.wanted.now.system in
     let rows = c.open_columns in
     let old = emitted_of a.e a.wanted.now.last.now a.answers.now in record {
       same = (refl, refl);
-      found = λ w uncovered copies g s e h. found_few a.wanted.now.system.d a.wanted.now.system.work.now a.wanted.now.system.chart.now (identified a.wanted.now) a.wanted.now.capacity s a.path.now old
-          (omega (arith, rows.ensures ∙ counted (has_row a.links.now) a.wanted.now.system.d.size, c.if-open_columns-left.true)) g;
+      found = λ w uncovered copies g s e h. found_few y.d y.work.now y.chart.now (identified a.wanted.now) a.wanted.now.capacity s a.path.now old
+          (omega (arith, rows.ensures ∙ counted (has_row a.links.now) y.d.size, c.if-open_columns-left.true)) g;
     }
 
 pub choose-choose_column-requires : goal.choose-choose_column-requires
 choose-choose_column-requires t c =
     let a = c.args in
-    seek_cells (of_seek a.wanted.now.system.d a.wanted.now.system.work.now a.wanted.now.system.chart.now c.requires.choosable.seek)
+    let y = a.wanted.now.system in
+    seek_cells (of_seek y.d y.work.now y.chart.now c.requires.choosable.seek)
 
 pub choose-returns-in_default-clause-found : goal.choose-returns-in_default-clause-found
 choose-returns-in_default-clause-found t c = λ w uncovered copies g s e h.
     let a = c.args in
+    let y = a.wanted.now.system in
     let old = emitted_of a.e a.wanted.now.last.now a.answers.now in
-    found_none a.wanted.now.system.d a.wanted.now.system.work.now a.wanted.now.system.chart.now (identified a.wanted.now) a.wanted.now.capacity s a.path.now old
-    c.if-left-eq0.false (pivot (size_of a.links.now) a.wanted.now.system.d.size) refl c.in_default.ensures g h
+    found_none y.d y.work.now y.chart.now (identified a.wanted.now) a.wanted.now.capacity s a.path.now old
+    c.if-left-eq0.false (pivot (size_of a.links.now) y.d.size) refl c.in_default.ensures g h
 
 -- the cell that is found, as a column that `pivot` found
 pub choose-below-k-requires : goal.choose-below-k-requires
 choose-below-k-requires t c =
     let a = c.args in
+    let y = a.wanted.now.system in
     let found = c.in-Some.ensures in
-    omega (arith, found.0, found.1, seek_cells (of_seek a.wanted.now.system.d a.wanted.now.system.work.now a.wanted.now.system.chart.now c.requires.choosable.seek))
+    omega (arith, found.0, found.1, seek_cells (of_seek y.d y.work.now y.chart.now c.requires.choosable.seek))
 
 pub choose-try_rows-requires : goal.choose-try_rows-requires
 choose-try_rows-requires t c =
     let a = c.args in
+    let y = a.wanted.now.system in
     let found = c.in-Some.ensures in
     let p = c.requires.choosable in
-    let cells = seek_cells (of_seek a.wanted.now.system.d a.wanted.now.system.work.now a.wanted.now.system.chart.now p.seek) in
+    let cells = seek_cells (of_seek y.d y.work.now y.chart.now p.seek) in
     let top = c.below-k in (
       rw (← c.decreases) (try_below a.left top.result c.in-Some.cell),
       (
         c.requires.ready,
-        column_tryable a.wanted.now.system.d a.wanted.now.system.work.now a.wanted.now.system.chart.now p c.if-left-eq0.false c.in-Some.cell found.0 (λ e. omega (arith, found.0, found.1, cells)) top.result top.ensures,
+        column_tryable y.d y.work.now y.chart.now p c.if-left-eq0.false c.in-Some.cell found.0 (λ e. omega (arith, found.0, found.1, cells)) top.result top.ensures,
       ),
     )
 
 pub choose-returns-clause-found : goal.choose-returns-clause-found
 choose-returns-clause-found t c = λ w uncovered copies g s e h.
     let a = c.args in
+    let y = a.wanted.now.system in
     let found = c.in-Some.ensures in
     let top = c.below-k in
     let rest = c.try_rows in
     let old = emitted_of a.e a.wanted.now.last.now a.answers.now in
     let new = emitted_of rest.result a.wanted.now.last.now rest.new.answers in
-    found_rows a.wanted.now.system.d a.wanted.now.system.work.now a.wanted.now.system.chart.now (identified a.wanted.now) a.wanted.now.capacity s a.path.now old
+    found_rows y.d y.work.now y.chart.now (identified a.wanted.now) a.wanted.now.capacity s a.path.now old
     c.if-left-eq0.false c.in-Some.cell found.0 new (λ z. omega (arith, found.0, found.1, seek_cells s)) top.result top.ensures e rest.ensures.found g h
 
 -- ---- trying a column's rows
 pub try_rows-returns-then-k-at-clause-found : goal.try_rows-returns-then-k-at-clause-found
 try_rows-returns-then-k-at-clause-found t c = λ w uncovered copies g s st e h.
     let a = c.args in
+    let y = a.wanted.now.system in
     let old = emitted_of a.e a.wanted.now.last.now a.answers.now in
-    found_head a.wanted.now.system.d a.wanted.now.system.work.now a.wanted.now.system.chart.now (identified a.wanted.now) a.wanted.now.capacity s a.path.now old a.at.cell a.k c.if-k-at.true g
+    found_head y.d y.work.now y.chart.now (identified a.wanted.now) a.wanted.now.capacity s a.path.now old a.at.cell a.k c.if-k-at.true g
 
 pub try_rows-row_of-r-requires : goal.try_rows-row_of-r-requires
 try_rows-row_of-r-requires t c = let p = c.requires.tryable in try_small p.seek p.stand c.if-k-at.false
@@ -104,8 +115,9 @@ try_rows-row_of-r-requires t c = let p = c.requires.tryable in try_small p.seek 
 pub try_rows-leads-requires : goal.try_rows-leads-requires
 try_rows-leads-requires t c =
     let a = c.args in
+    let y = a.wanted.now.system in
     let row = c.row_of-r in
-    row_below a.wanted.now.system.d a.wanted.now.system.work.now a.wanted.now.system.chart.now (stands a.wanted.now.system).lawful c.requires.ready.0 c.requires.tryable c.if-k-at.false
+    row_below y.d y.work.now y.chart.now (stands y).lawful c.requires.ready.0 c.requires.tryable c.if-k-at.false
     row.result row.ensures
 
 pub try_rows-below-passed-requires : goal.try_rows-below-passed-requires
@@ -114,17 +126,19 @@ try_rows-below-passed-requires t c = let p = c.requires.tryable in try_small p.s
 pub try_rows-try_rows-requires : goal.try_rows-try_rows-requires
 try_rows-try_rows-requires t c =
     let a = c.args in
+    let y = a.wanted.now.system in
     let q = c.requires.ready in
     let p = c.requires.tryable in
     let kc = c.if-k-at.false in
     let next = c.below-passed in (
       omega (arith, c.decreases, try_less p.seek p.stand kc a.links.now refl next.result next.ensures),
-      (q, next_tryable a.wanted.now.system.d a.wanted.now.system.work.now a.wanted.now.system.chart.now (stands a.wanted.now.system).lawful q.0 p kc a.links.now refl next.result next.ensures a.path.now refl),
+      (q, next_tryable y.d y.work.now y.chart.now (stands y).lawful q.0 p kc a.links.now refl next.result next.ensures a.path.now refl),
     )
 
 pub try_rows-returns-then-not-leads-clause-found : goal.try_rows-returns-then-not-leads-clause-found
 try_rows-returns-then-not-leads-clause-found t c = λ w uncovered copies g s st e h.
     let a = c.args in
+    let y = a.wanted.now.system in
     let q = c.requires.ready in
     let row = c.row_of-r in
     let led = c.leads in
@@ -132,8 +146,8 @@ try_rows-returns-then-not-leads-clause-found t c = λ w uncovered copies g s st 
     let rest = c.try_rows in
     let old = emitted_of a.e a.wanted.now.last.now a.answers.now in
     let new = emitted_of rest.result a.wanted.now.last.now rest.new.answers in
-    found_passed a.wanted.now.system.d a.wanted.now.system.work.now a.wanted.now.system.chart.now (stands a.wanted.now.system).lawful q.0 c.requires.tryable c.if-k-at.false row.result row.ensures a.wanted.now.shown old q.1
-    led.result (rw c.is_waiting.ensures at led.ensures) c.if-not-leads.true (identified a.wanted.now) a.wanted.now.capacity s st e next.result next.ensures new rest.ensures.found g h
+    found_passed y.d y.work.now y.chart.now (stands y).lawful q.0 c.requires.tryable c.if-k-at.false row.result row.ensures a.wanted.now.shown old a.wanted.now.last_shown
+    led.result (led.ensures ∙ leads_while _ _ _ _ _ c.shown_while.ensures) c.if-not-leads.true (identified a.wanted.now) a.wanted.now.capacity s st e next.result next.ensures new rest.ensures.found g h
 
 pub try_rows-row_cells-cells-requires : goal.try_rows-row_cells-cells-requires
 try_rows-row_cells-cells-requires t c = let p = c.requires.tryable in try_sized p.seek p.stand c.if-k-at.false
@@ -141,13 +155,14 @@ try_rows-row_cells-cells-requires t c = let p = c.requires.tryable in try_sized 
 pub try_rows-push-requires : goal.try_rows-push-requires
 try_rows-push-requires t c =
     let a = c.args in
+    let y = a.wanted.now.system in
     let q = c.requires.ready in
     let p = c.requires.tryable in
     let kc = c.if-k-at.false in
     let row = c.row_of-r in
     let size = c.row_cells-cells in (
-      path_room a.wanted.now.system.d a.wanted.now.system.work.now a.wanted.now.system.chart.now (stands a.wanted.now.system).lawful q.0 p kc size.result size.ensures,
-      omega (arith, row_bound a.wanted.now.system.d a.wanted.now.system.work.now a.wanted.now.system.chart.now (stands a.wanted.now.system).lawful q.0 p kc row.result row.ensures),
+      path_room y.d y.work.now y.chart.now (stands y).lawful q.0 p kc size.result size.ensures,
+      omega (arith, row_bound y.d y.work.now y.chart.now (stands y).lawful q.0 p kc row.result row.ensures),
     )
 
 pub try_rows-select_row-a-requires : goal.try_rows-select_row-a-requires
@@ -162,6 +177,7 @@ try_rows-overflow_sub-left t c =
 pub try_rows-choose-s-requires : goal.try_rows-choose-s-requires
 try_rows-choose-s-requires t c =
     let a = c.args in
+    let y = a.wanted.now.system in
     let q = c.requires.ready in
     let p = c.requires.tryable in
     let kc = c.if-k-at.false in
@@ -172,11 +188,10 @@ try_rows-choose-s-requires t c =
       omega (arith, c.decreases, try_sub p.seek p.stand kc size.result size.ensures),
       (
         (
-          longer_rows a.wanted.now.system.d a.wanted.now.system.work.now a.wanted.now.system.chart.now (stands a.wanted.now.system).lawful q.0 p kc size.result size.ensures row.result row.ensures path.new.self path.ensures,
+          longer_rows y.d y.work.now y.chart.now (stands y).lawful q.0 p kc size.result size.ensures row.result row.ensures path.new.self path.ensures,
           q.1,
-          q.2,
         ),
-        row_choosable a.wanted.now.system.d a.wanted.now.system.work.now a.wanted.now.system.chart.now (stands a.wanted.now.system).lawful q.0 p kc size.result size.ensures row.result row.ensures path.new.self path.ensures
+        row_choosable y.d y.work.now y.chart.now (stands y).lawful q.0 p kc size.result size.ensures row.result row.ensures path.new.self path.ensures
             sel.new.self sel.ensures.done,
       ),
     )
@@ -192,6 +207,7 @@ try_rows-unselect_row-requires t c =
 pub try_rows-returns-then-s : goal.try_rows-returns-then-s
 try_rows-returns-then-s t c =
     let a = c.args in
+    let y = a.wanted.now.system in
     let q = c.requires.ready in
     let p = c.requires.tryable in
     let kc = c.if-k-at.false in
@@ -207,7 +223,7 @@ try_rows-returns-then-s t c =
             s.new.links s.ensures.same.0 c.unselect_row.new.self c.unselect_row.ensures,
         c.pop.ensures a.path.now row.result (s.ensures.same.1 ∙ path.ensures),
       );
-      found = λ w uncovered copies g sk st e h. found_stop a.wanted.now.system.d a.wanted.now.system.work.now a.wanted.now.system.chart.now (stands a.wanted.now.system).lawful q.0 p kc
+      found = λ w uncovered copies g sk st e h. found_stop y.d y.work.now y.chart.now (stands y).lawful q.0 p kc
           size.result size.ensures row.result row.ensures path.new.self path.ensures sel.new.self sel.ensures.done
           (identified a.wanted.now) a.wanted.now.capacity sk st e old new s.ensures.found g h c.if-s.true;
     }
@@ -218,6 +234,7 @@ try_rows-below-next-requires t c = let p = c.requires.tryable in try_small p.see
 pub try_rows-try_rows-requires-2 : goal.try_rows-try_rows-requires-2
 try_rows-try_rows-requires-2 t c =
     let a = c.args in
+    let y = a.wanted.now.system in
     let q = c.requires.ready in
     let p = c.requires.tryable in
     let kc = c.if-k-at.false in
@@ -231,14 +248,15 @@ try_rows-try_rows-requires-2 t c =
     let next = c.below-next in (
       omega (arith, c.decreases, try_less p.seek p.stand kc links back next.result next.ensures),
       (
-        (rw path q.0, q.1, omega (arith, q.2, s.auto.answers)),
-        next_tryable a.wanted.now.system.d a.wanted.now.system.work.now a.wanted.now.system.chart.now (stands a.wanted.now.system).lawful q.0 p kc links back next.result next.ensures c.pop.new.self path,
+        (rw path q.0, omega (arith, q.1, s.auto.answers)),
+        next_tryable y.d y.work.now y.chart.now (stands y).lawful q.0 p kc links back next.result next.ensures c.pop.new.self path,
       ),
     )
 
 pub try_rows-returns : goal.try_rows-returns
 try_rows-returns t c =
     let a = c.args in
+    let y = a.wanted.now.system in
     let q = c.requires.ready in
     let p = c.requires.tryable in
     let kc = c.if-k-at.false in
@@ -256,7 +274,7 @@ try_rows-returns t c =
     let new = emitted_of s.result a.wanted.now.last.now s.new.answers in
     let end = emitted_of rest.result a.wanted.now.last.now rest.new.answers in record {
       same = (rest.ensures.same.0 ∙ back, rest.ensures.same.1 ∙ path);
-      found = λ w uncovered copies g sk st e h. found_on a.wanted.now.system.d a.wanted.now.system.work.now a.wanted.now.system.chart.now (stands a.wanted.now.system).lawful q.0 p kc
+      found = λ w uncovered copies g sk st e h. found_on y.d y.work.now y.chart.now (stands y).lawful q.0 p kc
           size.result size.ensures row.result row.ensures c.push.new.self c.push.ensures sel.new.self sel.ensures.done
           (identified a.wanted.now) a.wanted.now.capacity sk st e old new s.ensures.found g h
           links back next.result next.ensures c.pop.new.self path end rest.ensures.found;
