@@ -12,7 +12,7 @@ use borrow.Author.Tests.{leb-true}
 use borrow.Rule.Slice.PartMut.{mid_of, post_of, put_mid, same_len_mid, mid_len}
 use lib.Dec.{T, ltb, leb, eqb, ltb→lt, lt→ltb, eqb→eq}
 use lib.ListN.{length, get_or, take, drop, set, length-replicate, length-map, length-drop, drop_of_length-le}
-use lib.Seq.{take-length, length-take-le, drop-cons, get_or-take, take-take, drop_at, take-append-le, take-set-le, drop-set-lt, get_or-set_same}
+use lib.Seq.{take-length, length-take-le, drop-cons, get_or-take, take-take, drop_at, take-append-le, take-set-le, drop-set-lt, get_or-set_same, get_or-set_other}
 use Rattle.lists.specs.Lists.{all, how_many, keep, sum, joined, numbered, numbered_from}
 use Rattle.lists.proofs.TestLaws.{eqb_flip, and_left, and_right, holds, is_true, is_false}
 use Rattle.lists.proofs.ListLaws.{front_part, all_at, all_of, keep_at, map_same}
@@ -47,8 +47,9 @@ use Rattle.placements.specs.declared.Pieces.{Pieces}
 use Rattle.placements.specs.Pieces.{no_record, lent_records, records_of, lent_in, tray_in}
 use Rattle.placements.specs.Stages.{lent_rows, grid_rows, config_rows, slice_rows, count_rows_by, count_rows}
 use Rattle.placements.specs.Merging.{Sound, Ordered, grid_at, shape_at, form_at, forms_of, AreKinds, copies_at}
-use Rattle.placements.specs.Counting.{fits_in, placements_in, OnBoard, Accepted9, CountsOf, VariantsAt, PutVariants, Counted}
+use Rattle.placements.specs.Counting.{fits_in, placements_in, OnBoard, Accepted9, CountsOf, no_turnings, AreVariants, Counted}
 use Rattle.placements.specs.Stripping.{StripsTray}
+use Rattle.placements.specs.declared.counted.Turnings.{Turnings}
 use Rattle.placements.specs.declared.counting.Counts.{Counts}
 use Rattle.placements.specs.declared.stripping.StrippedRecords.{StrippedRecords}
 use Rattle.placements.proofs.RefusalLaws.{cells_end, record_passes}
@@ -523,63 +524,18 @@ counts_unframed t {s} {r} e h =
     record { placements = k.placements; links = k.links }
 
 -- so what is counted of a stripped tray are the counts of the tray that is listed
-pub counts_stripped : (t : Pieces) (board : Record) (bytes : List ℕ) {s : StrippedRecords} {cells places first turnings : List ℕ} {r : Counts}
+pub counts_stripped : (t : Pieces) (board : Record) (bytes : List ℕ) {s : StrippedRecords} {cells places first : List ℕ} {turnings : List Turnings} {r : Counts}
     → StripsTray t board bytes s cells → Counted s.pieces s.board cells places first turnings r → CountsOf (compile (tray_in (records_of t) board bytes)) r
 counts_stripped t board bytes s c = counts_unframed (tray_in (records_of t) board bytes) s.tray c.counts
 
--- ---- variants put into a slice
--- those that stand before a place stay where what stands before it does
-pub variants_kept : (g : Grid) (at n : ℕ) (old new : List ℕ) → at + 25 ≤ n → take n new ≡ take n old → VariantsAt g old at → VariantsAt g new at
-variants_kept g at n old new h e v =
-    record { within = subst (λ (k : ℕ). k ≤ 24) count v.within; are_maps = subst (λ (ks : List ℕ). T (all (λ k. ltb k 48) ks)) part v.are_maps; make = ap (turned_by g) (sym part) ∙ v.make }
-  where
-    count : get_or old at 0 ≡ get_or new at 0
-    count = sym (get_or-take n old at 0 (omega arith)) ∙ ap (λ (xs : List ℕ). get_or xs at 0) (sym e) ∙ get_or-take n new at 0 (omega arith)
-
-    part : take (get_or old at 0) (drop (at + 1) old) ≡ take (get_or new at 0) (drop (at + 1) new)
-    part =
-        let m = get_or old at 0 in
-        let few : at + 1 + m ≤ n = let w = v.within in omega arith in
-        sym (front_part (at + 1) n m old few) ∙ ap (λ (xs : List ℕ). take m (drop (at + 1) xs)) (sym e) ∙ front_part (at + 1) n m new few
-        ∙ ap (λ (k : ℕ). take k (drop (at + 1) new)) count
-
--- A slice xs in which the 24 numbers behind a place are ys, and k at the place, as the code leaves them
-module _ (at k : ℕ) (xs ys : List ℕ) (room : at + 25 ≤ length xs) (as_long : length ys ≡ length (mid_of (at + 1) (at + 25 - (at + 1)) xs)) where
-  abbrev pub with_variants : List ℕ
-  with_variants = set (put_mid (at + 1) (at + 25 - (at + 1)) xs ys) at k
-
-  part_long : length ys ≡ at + 25 - (at + 1)
-  part_long = as_long ∙ mid_len (at + 1) (at + 25) xs room
-
-  front_long : length (take (at + 1) xs) ≡ at + 1
-  front_long = length-take-le (at + 1) xs (omega arith)
-
-  put_behind : drop (at + 1) with_variants ≡ ys ++ post_of (at + 1) (at + 25 - (at + 1)) xs
-  put_behind =
-      drop-set-lt (at + 1) (put_mid (at + 1) (at + 25 - (at + 1)) xs ys) at k (omega arith)
-      ∙ drop_at (take (at + 1) xs) (ys ++ post_of (at + 1) (at + 25 - (at + 1)) xs) (at + 1) front_long
-
-  -- the first numbers behind the place are those of ys
-  pub put_first : k ≤ 24 → take k (drop (at + 1) with_variants) ≡ take k ys
-  put_first few = ap (take k) put_behind ∙ take-append-le k ys (post_of (at + 1) (at + 25 - (at + 1)) xs) (let l = part_long in omega arith)
-
-  pub put_variants : (g : Grid) → Numbers g (variants g) ys k → PutVariants g at xs with_variants
-  put_variants g n =
-      record {
-        there = (
-            let first = put_first n.within in
-            subst (λ (m : ℕ). Numbers g (variants g) (drop (at + 1) with_variants) m)
-            (sym (get_or-set_same (put_mid (at + 1) (at + 25 - (at + 1)) xs ys) at k 0 (let l = same_len_mid (at + 1) (at + 25 - (at + 1)) xs ys as_long in omega arith)))
-            (record { within = n.within; are_maps = subst (λ (ks : List ℕ). T (all (λ m. ltb m 48) ks)) (sym first) n.are_maps; make = ap (turned_by g) first ∙ n.make }));
-        before = take-set-le at (put_mid (at + 1) (at + 25 - (at + 1)) xs ys) at k (omega arith)
-            ∙ take-append-le at (take (at + 1) xs) (ys ++ post_of (at + 1) (at + 25 - (at + 1)) xs) (let l = front_long in omega arith) ∙ take-take at (at + 1) xs (omega arith);
-      }
-
--- the variants of each kind before k, and those of kind k put behind them
-pub variants_next : (grids : ℕ → Grid) (old new : List ℕ) (k : ℕ) → ((j : ℕ) → j < k → VariantsAt (grids j) old (25 * j)) → PutVariants (grids k) (25 * k) old new
-    → (j : ℕ) → j < k + 1 → VariantsAt (grids j) new (25 * j)
-variants_next grids old new k h p =
-    below_more (λ (j : ℕ). VariantsAt (grids j) new (25 * j)) k (λ j l. variants_kept (grids j) (25 * j) (25 * k) old new (omega arith) p.before (h j l)) p.there
+-- ---- variants of kinds
+-- those of each kind before k, and those of kind k put behind them
+pub variants_next : (grids : ℕ → Grid) (old : List Turnings) (k : ℕ) → k < length old → ((j : ℕ) → j < k → AreVariants (grids j) (get_or old j no_turnings))
+    → (v : Turnings) → AreVariants (grids k) v → (j : ℕ) → j < k + 1 → AreVariants (grids j) (get_or (set old k v) j no_turnings)
+variants_next grids old k room h v n =
+    below_more (λ (j : ℕ). AreVariants (grids j) (get_or (set old k v) j no_turnings)) k
+    (λ j l. subst (AreVariants (grids j)) (sym (get_or-set_other old k j v no_turnings (λ e. omega arith))) (h j l))
+    (subst (AreVariants (grids k)) (sym (get_or-set_same old k v no_turnings room)) n)
 
 -- ---- what counts of the first numbers of a list
 -- the first n places, and the first n kinds
@@ -603,13 +559,13 @@ kinds_front {t} {bytes} {first} {n} k =
       forms_are = ap (forms_of t bytes) (sym e) ∙ k.forms_are;
     }
 
-pub counted_front : {t : Pieces} {board : Record} {bytes places first turnings : List ℕ} {r : Counts} → r.size ≤ length places → r.kinds ≤ length first
+pub counted_front : {t : Pieces} {board : Record} {bytes places first : List ℕ} {turnings : List Turnings} {r : Counts} → r.size ≤ length places → r.kinds ≤ length first
     → Counted t board bytes (take r.size places) (take r.kinds first) turnings r → Counted t board bytes places first turnings r
 counted_front {t} {board} {bytes} {places} {first} {turnings} {r} h k c =
     record {
       on_board = on_board_front h c.on_board;
       are_kinds = kinds_front c.are_kinds;
-      each_kind = λ j l. subst (λ (i : ℕ). VariantsAt (grid_at t bytes i) turnings (25 * j)) (get_or-take r.kinds first j 0 l) (c.each_kind j l);
+      each_kind = λ j l. subst (λ (i : ℕ). AreVariants (grid_at t bytes i) (get_or turnings j no_turnings)) (get_or-take r.kinds first j 0 l) (c.each_kind j l);
       counts = c.counts;
     }
 

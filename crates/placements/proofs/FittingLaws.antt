@@ -7,11 +7,13 @@ use mathlib.Core.Path.{◌≡◌, refl, sym, ap, ap₂, ◌∙◌, subst}
 use native.Mathlib.Nat.{zero-add}
 use native.Mathlib.Numerals.{add-one}
 use native.Mathlib.Omega.{arith}
+use borrow.Author.Rules.{get_or_read}
 use borrow.Author.Tests.{eqb-true, eqb-false}
 use lib.Dec.{T, eqb, ltb, leb, eqb→eq, ltb→lt, leb→le}
-use lib.ListN.{length, get_or, drop, set, replicate, length-set, length-map, length-replicate, get_or-replicate, drop_of_length-le}
-use lib.Seq.{drop-cons, get_or-set_same, get_or-set_other, ext_get_or}
-use Rattle.std.specs.List.{count_by, range_with_len}
+use lib.ListN.{length, get_or, take, drop, set, replicate, length-set, length-map, length-replicate, get_or-replicate, drop_of_length-le}
+use lib.Seq.{drop-cons, get_or-set_same, get_or-set_other, get_or-take, ext_get_or}
+use Rattle.std.specs.List.{count_by}
+use Rattle.std.proofs.lemmas.List.{length-take}
 use Rattle.lists.specs.Lists.{all, any, how_many, sort, before, from, below}
 use Rattle.lists.proofs.TestLaws.{tests_same, and_left, and_right, is_false, eqb_of}
 use Rattle.lists.proofs.ListLaws.{how_many_map, all_at, all_of, all_map, any_at, any_of, all_get_or, get_or_map}
@@ -28,8 +30,9 @@ use Rattle.shape.proofs.GridLaws.{how_many_is}
 use Rattle.shape.proofs.PlaceLaws.{cell_at_place, place_of_cell}
 use Rattle.shape.proofs.VariantLaws.{scan_has, scan_from}
 use Rattle.shape.proofs.ScanLaws.{cell_tied}
+use Rattle.placements.specs.declared.poses.Pose.{Pose}
 use Rattle.placements.specs.declared.poses.Poses.{Poses}
-use Rattle.placements.specs.Poses.{cell_of, cells_in, origin_in, variant_in, variants_in, Standing}
+use Rattle.placements.specs.Poses.{cell_of, cells_in, origin_in, variant_in, variants_in, no_pose, Stands, Standing}
 use Rattle.placements.specs.Fitting.{fits_on, fits_pose}
 use Rattle.placements.proofs.PoseLaws.{cells_numbered}
 
@@ -116,22 +119,21 @@ pub lands_as : (g : Grid) (v o : Cell) {p w u : Cell} (x : Cell) (r : Bool) → 
 lands_as g v o {p} x r d e f i = sym (d ∙ ap (λ (y : Cell). any (same_cell y) (filled_cells g)) (e ∙ ap₂ (lies v) f i))
 
 -- the cells of a pose by their numbers: the test of cell k, and the fit test from cell k on
-abbrev pub lands_at : Grid → Cell → Poses → ℕ → ℕ → Bool
-lands_at g v poses i k = lands g v (origin_in poses i) (cell_of (get_or poses.codes (512 * i + k) 0))
+abbrev pub lands_at : Grid → Cell → Pose → ℕ → Bool
+lands_at g v pose k = lands g v (origin_in pose) (cell_of (get_or pose.codes k 0))
 
-module _ (g : Grid) (v : Cell) (poses : Poses) (i : ℕ) where
-  pub fits_not : reaches v (origin_in poses i) ≡ false → false ≡ fits_pose g v poses i
+module _ (g : Grid) (v : Cell) (pose : Pose) where
+  pub fits_not : reaches v (origin_in pose) ≡ false → false ≡ fits_pose g v pose
   unfolding fits_pose fits_on
   fits_not e = rw e
 
-  pub fits_start : reaches v (origin_in poses i) ≡ true → 512 * i + poses.size ≤ length poses.codes
-      → fits_pose g v poses i ≡ all (lands_at g v poses i) (from 0 (poses.size - 0))
+  pub fits_start : reaches v (origin_in pose) ≡ true → pose.size ≤ length pose.codes → fits_pose g v pose ≡ all (lands_at g v pose) (from 0 (pose.size - 0))
   unfolding fits_pose fits_on
   fits_start e room =
       rw e
-      (ap (all (lands g v (origin_in poses i))) (cells_numbered poses i room)
-      ∙ all_map (λ (k : ℕ). cell_of (get_or poses.codes (512 * i + k) 0)) (lands g v (origin_in poses i)) (below poses.size)
-      ∙ ap (all (lands_at g v poses i)) (sym (from_start poses.size)))
+      (ap (all (lands g v (origin_in pose))) (cells_numbered pose room)
+      ∙ all_map (λ (k : ℕ). cell_of (get_or pose.codes k 0)) (lands g v (origin_in pose)) (below pose.size)
+      ∙ ap (all (lands_at g v pose)) (sym (from_start pose.size)))
 
 -- cells in scan order or as they come
 module _ (order : List ℕ) (o : IsOrder order) where
@@ -159,31 +161,34 @@ module _ (order : List ℕ) (o : IsOrder order) where
             (λ t. let r = any_at (same_cell (to u)) (scan order g) t in any_of (same_cell (to u)) (filled_cells g) (scan_from order o g r.0 r.1) r.2)
             (λ t. let r = any_at (same_cell (to u)) (filled_cells g) t in any_of (same_cell (to u)) (scan order g) (scan_has order o g r.0 r.1) r.2)
 
-    pub fits_variant : (poses : Poses) → Standing order poses → (i : ℕ) → i < poses.count → fits (scan order g) v (variant_in order poses i) ≡ fits_pose g v poses i
+    pub fits_variant : (pose : Pose) → Stands order pose → fits (scan order g) v (variant_in order pose) ≡ fits_pose g v pose
     unfolding fits_pose variant_in
-    fits_variant poses p i h = fits_cells (cells_in poses i) ∙ ap (λ (u : Cell). fits_on g v u (cells_in poses i)) (sym (p.origins i h))
+    fits_variant pose p = fits_cells (cells_in pose) ∙ ap (λ (u : Cell). fits_on g v u (cells_in pose)) (sym p.origin_is)
 
--- the variants that fit, counted by their numbers
-range_is : (a n : ℕ) → range_with_len a n ≡ from a n
-range_is a zero = refl
-range_is a (suc n) = ap (λ (ns : List ℕ). a ∷ ns) (ap (λ (k : ℕ). range_with_len k n) (add-one a) ∙ range_is (suc a) n)
-
-numbers_to : (n : ℕ) → range_with_len 0 n ≡ below n
-numbers_to n = let e : n ≡ n - 0 = omega arith in range_is 0 n ∙ ap (from 0) e ∙ from_start n
-
-many_same : (p q : ℕ → Bool) (ns : List ℕ) → ((n : ℕ) → Memᴰ n ns → p n ≡ q n) → how_many p ns ≡ how_many q ns
+-- the variants that fit, counted one by one
+many_same : (p q : Pose → Bool) (ps : List Pose) → ((i : ℕ) → i < length ps → p (get_or ps i no_pose) ≡ q (get_or ps i no_pose)) → how_many p ps ≡ how_many q ps
 many_same p q [] h = refl
-many_same p q (n ∷ ns) h =
-    ap₂ {C = ℕ} (λ (b : Bool) (k : ℕ). cond b 1 0 + k) (h n (Memᴰ.head refl)) (many_same p q ns (λ m i. h m (Memᴰ.tail i)))
+many_same p q (x ∷ xs) h =
+    ap₂ {C = ℕ} (λ (b : Bool) (k : ℕ). cond b 1 0 + k) (h 0 (omega arith)) (many_same p q xs (λ i l. h (suc i) (omega arith)))
+
+-- each variant that stands in front of the list, by its place there
+module _ (order : List ℕ) (poses : Poses) (p : Standing order poses) (i : ℕ) (h : i < length (take poses.count poses.list)) where
+  pub stands_at : Stands order (get_or (take poses.count poses.list) i no_pose)
+  stands_at =
+      let l : i < poses.count = omega (arith, length-take poses.count poses.list) in
+      subst (Stands order) (sym (get_or-take poses.count poses.list i no_pose l)) (p.each i l)
+
+  pub pose_stands : (pose : Pose) → pose ≡ get_or (take poses.count poses.list) i pose → Stands order pose
+  pose_stands pose e = subst (Stands order) (sym (get_or_read (take poses.count poses.list) i pose h e no_pose)) stands_at
 
 pub variants_fit : (order : List ℕ) → IsOrder order → (g : Grid) (v : Cell) (poses : Poses) → Standing order poses
-    → how_many (fits (scan order g) v) (variants_in order poses) ≡ count_by (fits_pose g v poses) (range_with_len 0 poses.count)
+    → how_many (fits (scan order g) v) (variants_in order poses) ≡ count_by (fits_pose g v) (take poses.count poses.list)
 unfolding variants_in
 variants_fit order o g v poses p =
-    how_many_map (fits (scan order g) v) (variant_in order poses) (below poses.count)
-    ∙ many_same (λ i. fits (scan order g) v (variant_in order poses i)) (fits_pose g v poses) (below poses.count)
-    (λ i m. fits_variant order o g v poses p i (below_at poses.count m))
-    ∙ ap (how_many (fits_pose g v poses)) (sym (numbers_to poses.count)) ∙ how_many_is (fits_pose g v poses) (range_with_len 0 poses.count)
+    how_many_map (fits (scan order g) v) (variant_in order) (take poses.count poses.list)
+    ∙ many_same (λ pose. fits (scan order g) v (variant_in order pose)) (fits_pose g v) (take poses.count poses.list)
+    (λ i l. fits_variant order o g v _ (stands_at order poses p i l))
+    ∙ how_many_is (fits_pose g v) (take poses.count poses.list)
 
 pub scan_number_place : (s : Sides) (ps : List ℕ) (u : Cell) → InBox s u → scan_number (map (cell_at s) ps) u ≡ before (eqb (place_of s u)) ps
 unfolding scan_number

@@ -4,18 +4,18 @@ use Prim.Native.Nat.{ℕ, suc, ◌+◌, ◌*◌, ◌/◌, ◌%◌, ◌-◌, ◌�
 use mathlib.Core.Bool.{Bool, true, false, cond}
 use mathlib.Core.List.{List, [], ◌∷◌, map, Memᴰ, map-map}
 use mathlib.Core.Path.{◌≡◌, refl, sym, ap, ap₂, ◌∙◌, subst}
-use native.Mathlib.Nat.{zero-div, zero-mod}
+use native.Mathlib.Nat.{zero-add, zero-div, zero-mod}
 use native.Mathlib.Numerals.{add-one}
 use native.Mathlib.Omega.{arith}
 use borrow.Author.Count.{below_more}
 use borrow.Author.Tests.{ne_eqb}
 use lib.Dec.{eqb}
 use lib.ListN.{length, get_or, take, drop, set, length-set, length-map, length-drop, drop_of_length-le}
-use lib.Seq.{paste, paste-zero, paste-suc, length-paste, drop-cons, get_or-take, get_or-set_same, get_or-set_other, take_all}
+use lib.Seq.{paste, paste-zero, paste-suc, length-paste, drop-cons, get_or-take, get_or-set_same, get_or-set_other, take_all, length-take-le}
 use Rattle.lists.specs.Lists.{cons_if, keep, head_or, put, sort, from, below}
 use Rattle.lists.proofs.ListLaws.{get_or_map, keep_same, keep_length, map_same, map_still}
 use Rattle.lists.proofs.RangeLaws.{below_at, length_below, map_entries}
-use Rattle.lists.proofs.PartLaws.{pasted_there, pasted_before, part_length, part_entry}
+use Rattle.lists.proofs.PartLaws.{pasted_there}
 use Rattle.lists.proofs.SortLaws.{sort_at, first_put}
 use Rattle.definitions.specs.Grid.{Sides, Cell, Grid, InBox, box, volume, place_of, byte_at, filled_cells}
 use Rattle.definitions.specs.Maps.{map_of, map_grid, map_sides}
@@ -32,8 +32,9 @@ use Rattle.std.specs.declared.cmp.Ordering.{Ordering}
 use Rattle.std.specs.Ordering.{is_lt}
 use Rattle.shape.proofs.PlaceLaws.{cell_at_place, cell_in_box, place_of_cell, place_lt, volume_small, map_volume, mapped_fit}
 use Rattle.shape.proofs.GridLaws.{box_places, turned_length}
+use Rattle.placements.specs.declared.poses.Pose.{Pose}
 use Rattle.placements.specs.declared.poses.Poses.{Poses}
-use Rattle.placements.specs.Poses.{code_of, cell_of, cells_in, origin_in, variant_in, variants_in, with_pose, with_poses, Standing, Posed}
+use Rattle.placements.specs.Poses.{code_of, cell_of, cells_in, origin_in, variant_in, variants_in, no_pose, with_pose, with_poses, PoseOf, Standing, Posed}
 
 -- ---- codes: places in a box whose sides are 8
 abbrev pub eight : Sides
@@ -89,28 +90,28 @@ module _ (us : List Cell) (n : ℕ) (x : Cell) (rest : List Cell) (e : drop n us
   rest_next : drop (n + 1) us ≡ rest
   rest_next = let e = rest_parts in let f : drop (suc n) us ≡ rest = cc in ap (λ (k : ℕ). drop k us) (add-one n) ∙ f
 
--- the codes of the first n filled cells, those before place j, stand from a place on; u is the cell at place j
-pub record ListedTo (g : Grid) (old : List ℕ) (at v : ℕ) (codes : List ℕ) (u : Cell) (n j : ℕ) : Type 0 where
+-- the codes of the first n filled cells, those before place j, stand in front; u is the cell at place j
+pub record ListedTo (g : Grid) (old : List ℕ) (v : ℕ) (codes : List ℕ) (u : Cell) (n j : ℕ) : Type 0 where
   pub within : j ≤ v
   pub few : n ≤ j
   pub most : n ≤ length (filled_cells g)
   pub here : u ≡ cell_at g.sides j
-  pub there : codes ≡ paste old at (map code_of (filled_cells g)) n
+  pub there : codes ≡ paste old 0 (map code_of (filled_cells g)) n
   pub left : drop n (filled_cells g) ≡ filled_left g j (v - j)
 
-module _ (g : Grid) (old : List ℕ) (at v : ℕ) (is : v ≡ volume g.sides) (room : at + v ≤ length old) where
-  pub listed_none : (u : Cell) → u ≡ record { x = 0; y = 0; z = 0 } → ListedTo g old at v old u 0 0
+module _ (g : Grid) (old : List ℕ) (v : ℕ) (is : v ≡ volume g.sides) (room : v ≤ length old) where
+  pub listed_none : (u : Cell) → u ≡ record { x = 0; y = 0; z = 0 } → ListedTo g old v old u 0 0
   unfolding cell_at
   listed_none u e = record {
     within = omega arith;
     few = omega arith;
     most = omega arith;
     here = e ∙ sym (rw (zero-div (g.sides.b * g.sides.c), zero-div g.sides.c, zero-mod g.sides.b, zero-mod g.sides.c));
-    there = paste-zero old at (map code_of (filled_cells g));
+    there = paste-zero old 0 (map code_of (filled_cells g));
     left = left_all g v is;
   }
 
-  module _ (codes : List ℕ) (u : Cell) (n j : ℕ) (l : ListedTo g old at v codes u n j) (h : j < v) where
+  module _ (codes : List ℕ) (u : Cell) (n j : ℕ) (l : ListedTo g old v codes u n j) (h : j < v) where
     pub listed_in : InBox g.sides u
     listed_in = subst (InBox g.sides) (sym l.here) (cell_in_box g.sides j (omega arith))
 
@@ -121,15 +122,16 @@ module _ (g : Grid) (old : List ℕ) (at v : ℕ) (is : v ≡ volume g.sides) (r
     listed_some b = rest_some (filled_cells g) n (cell_at g.sides j) (filled_left g (j + 1) (v - (j + 1))) (l.left ∙ left_yes g j v h b)
 
     pub listed_yes : get_or g.cells j 0 ≡ 1 → (w : Cell) → w ≡ cell_at g.sides (place_of g.sides u + 1) → (code : ℕ) → code ≡ code_of u
-        → ListedTo g old at v (set codes (at + n) code) w (n + 1) (j + 1)
+        → ListedTo g old v (set codes n code) w (n + 1) (j + 1)
     listed_yes b w e code d = record {
       within = omega arith;
       few = omega (arith, l.few);
       most = omega (arith, listed_some b);
       here = further w e;
-      there = ap₂ (λ (xs : List ℕ) (x : ℕ). set xs (at + n) x) l.there same
-          ∙ paste-suc old at cs n 0 (omega (arith, l.few)) (let a = length-map (filled_cells g) code_of in omega (arith, listed_some b))
-          ∙ ap (paste old at cs) (sym (add-one n));
+      there = ap₂ (λ (xs : List ℕ) (x : ℕ). set xs n x) l.there same
+          ∙ ap (λ (k : ℕ). set (paste old 0 cs n) k (get_or cs n 0)) (sym (zero-add n))
+          ∙ paste-suc old 0 cs n 0 (omega (arith, l.few)) (let a = length-map (filled_cells g) code_of in omega (arith, listed_some b))
+          ∙ ap (paste old 0 cs) (sym (add-one n));
       left = rest_next (filled_cells g) n (cell_at g.sides j) (filled_left g (j + 1) (v - (j + 1))) (l.left ∙ left_yes g j v h b);
     }
       where
@@ -143,7 +145,7 @@ module _ (g : Grid) (old : List ℕ) (at v : ℕ) (is : v ≡ volume g.sides) (r
             ∙ sym (get_or_map x 0 code_of (filled_cells g) n (listed_some b)
             ∙ ap code_of (rest_first (filled_cells g) n x (filled_left g (j + 1) (v - (j + 1))) (l.left ∙ left_yes g j v h b)))
 
-    pub listed_no : (get_or g.cells j 0 ≡ 1 → ⊥) → (w : Cell) → w ≡ cell_at g.sides (place_of g.sides u + 1) → ListedTo g old at v codes w n (j + 1)
+    pub listed_no : (get_or g.cells j 0 ≡ 1 → ⊥) → (w : Cell) → w ≡ cell_at g.sides (place_of g.sides u + 1) → ListedTo g old v codes w n (j + 1)
     listed_no b w e = record {
       within = omega arith;
       few = omega (arith, l.few);
@@ -152,6 +154,14 @@ module _ (g : Grid) (old : List ℕ) (at v : ℕ) (is : v ≡ volume g.sides) (r
       there = l.there;
       left = l.left ∙ left_no g j v h b;
     }
+
+  -- all are passed
+  pub listed_all : (codes : List ℕ) (u : Cell) (n j : ℕ) → ListedTo g old v codes u n j → v ≤ j
+      → (n ≡ length (filled_cells g)) × (codes ≡ paste old 0 (map code_of (filled_cells g)) n)
+  listed_all codes u n j l h =
+      let z : v - j ≡ 0 = let w = l.within in omega arith in
+      let rest : drop n (filled_cells g) ≡ [] = l.left ∙ ap (filled_left g j) z in
+      (omega (arith, l.most, length-drop n (filled_cells g), ap length rest), l.there)
 
 -- ---- the first of cells, from the last to the first
 lt_first : (a s : Bool) → is_lt (order_by a s) ≡ a
@@ -210,11 +220,7 @@ pub first_step : (order codes : List ℕ) (k : ℕ) → 0 < k → k < length cod
     → cond (is_lt o) (cell_of (get_or codes (k - 1) 0)) (cell_of first) ≡ first_from order codes (k - 1)
 first_step order codes k some h first e u w a b o f = first_next order codes k some h (cell_of first) e o (f ∙ ap₂ (cell_order order) a b)
 
--- ---- a pose among others
--- the cells whose codes stand as variant i, so many of them
-abbrev pub coded : List ℕ → ℕ → ℕ → List Cell
-coded codes size i = map cell_of (take size (drop (512 * i) codes))
-
+-- ---- a pose
 codes_back : (us : List Cell) → ((u : Cell) → Memᴰ u us → InBox eight u) → map cell_of (map code_of us) ≡ us
 codes_back us f = map-map cell_of code_of us ∙ map_still (λ u. cell_of (code_of u)) us (λ u m. cell_of_code u (f u m))
 
@@ -234,55 +240,39 @@ unfolding origin
 origin-in [] f = (omega arith, omega arith, omega arith)
 origin-in (u ∷ us) f = f u (Memᴰ.head refl)
 
-module _ (order : List ℕ) (us : List Cell) (fit : (u : Cell) → Memᴰ u us → InBox eight u) (few : length us ≤ 512) (poses : Poses)
-    (long : length poses.codes ≡ 12288) (room : length poses.origins ≡ 24) (k : ℕ) (h : k < 24) where
-  codes_long : length (map code_of us) ≡ length us
-  codes_long = length-map us code_of
+-- as the code writes the pose of a grid: the codes of its filled cells, and that of their first
+module _ (order : List ℕ) (g : Grid) (fit : Fit g.sides) (pose : Pose) (long : length pose.codes ≡ 512) (n : ℕ) (many : n ≡ length (filled_cells g)) (codes : List ℕ)
+    (written : codes ≡ paste pose.codes 0 (map code_of (filled_cells g)) n) (first : ℕ)
+    (found : cell_of first ≡ origin (sort (cell_ahead order) (map cell_of (take n codes)))) where
+  abbrev written_pose : Pose
+  written_pose = record { size = n; codes = codes; origin = first }
 
-  codes_there : take (length us) (drop (512 * k) (paste poses.codes (512 * k) (map code_of us) (length us))) ≡ map code_of us
-  codes_there =
-      pasted_there poses.codes (map code_of us) (512 * k) (length us) (omega arith) (omega (arith, codes_long))
-      ∙ take_all (length us) (map code_of us) (omega (arith, codes_long))
+  codes_cells : map cell_of (take n codes) ≡ filled_cells g
+  codes_cells =
+      let us = filled_cells g in
+      let long-codes = length-map us code_of in
+      let few = filled_small g fit in
+      ap (λ (xs : List ℕ). map cell_of (take n xs)) written
+      ∙ ap (map cell_of) (pasted_there pose.codes (map code_of us) 0 n (omega arith) (omega arith) ∙ take_all n (map code_of us) (omega arith))
+      ∙ codes_back us (filled_eight g fit)
 
-  -- as the code writes it: the codes, and that of their first cell
-  pub pose_written : (n : ℕ) → n ≡ length us → (new : List ℕ) → new ≡ paste poses.codes (512 * k) (map code_of us) n → (first : ℕ)
-      → cell_of first ≡ origin (sort (cell_ahead order) (map cell_of (take (512 * k + n - 512 * k) (drop (512 * k) new))))
-      → record poses { codes = new; origins = set poses.origins k first } ≡ with_pose order us k poses
+  first_is : cell_of first ≡ origin (sort (cell_ahead order) (filled_cells g))
+  first_is = found ∙ ap (λ (us : List Cell). origin (sort (cell_ahead order) us)) codes_cells
+
+  pub pose_of : PoseOf order g written_pose
+  unfolding cells_in origin_in variant_in
+  pose_of =
+      record {
+        stands = record { small = (let few = filled_small g fit in omega arith); origin_is = found };
+        cells = codes_cells;
+      }
+
+  pub pose_written : written_pose ≡ with_pose order (filled_cells g) pose
   unfolding with_pose
-  pose_written n e new is first f =
-      let m : 512 * k + n - 512 * k ≡ length us = omega arith in
-      let d : new ≡ paste poses.codes (512 * k) (map code_of us) (length us) = is ∙ ap (paste poses.codes (512 * k) (map code_of us)) e in
-      let there : take (512 * k + n - 512 * k) (drop (512 * k) new) ≡ map code_of us = ap₂ (λ (m : ℕ) (l : List ℕ). take m (drop (512 * k) l)) m d ∙ codes_there in
-      ap₂ (λ (l : List ℕ) (x : ℕ). record poses { codes = l; origins = set poses.origins k x }) d
-      (sym (code_of_cell first) ∙ ap code_of (f ∙ ap (λ (l : List Cell). origin (sort (cell_ahead order) l)) (ap (map cell_of) there ∙ codes_back us fit)))
-
-  pub pose_long : length (with_pose order us k poses).codes ≡ 12288
-  unfolding with_pose
-  pose_long = length-paste poses.codes (512 * k) (map code_of us) (length us) (omega arith) (omega (arith, codes_long)) ∙ long
-
-  pub pose_room : length (with_pose order us k poses).origins ≡ 24
-  unfolding with_pose
-  pose_room = length-set poses.origins k _ ∙ room
-
-  pub pose_cells : coded (with_pose order us k poses).codes (length us) k ≡ us
-  unfolding with_pose
-  pose_cells = ap (map cell_of) codes_there ∙ codes_back us fit
-
-  pub pose_origin : origin_in (with_pose order us k poses) k ≡ origin (sort (cell_ahead order) us)
-  unfolding with_pose origin_in
-  pose_origin =
-      ap cell_of (get_or-set_same poses.origins k _ 0 (omega arith))
-      ∙ cell_of_code (origin (sort (cell_ahead order) us)) (origin-in (sort (cell_ahead order) us) (λ u m. fit u (sort_at (cell_ahead order) us m)))
-
-  module _ (j : ℕ) (l : j < k) where
-    pub other_cells : (size : ℕ) → size ≤ 512 → coded (with_pose order us k poses).codes size j ≡ coded poses.codes size j
-    unfolding with_pose
-    other_cells size m =
-        ap (map cell_of) (pasted_before poses.codes (map code_of us) (512 * k) (length us) (omega arith) (omega (arith, codes_long)) (512 * j) size (omega arith))
-
-    pub other_origin : origin_in (with_pose order us k poses) j ≡ origin_in poses j
-    unfolding with_pose origin_in
-    other_origin = ap cell_of (get_or-set_other poses.origins k j _ 0 (λ e. omega arith))
+  pose_written =
+      ap (λ (k : ℕ). record { size = k; codes = codes; origin = first }) many
+      ∙ ap₂ (λ (xs : List ℕ) (x : ℕ). record { size = length (filled_cells g); codes = xs; origin = x })
+      (written ∙ ap (paste pose.codes 0 (map code_of (filled_cells g))) many) (sym (code_of_cell first) ∙ ap code_of first_is)
 
 -- ---- the turned grids of a grid as poses
 -- grids with the same bytes in their boxes have the same filled cells
@@ -306,76 +296,61 @@ turned_filled n g old new t room is e =
         ap (take (volume g.sides)) is ∙ pasted_there old (map_grid (map_of n) g).cells 0 (volume g.sides) (omega arith) (omega arith) in
         sym (get_or-take (volume g.sides) new i 0 a) ∙ ap (λ (xs : List ℕ). get_or xs i 0) there ∙ get_or-take (volume g.sides) (map_grid (map_of n) g).cells i 0 a
 
+-- the grid that number j makes of a grid
+abbrev pub made_at : Grid → List ℕ → ℕ → Grid
+made_at g turnings j = map_grid (map_of (get_or turnings j 0)) g
+
 -- the poses of the grids that the first i numbers make
-pub record PosedTo (order : List ℕ) (g : Grid) (turnings : List ℕ) (poses : Poses) (i : ℕ) : Type 0 where
-  pub long : length poses.codes ≡ 12288
-  pub room : length poses.origins ≡ 24
-  pub cells : (j : ℕ) → j < i → coded poses.codes (length (filled_cells g)) j ≡ filled_cells (map_grid (map_of (get_or turnings j 0)) g)
-  pub origins : (j : ℕ) → j < i → origin_in poses j ≡ origin (scan order (map_grid (map_of (get_or turnings j 0)) g))
+pub record PosedTo (order : List ℕ) (g : Grid) (turnings : List ℕ) (list : List Pose) (i : ℕ) : Type 0 where
+  pub long : length list ≡ 24
+  pub each : (j : ℕ) → j < i → PoseOf order (made_at g turnings j) (get_or list j no_pose)
 
-pub posed_none : (order : List ℕ) (g : Grid) (turnings : List ℕ) (poses : Poses) → length poses.codes ≡ 12288 → length poses.origins ≡ 24
-    → PosedTo order g turnings poses 0
-posed_none order g turnings poses long room =
-    record { long = long; room = room; cells = λ j h. absurd (omega arith); origins = λ j h. absurd (omega arith) }
+pub posed_none : (order : List ℕ) (g : Grid) (turnings : List ℕ) (list : List Pose) → length list ≡ 24 → PosedTo order g turnings list 0
+posed_none order g turnings list long = record { long = long; each = λ j h. absurd (omega arith) }
 
-module _ (order : List ℕ) (g : Grid) (turnings : List ℕ) (fit : Fit g.sides) (few : length (filled_cells g) ≤ 512) where
-  pub posed_next : (poses new : Poses) (i : ℕ) → i < 24 → PosedTo order g turnings poses i → (us : List Cell) → us ≡ filled_cells (map_grid (map_of (get_or turnings i 0)) g)
-      → new ≡ with_pose order us i poses → PosedTo order g turnings new (i + 1)
-  unfolding scan
-  posed_next poses new i h p us e is = subst (λ (l : Poses). PosedTo order g turnings l (i + 1)) (sym is) (record {
-    long = pose_long order us inside short poses p.long p.room i h;
-    room = pose_room order us inside short poses p.long p.room i h;
-    cells = below_more (λ j. coded (with_pose order us i poses).codes (length (filled_cells g)) j ≡ filled_cells (map_grid (map_of (get_or turnings j 0)) g)) i
-        (λ j l. other_cells order us inside short poses p.long p.room i h j l (length (filled_cells g)) few ∙ p.cells j l)
-        (ap (λ (n : ℕ). coded (with_pose order us i poses).codes n i) (sym size) ∙ pose_cells order us inside short poses p.long p.room i h ∙ e);
-    origins = below_more (λ j. origin_in (with_pose order us i poses) j ≡ origin (scan order (map_grid (map_of (get_or turnings j 0)) g))) i
-        (λ j l. other_origin order us inside short poses p.long p.room i h j l ∙ p.origins j l)
-        (pose_origin order us inside short poses p.long p.room i h ∙ ap (λ (l : List Cell). origin (sort (cell_ahead order) l)) e);
-  })
-    where
-      m : ℕ
-      m = get_or turnings i 0
+module _ (order : List ℕ) (g : Grid) (turnings : List ℕ) where
+  pub posed_next : (list : List Pose) (i : ℕ) → i < 24 → PosedTo order g turnings list i → (h : Grid) → filled_cells h ≡ filled_cells (made_at g turnings i)
+      → (new : Pose) → PoseOf order h new → PosedTo order g turnings (set list i new) (i + 1)
+  posed_next list i l p h e new q = record {
+    long = length-set list i new ∙ p.long;
+    each = below_more (λ j. PoseOf order (made_at g turnings j) (get_or (set list i new) j no_pose)) i
+        (λ j k. subst (PoseOf order (made_at g turnings j)) (sym (get_or-set_other list i j new no_pose (λ e. omega arith))) (p.each j k))
+        (subst (PoseOf order (made_at g turnings i)) (sym (get_or-set_same list i new no_pose (let long = p.long in omega arith)))
+        (record { stands = q.stands; cells = q.cells ∙ e }));
+  }
 
-      size : length us ≡ length (filled_cells g)
-      size = ap length e ∙ filled_length (map_of (get_or turnings i 0)) (map_fits (get_or turnings i 0)) g
-
-      short : length us ≤ 512
-      short = omega (arith, size)
-
-      inside : (u : Cell) → Memᴰ u us → InBox eight u
-      inside u k =
-          filled_eight (map_grid (map_of m) g) (subst Fit (sym (mapped_sides (map_of m) g)) (mapped_fit (map_of m) g.sides fit)) u (subst (λ (l : List Cell). Memᴰ u l) e k)
-
-  pub posed_all : (poses : Poses) → PosedTo order g turnings poses (length turnings) → length turnings ≤ 24
-      → (last : Poses) → last ≡ record poses { count = length turnings; size = length (filled_cells g) } → Posed order (turned_by g turnings) last
-  unfolding turned_by variant_in cells_in origin_in scan
-  posed_all poses p most last is = subst (λ (l : Poses). Posed order (map make turnings) l) (sym is) (record {
-    stand = record {
-      few = most;
-      small = few;
-      origins = λ j h. p.origins j h ∙ ap (λ (us : List Cell). origin (sort (cell_ahead order) us)) (sym (p.cells j h));
-    };
-    many = sym (length-map turnings make);
-    cells = ap (λ (k : ℕ). map (coded poses.codes (length (filled_cells g))) (below k)) (length-map turnings make)
-        ∙ map_same (coded poses.codes (length (filled_cells g))) (λ j. filled_cells (make (get_or turnings j 0))) (below (length turnings))
-        (λ j m. p.cells j (below_at (length turnings) m))
+  pub posed_all : (poses : Poses) → PosedTo order g turnings poses.list (length turnings) → length turnings ≤ 24 → poses.count ≡ length turnings
+      → Posed order (turned_by g turnings) poses
+  unfolding turned_by
+  posed_all poses p most many = record {
+    stand = record { few = omega arith; each = λ j h. (p.each j (omega arith)).stands };
+    many = many ∙ sym (length-map turnings make);
+    cells = sym (map_entries cells_in no_pose listed)
+        ∙ ap (λ (k : ℕ). map (λ j. cells_in (get_or listed j no_pose)) (below k)) (length-take-le poses.count poses.list (let long = p.long in omega arith) ∙ many)
+        ∙ map_same (λ j. cells_in (get_or listed j no_pose)) (λ j. filled_cells (make (get_or turnings j 0))) (below (length turnings))
+        (λ j m. let h = below_at (length turnings) m in ap cells_in (get_or-take poses.count poses.list j no_pose (omega arith)) ∙ (p.each j h).cells)
         ∙ map_entries (λ k. filled_cells (make k)) 0 turnings
         ∙ sym (map-map filled_cells make turnings);
-  })
+  }
     where
       make : ℕ → Grid
       make k = map_grid (map_of k) g
+
+      listed : List Pose
+      listed = take poses.count poses.list
 
 -- all that stands there then
 pub poses_none : (order : List ℕ) (f : ℕ → List Cell) (old : Poses) → old ≡ with_poses order f 0 old
 unfolding with_poses
 poses_none order f old = refl
 
-pub poses_next : (order : List ℕ) (f : ℕ → List Cell) (old poses new : Poses) (i : ℕ) → poses ≡ with_poses order f i old → (us : List Cell) → us ≡ f i
-    → new ≡ with_pose order us i poses → new ≡ with_poses order f (i + 1) old
+pub poses_next : (order : List ℕ) (f : ℕ → List Cell) (old poses : Poses) (i : ℕ) → poses ≡ with_poses order f i old → (us : List Cell) → us ≡ f i
+    → (new : Pose) → new ≡ with_pose order us (get_or poses.list i no_pose) → record poses { list = set poses.list i new } ≡ with_poses order f (i + 1) old
 unfolding with_poses
-poses_next order f old poses new i p us e is =
-    is ∙ ap₂ (λ (vs : List Cell) (l : Poses). with_pose order vs i l) e p ∙ ap (λ (n : ℕ). with_poses order f n old) (sym (add-one i))
+poses_next order f old poses i p us e new is =
+    ap (λ (q : Pose). record poses { list = set poses.list i q }) (is ∙ ap (λ (vs : List Cell). with_pose order vs (get_or poses.list i no_pose)) e)
+    ∙ ap (λ (l : Poses). record l { list = set l.list i (with_pose order (f i) (get_or l.list i no_pose)) }) p
+    ∙ ap (λ (n : ℕ). with_poses order f n old) (sym (add-one i))
 
 -- the variants that poses of grids stand for, in an order of the axes that the code knows under another name
 module _ (order o : List ℕ) (gs : List Grid) (poses : Poses) (same : o ≡ order) (p : Posed order gs poses) where
@@ -385,19 +360,17 @@ module _ (order o : List ℕ) (gs : List Grid) (poses : Poses) (same : o ≡ ord
   pub posed_make : variants_in o poses ≡ map (scan order) gs
   unfolding variants_in variant_in scan
   posed_make =
-      ap₂ (λ (l : List ℕ) (k : ℕ). map (λ i. sort (cell_ahead l) (cells_in poses i)) (below k)) same p.many
-      ∙ sym (map-map (sort (cell_ahead order)) (cells_in poses) (below (length gs))) ∙ ap (map (sort (cell_ahead order))) p.cells
+      let listed = take poses.count poses.list in
+      ap (λ (l : List ℕ). map (λ pose. sort (cell_ahead l) (cells_in pose)) listed) same
+      ∙ sym (map-map (sort (cell_ahead order)) cells_in listed) ∙ ap (map (sort (cell_ahead order))) p.cells
       ∙ map-map (sort (cell_ahead order)) filled_cells gs
 
 -- ---- the filled cells of a pose by their numbers
-pub cells_numbered : (poses : Poses) (i : ℕ) → 512 * i + poses.size ≤ length poses.codes
-    → cells_in poses i ≡ map (λ k. cell_of (get_or poses.codes (512 * i + k) 0)) (below poses.size)
+pub cells_numbered : (pose : Pose) → pose.size ≤ length pose.codes → cells_in pose ≡ map (λ k. cell_of (get_or pose.codes k 0)) (below pose.size)
 unfolding cells_in
-cells_numbered poses i room =
+cells_numbered pose room =
+    let xs = take pose.size pose.codes in
     sym (map_entries cell_of 0 xs)
-    ∙ ap (λ (n : ℕ). map (λ k. cell_of (get_or xs k 0)) (below n)) (part_length poses.codes (512 * i) poses.size room)
-    ∙ map_same (λ k. cell_of (get_or xs k 0)) (λ k. cell_of (get_or poses.codes (512 * i + k) 0)) (below poses.size)
-    (λ k m. ap cell_of (part_entry poses.codes (512 * i) poses.size k (below_at poses.size m)))
-  where
-    xs : List ℕ
-    xs = take poses.size (drop (512 * i) poses.codes)
+    ∙ ap (λ (n : ℕ). map (λ k. cell_of (get_or xs k 0)) (below n)) (length-take-le pose.size pose.codes room)
+    ∙ map_same (λ k. cell_of (get_or xs k 0)) (λ k. cell_of (get_or pose.codes k 0)) (below pose.size)
+    (λ k m. ap cell_of (get_or-take pose.size pose.codes k 0 (below_at pose.size m)))

@@ -1,5 +1,5 @@
 -- How many placements a grid has on a board.
-use Rattle.std.specs.Prelude.{ℕ, ◌+◌, ◌*◌, ◌≤◌, ◌<◌, List, map, ◌≡◌, T, ltb, length, take, drop, get_or}
+use Rattle.std.specs.Prelude.{ℕ, ◌≤◌, ◌<◌, List, [], map, ◌≡◌, T, ltb, length, take, get_or}
 use Rattle.lists.specs.Lists.{all, how_many, sum}
 use Rattle.definitions.specs.Grid.{Grid, volume}
 use Rattle.definitions.specs.Scan.{axes, scan}
@@ -10,6 +10,7 @@ use Rattle.definitions.specs.declared.Record.{Record}
 use Rattle.shape.specs.Places.{cell_at}
 use Rattle.shape.specs.Variants.{Numbers}
 use Rattle.placements.specs.declared.Pieces.{Pieces}
+use Rattle.placements.specs.declared.counted.Turnings.{Turnings}
 use Rattle.placements.specs.declared.counting.Counts.{Counts}
 use Rattle.placements.specs.Pieces.{records_of, lent_in}
 use Rattle.placements.specs.Merging.{grid_at, AreKinds}
@@ -35,20 +36,21 @@ pub record CountsOf (c : Compiled) (r : Counts) : Type 0 where
   pub placements : r.placements ≡ placement_count c
   pub links : r.links ≡ link_count c
 
--- the variants of a grid stand in a slice: how many they are at a place, and behind it their map numbers
-abbrev pub VariantsAt : Grid → List ℕ → ℕ → Type 0
-VariantsAt g turnings at = Numbers g (variants g) (drop (at + 1) turnings) (get_or turnings at 0)
+-- what stands for variants past a list's end; the map numbers of variants; and that these are a grid's variants
+abbrev pub no_turnings : Turnings
+no_turnings = record { count = 0; numbers = [] }
 
--- they have been put into a slice, of which nothing before the place is changed
-pub record PutVariants (g : Grid) (at : ℕ) (old new : List ℕ) : Type 0 where
-  pub there : VariantsAt g new at
-  pub before : take at new ≡ take at old
+abbrev pub numbers_of : Turnings → List ℕ
+numbers_of v = take v.count v.numbers
 
--- what counting leaves of a tray: the places of the board's filled cells, a piece of each kind, each kind's variants, 25 numbers for each, and the counts
-pub record Counted (t : Pieces) (board : Record) (bytes places first turnings : List ℕ) (r : Counts) : Type 0 where
+abbrev pub AreVariants : Grid → Turnings → Type 0
+AreVariants g v = Numbers g (variants g) v.numbers v.count
+
+-- what counting leaves of a tray: the places of the board's filled cells, a piece of each kind, each kind's variants, and the counts
+pub record Counted (t : Pieces) (board : Record) (bytes places first : List ℕ) (turnings : List Turnings) (r : Counts) : Type 0 where
   pub on_board : OnBoard (axes (sides_of board)) (grid_of bytes board) places r.size
   pub are_kinds : AreKinds t bytes first r.kinds
-  pub each_kind : (k : ℕ) → k < r.kinds → VariantsAt (grid_at t bytes (get_or first k 0)) turnings (25 * k)
+  pub each_kind : (k : ℕ) → k < r.kinds → AreVariants (grid_at t bytes (get_or first k 0)) (get_or turnings k no_turnings)
   pub counts : CountsOf (compile (lent_in (records_of t) board bytes)) r
 
 -- rows 2 to 9 let a tray pass

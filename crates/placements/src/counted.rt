@@ -1,15 +1,39 @@
 // Trays that are counted.
 ghost use Rattle.placements.specs.Merging.{Smallest};
-ghost use Rattle.placements.specs.Counting.{Counted};
+ghost use Rattle.std.specs.Prelude.{◌≡◌, ◌≤◌};
+ghost use Rattle.placements.specs.Counting.{Counted, numbers_of};
 
 use super::counting::Counts;
 use super::merging::TurnedPieces;
 use super::trays::LentTray;
 use shape::maps::Map;
 
-// What counting leaves of a tray: the counts; the places of the board's filled cells, each piece's smallest map, one piece of each kind, and for each kind k
-// how many variants it has (at 25·k) and their map numbers (behind it). What else stands in the four arrays says nothing. They are of fixed length,
-// with counts beside them, since nothing is put on a heap.
+// The variants of a kind, at most 24: how many they are, and their map numbers (what lies behind these says nothing). Of fixed length, with a count beside
+// it, since nothing is put on a heap.
+#[derive(Clone, Copy)]
+pub struct Turnings {
+    pub count: usize,
+    pub numbers: [u8; 24],
+}
+
+// No variants.
+pub(crate) const NO_TURNINGS: Turnings = Turnings {
+    count: 0,
+    numbers: [0; 24],
+};
+
+impl Turnings {
+    // The map numbers.
+    fn as_slice(&self) -> &[u8]
+        requires { self.now.count ≤ 24 }
+        ensures { result.now ≡ numbers_of self.now }
+    {
+        &self.numbers[..self.count]
+    }
+}
+
+// What counting leaves of a tray: the counts; the places of the board's filled cells, each piece's smallest map, one piece of each kind, and the variants of
+// each kind. What else stands in the four arrays says nothing. They are of fixed length, with counts beside them, since nothing is put on a heap.
 #[derive(Clone, Copy)]
 pub struct CountedTray<'a> {
     pub tray: LentTray<'a>,
@@ -17,18 +41,19 @@ pub struct CountedTray<'a> {
     pub places: [u16; 512],
     pub small: [u8; 16],
     pub first: [u8; 16],
-    pub turnings: [u8; 400],
+    pub turnings: [Turnings; 16],
     pub ghost counted: { Counted tray.pieces tray.board tray.bytes.now places first turnings counts },
     pub ghost smallest: { Smallest tray.pieces tray.bytes.now small },
 }
 
 impl<'a> CountedTray<'a> {
-    ghost use Rattle.std.specs.Prelude.{◌≡◌, ◌+◌, ◌*◌, ◌≤◌, ◌<◌, length, take, drop, get_or};
+    ghost use Rattle.std.specs.Prelude.{◌≡◌, ◌≤◌, ◌<◌, length, take, get_or};
     ghost use Rattle.lists.specs.Lists.{before};
     ghost use Rattle.definitions.specs.Maps.{map_of};
     ghost use Rattle.definitions.specs.Kinds.{same_form, variants};
     ghost use Rattle.shape.specs.Variants.{turned_by};
     ghost use Rattle.placements.specs.Merging.{grid_at, moved_form, forms_of, copies_at};
+    ghost use Rattle.placements.specs.Counting.{no_turnings, numbers_of};
 
     // The pieces with their smallest maps.
     fn turned(&self) -> TurnedPieces<'_>
@@ -61,12 +86,11 @@ impl<'a> CountedTray<'a> {
         requires { k < self.now.counts.kinds }
         ensures { let c = self.now in
             let g = grid_at c.tray.pieces c.tray.bytes.now (get_or c.first k 0) in
-            (result.now ≡ take (get_or c.turnings (25 * k) 0) (drop (25 * k + 1) c.turnings))
+            (result.now ≡ numbers_of (get_or c.turnings k no_turnings))
             × (length result.now ≤ 24) × (turned_by g result.now ≡ variants g) }
     {
-        let start = 25 * k + 1;
-        let end = start + self.turnings[25 * k] as usize;
-        &self.turnings[start..end]
+        let turnings = &self.turnings;
+        turnings[k].as_slice()
     }
 
     // The number of the kind whose smallest turned grid a map makes of piece i; how many kinds there are where it is none of them.

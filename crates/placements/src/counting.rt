@@ -1,15 +1,15 @@
 // What counting works out of a tray before anything is written: its kinds, their variants, and how many placements and links it has.
-ghost use Rattle.std.specs.Prelude.{◌≡◌, ◌+◌, ◌*◌, ◌≤◌, length};
+ghost use Rattle.std.specs.Prelude.{◌≡◌, ◌*◌, ◌≤◌, length};
 ghost use Rattle.definitions.specs.Refusals.{first_that_applies};
 ghost use Rattle.shape.specs.Variants.{turned_by};
 ghost use Rattle.shape.specs.CubicGrids.{grid_of};
 ghost use Rattle.shape.specs.Scans.{as_order};
 ghost use Rattle.placements.specs.Stages.{verdict_number, count_rows_by};
 ghost use Rattle.placements.specs.Merging.{Smallest, AreKinds};
-ghost use Rattle.placements.specs.Counting.{fits_in, placements_in, Counted, PutVariants};
+ghost use Rattle.placements.specs.Counting.{fits_in, placements_in, AreVariants, Counted};
 ghost use Rattle.placements.specs.Trays.{board_grid};
 
-use super::counted::CountedTray;
+use super::counted::{CountedTray, NO_TURNINGS, Turnings};
 use super::merging::TurnedPieces;
 use super::planned::PlannedBoard;
 use super::poses::Poses;
@@ -45,21 +45,18 @@ fn count_cells(board: &PlannedBoard, piece: &CubicGrid, turnings: &[u8]) -> usiz
     count
 }
 
-// The variants of a piece, from a place of the slice on; and how many placements it has on a board.
-fn count_piece(board: &PlannedBoard, piece: &CubicGrid, turnings: &mut [u8], at: usize) -> usize
-    requires { at + 25 ≤ length turnings.old }
+// The variants of a piece; and how many placements it has on a board.
+fn count_piece(board: &PlannedBoard, piece: &CubicGrid) -> (Turnings, usize)
     ensures { let b = board.now in
         let g = grid_of piece.now in
-        (result ≡ placements_in (as_order b.order) (grid_of b.grid) g) × (result ≤ 24 * length b.places.now)
-        × PutVariants g at turnings.old turnings.new }
+        AreVariants g result.0 × (result.1 ≡ placements_in (as_order b.order) (grid_of b.grid) g) × (result.1 ≤ 24 * length b.places.now) }
 {
-    let start = at + 1;
-    let end = at + 25;
     let mut turned = [0u8; 12288];
     variants::turn_all(piece, &mut turned);
-    let n = variants::variants_of(piece, &turned, &mut turnings[start..end]);
-    turnings[at] = n as u8;
-    count_cells(board, piece, &turnings[start..start + n])
+    let mut numbers = [0; 24];
+    let count = variants::variants_of(piece, &turned, &mut numbers);
+    let rows = count_cells(board, piece, &numbers[..count]);
+    (Turnings { count, numbers }, rows)
 }
 
 // The same of a piece of each kind, and the counts of them all.
@@ -68,12 +65,11 @@ fn count_kinds(
     tray: &LentTray,
     small: &[u8],
     kinds: &[u8],
-    turnings: &mut [u8],
+    turnings: &mut [Turnings; 16],
 ) -> Counts
     requires board { let t = tray.now in grid_of board.now.grid ≡ board_grid t }
     requires smallest { let t = tray.now in Smallest t.pieces t.bytes.now small.now }
     requires kinds { let t = tray.now in AreKinds t.pieces t.bytes.now kinds.now (length kinds.now) }
-    requires room { length turnings.old ≡ 400 }
     ensures counted { let t = tray.now in
         Counted t.pieces t.board t.bytes.now board.now.places.now kinds.now turnings.new result }
     ensures sizes { (result.size ≡ length board.now.places.now) × (result.kinds ≡ length kinds.now) }
@@ -90,7 +86,8 @@ fn count_kinds(
     for (k, &first) in kinds.iter().enumerate() {
         let i = first as usize;
         let piece = tray.piece_grid(i);
-        let rows = count_piece(board, &piece, turnings, 25 * k);
+        let (variants, rows) = count_piece(board, &piece);
+        turnings[k] = variants;
         placements += rows;
         if 0 < pieces.copies_of(i) {
             links += rows * (1 + grids::count_filled(piece.cells));
@@ -125,7 +122,7 @@ pub fn count_tray<'a>(tray: LentTray<'a>) -> CountedTray<'a>
         order,
         places: &places[..size],
     };
-    let mut turnings = [0u8; 400];
+    let mut turnings = [NO_TURNINGS; 16];
     let counts = count_kinds(&board, &tray, &small, &first[..kinds], &mut turnings);
     CountedTray {
         tray,

@@ -9,7 +9,7 @@ ghost use Rattle.shape.specs.CubicGrids.{grid_of};
 ghost use Rattle.placements.specs.Poses.{Standing, variants_in};
 ghost use Rattle.placements.specs.Fitting.{fits_pose};
 
-use super::poses::Poses;
+use super::poses::{Pose, Poses};
 use shape::{Coord, CubicGrid, cells};
 
 // Whether the origin o of a grid reaches no further than the cell at which it lies.
@@ -36,18 +36,18 @@ pub fn lies_at(at: Coord, o: Coord, u: Coord) -> Coord
     Coord(at.0 - o.0 + u.0, at.1 - o.1 + u.1, at.2 - o.2 + u.2)
 }
 
-// The fit test: each filled cell of variant i lies on a filled board cell when its origin lies at a cell of the board's box.
-pub fn fits_pose(board: &CubicGrid, poses: &Poses, i: usize, at: Coord) -> bool
-    requires { InBox (as_sides board.now.sides) (as_cell at) × (i < 24) × (poses.now.size ≤ 512) }
-    ensures { result ≡ fits_pose (grid_of board.now) (as_cell at) poses.now i }
+// The fit test: each filled cell of a variant lies on a filled board cell when its origin lies at a cell of the board's box.
+pub fn fits_pose(board: &CubicGrid, pose: &Pose, at: Coord) -> bool
+    requires { InBox (as_sides board.now.sides) (as_cell at) × (pose.now.size ≤ 512) }
+    ensures { result ≡ fits_pose (grid_of board.now) (as_cell at) pose.now }
 {
-    let o = poses.origin_at(i);
+    let o = pose.origin();
     if !does_reach(at, o) {
         return false;
     }
     // the cells before k lie on filled board cells
-    for k in 0..poses.size {
-        if !is_filled(board, lies_at(at, o, poses.cell_at(i, k))) {
+    for k in 0..pose.size {
+        if !is_filled(board, lies_at(at, o, pose.cell_at(k))) {
             return false;
         }
     }
@@ -61,7 +61,9 @@ pub(crate) fn count_at(board: &CubicGrid, poses: &Poses, at: Coord) -> usize
         let fit = fits (scan order (grid_of board.now)) (as_cell at) in
         (result ≡ how_many fit (variants_in order poses.now)) × (result ≤ poses.now.count) }
 {
-    (0..poses.count)
-        .filter(|&i| fits_pose(board, poses, i, at))
+    poses
+        .as_slice()
+        .iter()
+        .filter(|&pose| fits_pose(board, pose, at))
         .count()
 }

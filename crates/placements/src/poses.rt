@@ -1,5 +1,5 @@
 // Poses: the variants of a piece as the fit test reads them, each by the codes of its filled cells and of its origin.
-ghost use Rattle.std.specs.Prelude.{◌≡◌, map, ◌+◌, ◌*◌, ◌≤◌, ◌<◌, length, take, drop, get_or};
+ghost use Rattle.std.specs.Prelude.{◌≡◌, map, ◌+◌, ◌*◌, ◌≤◌, ◌<◌, length, take, get_or};
 ghost use Rattle.std.proofs.Math.Seq.{paste};
 ghost use Rattle.lists.specs.Lists.{sort};
 ghost use Rattle.definitions.specs.Grid.{volume, filled_cells};
@@ -11,19 +11,25 @@ ghost use Rattle.shape.specs.CubicGrids.{grid_of};
 ghost use Rattle.shape.specs.Grids.{as_grid};
 ghost use Rattle.shape.specs.Scans.{as_order};
 ghost use Rattle.shape.specs.Variants.{turned_by};
-ghost use Rattle.placements.specs.Poses.{code_of, cell_of, origin_in, with_pose, with_poses, empty_poses, Posed};
+ghost use Rattle.placements.specs.Poses.{code_of, cell_of, origin_in, no_pose, with_pose, with_poses, empty_poses, PoseOf, Posed};
 
 use shape::maps::Map;
-use shape::{AxisOrder, Coord, CubicGrid, cells, grids, scan};
+use shape::{AxisOrder, Coord, CubicGrid, cells, scan};
 
-// The variants of a piece, at most 24: how many there are, how many filled cells each has, and for each the codes of these, x slowest, z fastest, in 512
-// numbers (what lies behind them says nothing), and that of its origin. Of fixed length, with a count beside them, since nothing is put on a heap.
+// A variant of a piece: how many filled cells it has, the codes of these, x slowest, z fastest (what lies behind them says nothing), and that of its
+// origin. Of fixed length, with a count beside it, since nothing is put on a heap.
+#[derive(Clone, Copy)]
+pub struct Pose {
+    pub size: usize,
+    pub codes: [u16; 512],
+    pub origin: u16,
+}
+
+// The variants of a piece, at most 24, and how many they are (what lies behind them says nothing). Of fixed length, as a pose is.
 #[derive(Drop)]
 pub struct Poses {
     pub count: usize,
-    pub size: usize,
-    pub codes: [u16; 12288],
-    pub origins: [u16; 24],
+    pub list: [Pose; 24],
 }
 
 // The cell with a code. (No type with `From`: a code asks that the coordinates are below 8, which `from` cannot ask.)
@@ -44,11 +50,11 @@ fn code_of(u: Coord) -> u16
     (64 * u.0 + 8 * u.1 + u.2) as u16
 }
 
-// The codes of a grid's filled cells, x slowest, z fastest, into a slice from a place on; and how many they are.
-fn list_filled(cells: &[u8], s: Coord, codes: &mut [u16], at: usize) -> usize
-    requires { Fit (as_sides s) × (volume (as_sides s) ≤ length cells.now) × (at + volume (as_sides s) ≤ length codes.old) }
+// The codes of a grid's filled cells, x slowest, z fastest, to the front of a slice; and how many they are.
+fn list_filled(cells: &[u8], s: Coord, codes: &mut [u16]) -> usize
+    requires { Fit (as_sides s) × (volume (as_sides s) ≤ length cells.now) × (volume (as_sides s) ≤ length codes.old) }
     ensures { let us = filled_cells (as_grid s cells.now) in
-        (result ≡ length us) × (codes.new ≡ paste codes.old at (map code_of us) result) }
+        (result ≡ length us) × (codes.new ≡ paste codes.old 0 (map code_of us) result) }
 {
     let mut u = Coord(0, 0, 0);
     let mut n = 0;
@@ -56,7 +62,7 @@ fn list_filled(cells: &[u8], s: Coord, codes: &mut [u16], at: usize) -> usize
     // u is the cell that comes next, and the codes of the filled cells before it stand there
     for &cell in &cells[..v] {
         if cell == 1 {
-            codes[at + n] = code_of(u);
+            codes[n] = code_of(u);
             n += 1;
         }
         u = cells::next_cell(s, u);
@@ -64,22 +70,50 @@ fn list_filled(cells: &[u8], s: Coord, codes: &mut [u16], at: usize) -> usize
     n
 }
 
-// The code of the first in scan order of cells whose codes are listed; 0 where there are none.
+// The code of the first in scan order of cells whose codes are listed; 0 where there are none. (No Option: the origin of no cells is (0, 0, 0).)
 fn first_of(codes: &[u16], order: AxisOrder) -> u16
     ensures { cell_of result ≡ origin (sort (cell_ahead (as_order order)) (map cell_of codes.now)) }
 {
-    let Some(&last) = codes.last() else {
+    let Some((&last, before)) = codes.split_last() else {
         return 0;
     };
     let mut first = last;
     // the first of the cells behind cell k
-    for k in (0..codes.len() - 1).rev() {
-        let code = codes[k];
+    for k in (0..before.len()).rev() {
+        let code = before[k];
         if scan::compare_cells(order, cell_of(code), cell_of(first)).is_lt() {
             first = code;
         }
     }
     first
+}
+
+impl Pose {
+    // Filled cell k.
+    pub fn cell_at(&self, k: usize) -> Coord
+        requires { k < 512 }
+        ensures { (as_cell result ≡ cell_of (get_or self.now.codes k 0)) × (result.0 ≤ 1023) × (result.1 ≤ 7) × (result.2 ≤ 7) }
+    {
+        cell_of(self.codes[k])
+    }
+
+    // The origin.
+    #[tactic(auto, unfolding(crate::specs::Poses::origin_in))]
+    pub fn origin(&self) -> Coord
+        ensures { as_cell result ≡ origin_in self.now }
+    {
+        cell_of(self.origin)
+    }
+
+    // The pose becomes that of a grid. What lies behind its codes stays.
+    fn put(&mut self, cells: &[u8], s: Coord, order: AxisOrder)
+        requires { Fit (as_sides s) × (volume (as_sides s) ≤ length cells.now) }
+        ensures { let g = as_grid s cells.now in
+            PoseOf (as_order order) g self.new × (self.new ≡ with_pose (as_order order) (filled_cells g) self.old) }
+    {
+        self.size = list_filled(cells, s, &mut self.codes);
+        self.origin = first_of(&self.codes[..self.size], order);
+    }
 }
 
 impl Poses {
@@ -90,38 +124,20 @@ impl Poses {
     {
         Poses {
             count: 0,
-            size: 0,
-            codes: [0; 12288],
-            origins: [0; 24],
+            list: [Pose {
+                size: 0,
+                codes: [0; 512],
+                origin: 0,
+            }; 24],
         }
     }
 
-    // Filled cell k of variant i.
-    pub fn cell_at(&self, i: usize, k: usize) -> Coord
-        requires { (i < 24) × (k < 512) }
-        ensures { (as_cell result ≡ cell_of (get_or self.now.codes (512 * i + k) 0)) × (result.0 ≤ 1023) × (result.1 ≤ 7) × (result.2 ≤ 7) }
+    // The variants.
+    pub fn as_slice(&self) -> &[Pose]
+        requires { self.now.count ≤ 24 }
+        ensures { result.now ≡ take self.now.count self.now.list }
     {
-        cell_of(self.codes[512 * i + k])
-    }
-
-    // The origin of variant i.
-    #[tactic(auto, unfolding(crate::specs::Poses::origin_in))]
-    pub fn origin_at(&self, i: usize) -> Coord
-        requires { i < 24 }
-        ensures { as_cell result ≡ origin_in self.now i }
-    {
-        cell_of(self.origins[i])
-    }
-
-    // A grid as pose i.
-    fn put_pose(&mut self, cells: &[u8], s: Coord, order: AxisOrder, i: usize)
-        requires { Fit (as_sides s) × (volume (as_sides s) ≤ length cells.now) × (i < 24) }
-        ensures { let us = filled_cells (as_grid s cells.now) in
-            self.new ≡ with_pose (as_order order) us i self.old }
-    {
-        let start = 512 * i;
-        let n = list_filled(cells, s, &mut self.codes, start);
-        self.origins[i] = first_of(&self.codes[start..start + n], order);
+        &self.list[..self.count]
     }
 
     // The grids that map numbers make of a grid become the poses. What lies behind their codes stays.
@@ -130,17 +146,15 @@ impl Poses {
         ensures { let g = grid_of grid.now in
             let ks = turnings.now in
             let posed = with_poses (as_order order) (λ i. filled_cells (map_grid (map_of (get_or ks i 0)) g)) (length ks) self.old in
-            Posed (as_order order) (turned_by g ks) self.new
-            × (self.new ≡ record posed { count = length ks; size = length (filled_cells g) }) }
+            Posed (as_order order) (turned_by g ks) self.new × (self.new ≡ record posed { count = length ks }) }
     {
         let mut turned = [0u8; 512];
         // the grids of the numbers before i stand there
         for (i, &number) in turnings.iter().enumerate() {
             let m = Map(number);
             grid.turn_into(m, &mut turned, 0);
-            self.put_pose(&turned, m.sides(grid.sides), order, i);
+            self.list[i].put(&turned, m.sides(grid.sides), order);
         }
         self.count = turnings.len();
-        self.size = grids::count_filled(grid.cells);
     }
 }

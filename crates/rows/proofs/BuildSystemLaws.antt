@@ -38,6 +38,7 @@ use Rattle.placements.specs.declared.Pieces.{Pieces}
 use Rattle.placements.specs.Pieces.{records_of, framed_in, lent_in, tray_in}
 use Rattle.placements.specs.Stages.{lent_rows, grid_rows, config_rows, slice_rows, count_rows_by, count_rows}
 use Rattle.placements.specs.Counting.{OnBoard, Accepted9, Counted}
+use Rattle.placements.specs.declared.counted.Turnings.{Turnings}
 use Rattle.placements.specs.declared.counting.Counts.{Counts}
 use Rattle.placements.specs.declared.stripping.StrippedRecords.{StrippedRecords}
 use Rattle.placements.specs.Stripping.{lent_place, StripsTray}
@@ -354,7 +355,7 @@ module _ (t : Pieces) (board : Record) (bytes : List ℕ) {r : StrippedRecords} 
       subst₂ FitsIn (λ i. record { lent = sym e i; at = sym stripped.at i }) (ap (λ (g : Grid). g.sides) (sym part_is)) (strip_fits (grid_of bytes board))
 
   -- and its placements fit into rows
-  pub rows_stripped : {places first turnings : List ℕ} {counts : Counts} → Counted r.pieces r.board cells places first turnings counts → (work : List ℕ)
+  pub rows_stripped : {places first : List ℕ} {turnings : List Turnings} {counts : Counts} → Counted r.pieces r.board cells places first turnings counts → (work : List ℕ)
       → Accepted9 t board bytes → counts.placements ≤ 1024 → 8192 ≤ length work → RowsFit (compile (lent_in (records_of r.pieces) r.board cells))
   rows_stripped counted work ok few long =
       rows_unframed (tray_in (records_of t) board bytes) stripped.tray

@@ -26,8 +26,9 @@ use Rattle.shape.proofs.PlaceLaws.{place_lt, cell_at_place}
 use Rattle.shape.proofs.GridLaws.{box_places}
 use Rattle.shape.proofs.VariantLaws.{scan_has}
 use Rattle.shape.proofs.ScanLaws.{cell_tied}
+use Rattle.placements.specs.declared.poses.Pose.{Pose}
 use Rattle.placements.specs.declared.poses.Poses.{Poses}
-use Rattle.placements.specs.Poses.{cell_of, cells_in, variant_in, variants_in}
+use Rattle.placements.specs.Poses.{cell_of, cells_in, variant_in, variants_in, no_pose}
 use Rattle.placements.specs.Fitting.{fits_on}
 use Rattle.placements.specs.Counting.{OnBoard}
 use Rattle.placements.proofs.PoseLaws.{cells_numbered}
@@ -183,15 +184,15 @@ module _ {old new : List ℕ} {r : ℕ} {left all : List Placement} (j : ℕ) (c
 abbrev pub numbers_from : (ℕ → ℕ) → ℕ → ℕ → ℕ → Bool
 numbers_from f k n m = member m (map f (from k n))
 
-pub mask_start : (number : Cell → ℕ) (poses : Poses) (i : ℕ) → 512 * i + poses.size ≤ length poses.codes → (m : ℕ → Bool) → m ≡ nothing
-    → either m (numbers_from (λ k. number (cell_of (get_or poses.codes (512 * i + k) 0))) 0 (poses.size - 0)) ≡ (λ n. member n (map number (cells_in poses i)))
+pub mask_start : (number : Cell → ℕ) (pose : Pose) → pose.size ≤ length pose.codes → (m : ℕ → Bool) → m ≡ nothing
+    → either m (numbers_from (λ k. number (cell_of (get_or pose.codes k 0))) 0 (pose.size - 0)) ≡ (λ n. member n (map number (cells_in pose)))
 unfolding either nothing
-mask_start number poses i room m e =
-    let f : ℕ → Cell = λ k. cell_of (get_or poses.codes (512 * i + k) 0) in
+mask_start number pose room m e =
+    let f : ℕ → Cell = λ k. cell_of (get_or pose.codes k 0) in
     fun_ext λ n.
-    ap (λ (p : ℕ → Bool). p n || numbers_from (λ k. number (f k)) 0 (poses.size - 0) n) e
+    ap (λ (p : ℕ → Bool). p n || numbers_from (λ k. number (f k)) 0 (pose.size - 0) n) e
     ∙ ap (member n)
-    (ap (map (λ k. number (f k))) (from_start poses.size) ∙ sym (map-map number f (below poses.size)) ∙ ap (map number) (sym (cells_numbered poses i room)))
+    (ap (map (λ k. number (f k))) (from_start pose.size) ∙ sym (map-map number f (below pose.size)) ∙ ap (map number) (sym (cells_numbered pose room)))
 
 module _ (f : ℕ → ℕ) (m : ℕ → Bool) (k n : ℕ) where
   pub mask_next : (w : ℕ → Bool) → k < n → w ≡ either m (only (f k)) → either w (numbers_from f (k + 1) (n - (k + 1))) ≡ either m (numbers_from f k (n - k))
@@ -224,14 +225,14 @@ module _ (s : Sides) (scans : List ℕ) (v o : Cell) where
       )
 
   -- of cell k of a variant, by the cell and the origin that the code has
-  pub landing : (poses : Poses) (i : ℕ) → 512 * i + poses.size ≤ length poses.codes → T (all (lands s scans v o) (cells_in poses i)) → (k : ℕ) → k < poses.size
-      → {w p u : Cell} → w ≡ lies v p u → p ≡ o → u ≡ cell_of (get_or poses.codes (512 * i + k) 0)
-      → InBox s w × (get_or scans (place_of s w) 0 < 128) × (w ≡ lies v o (cell_of (get_or poses.codes (512 * i + k) 0)))
-  landing poses i room ok k l {w} d f e =
-      let cell : ℕ → Cell = λ n. cell_of (get_or poses.codes (512 * i + n) 0) in
+  pub landing : (pose : Pose) → pose.size ≤ length pose.codes → T (all (lands s scans v o) (cells_in pose)) → (k : ℕ) → k < pose.size
+      → {w p u : Cell} → w ≡ lies v p u → p ≡ o → u ≡ cell_of (get_or pose.codes k 0)
+      → InBox s w × (get_or scans (place_of s w) 0 < 128) × (w ≡ lies v o (cell_of (get_or pose.codes k 0)))
+  landing pose room ok k l {w} d f e =
+      let cell : ℕ → Cell = λ n. cell_of (get_or pose.codes n 0) in
       let is : w ≡ lies v o (cell k) = d ∙ ap₂ (lies v) f e in
-      let m : Memᴰ (cell k) (cells_in poses i) = subst (λ (us : List Cell). Memᴰ (cell k) us) (sym (cells_numbered poses i room)) (mathlib.Core.List.Memᴰ.map cell (below_of poses.size l)) in
-      let r = lands_parts (cell k) (all_at (lands s scans v o) (cells_in poses i) ok m) in
+      let m : Memᴰ (cell k) (cells_in pose) = subst (λ (us : List Cell). Memᴰ (cell k) us) (sym (cells_numbered pose room)) (mathlib.Core.List.Memᴰ.map cell (below_of pose.size l)) in
+      let r = lands_parts (cell k) (all_at (lands s scans v o) (cells_in pose) ok m) in
       (subst (InBox s) (sym is) r.0, subst (λ (x : Cell). get_or scans (place_of s x) 0 < 128) (sym is) r.1, is)
 
 -- ---- the scan numbers of a board
@@ -327,27 +328,28 @@ module _ (order : List ℕ) (g : Grid) (kind p : ℕ) (v : Cell) where
   abbrev pub placed : ℕ → List Cell → Placement
   placed j us = record { kind = kind; p = p; j = j; cells = map (λ u. scan_number (scan order g) (lies v (origin us) u)) us }
 
-  module _ (poses : Poses) where
+  module _ (poses : List Pose) where
     abbrev pub left_at : ℕ → ℕ → List Placement
-    left_at j i = numbered_from j (keep (fits (scan order g) v) (map (variant_in order poses) (from i (poses.count - i)))) placed
+    left_at j i = numbered_from j (keep (fits (scan order g) v) (map (variant_in order) (drop i poses))) placed
 
-    pub left_start : left_at 0 0 ≡ placements_at (scan order g) kind (variants_in order poses) p v
-    unfolding placements_at variants_in
-    left_start = ap (λ (is : List ℕ). numbered_from 0 (keep (fits (scan order g) v) (map (variant_in order poses) is)) placed) (from_start poses.count)
+    module _ (j i : ℕ) (pose : Pose) where
+      left_more : i < length poses → pose ≡ get_or poses i no_pose → (b : Bool) → fits (scan order g) v (variant_in order pose) ≡ b
+          → left_at j i ≡ numbered_from j (cons_if b (variant_in order pose) (keep (fits (scan order g) v) (map (variant_in order) (drop (i + 1) poses)))) placed
+      left_more l is b e = rw (drop-cons poses i no_pose l, ← is, e, add-one i)
 
-    module _ (j i : ℕ) where
-      left_more : i < poses.count → (b : Bool) → fits (scan order g) v (variant_in order poses i) ≡ b
-          → left_at j i ≡ numbered_from j (cons_if b (variant_in order poses i) (keep (fits (scan order g) v) (map (variant_in order poses) (from (i + 1) (poses.count - (i + 1)))))) placed
-      left_more l b e = rw (from_next i poses.count l, e)
+      pub left_hit : i < length poses → pose ≡ get_or poses i no_pose → fits (scan order g) v (variant_in order pose) ≡ true
+          → left_at j i ≡ (placed j (variant_in order pose) ∷ []) ++ left_at (j + 1) (i + 1)
+      left_hit l is e = left_more l is true e ∙ rw (add-one j)
 
-      pub left_hit : i < poses.count → fits (scan order g) v (variant_in order poses i) ≡ true → left_at j i ≡ (placed j (variant_in order poses i) ∷ []) ++ left_at (j + 1) (i + 1)
-      left_hit l e = left_more l true e ∙ rw (add-one j)
+      pub left_miss : i < length poses → pose ≡ get_or poses i no_pose → fits (scan order g) v (variant_in order pose) ≡ false → left_at j i ≡ left_at j (i + 1)
+      left_miss l is e = left_more l is false e
 
-      pub left_miss : i < poses.count → fits (scan order g) v (variant_in order poses i) ≡ false → left_at j i ≡ left_at j (i + 1)
-      left_miss l e = left_more l false e
+    pub left_end : (j i : ℕ) → length poses ≤ i → left_at j i ≡ []
+    left_end j i l = rw (drop_of_length-le poses {i = i} l)
 
-      pub left_end : poses.count ≤ i → left_at j i ≡ []
-      left_end l = rw (from-end i poses.count l)
+  pub left_start : (poses : Poses) → left_at (take poses.count poses.list) 0 0 ≡ placements_at (scan order g) kind (variants_in order poses) p v
+  unfolding placements_at variants_in
+  left_start poses = refl
 
 -- ---- the rows of a kind
 module _ (order : List ℕ) (g : Grid) (places : List ℕ) (n : ℕ) (on : OnBoard order g places n) where

@@ -20,7 +20,7 @@ use super::row;
 use masks::Mask;
 use placements::counted::CountedTray;
 use placements::fitting;
-use placements::poses::Poses;
+use placements::poses::{Pose, Poses};
 use shape::{Coord, CubicGrid, cells};
 
 // Row r, behind r rows.
@@ -36,19 +36,19 @@ fn write_row(work: &mut [u64], r: usize, mask: Mask, kind: usize, p: usize, j: u
     work[at + 4] = j as u64;
 }
 
-// The cells, by scan number, on which the filled cells of variant i lie when its origin lies at a cell of the board's box.
-fn mask_of(board: &NumberedBoard, poses: &Poses, i: usize, at: Coord) -> Mask
-    requires cell { InBox (sides_of board.now) (as_cell at) × (i < 24) × (poses.now.size ≤ 512) × T (reaches (as_cell at) (origin_in poses.now i)) }
-    requires landing { T (all (lands (sides_of board.now) board.now.scans (as_cell at) (origin_in poses.now i)) (cells_in poses.now i)) }
+// The cells, by scan number, on which the filled cells of a variant lie when its origin lies at a cell of the board's box.
+fn mask_of(board: &NumberedBoard, pose: &Pose, at: Coord) -> Mask
+    requires cell { InBox (sides_of board.now) (as_cell at) × (pose.now.size ≤ 512) × T (reaches (as_cell at) (origin_in pose.now)) }
+    requires landing { T (all (lands (sides_of board.now) board.now.scans (as_cell at) (origin_in pose.now)) (cells_in pose.now)) }
     ensures { let b = board.now in
-        let o = origin_in poses.now i in
-        has result ≡ (λ n. member n (map (λ u. get_or b.scans (place_of (sides_of b) (lies (as_cell at) o u)) 0) (cells_in poses.now i))) }
+        let o = origin_in pose.now in
+        has result ≡ (λ n. member n (map (λ u. get_or b.scans (place_of (sides_of b) (lies (as_cell at) o u)) 0) (cells_in pose.now))) }
 {
-    let o = poses.origin_at(i);
+    let o = pose.origin();
     let mut mask = Mask::empty();
     // the mask has the cells on which those before k lie
-    for k in 0..poses.size {
-        let u = fitting::lies_at(at, o, poses.cell_at(i, k));
+    for k in 0..pose.size {
+        let u = fitting::lies_at(at, o, pose.cell_at(k));
         let n = board.scans[cells::place(board.planned.grid.sides, u)];
         mask = mask.with_cell(n as usize);
     }
@@ -76,10 +76,10 @@ fn rows_at(
         Appended work.old r work.new result (map spread (placements_at cs kind vs p (as_cell at))) }
 {
     let mut j = 0;
-    // the rows written and the placements of the variants from i on make all
-    for i in 0..poses.count {
-        if fitting::fits_pose(&board.planned.grid, poses, i, at) {
-            write_row(work, r + j, mask_of(board, poses, i, at), kind, p, j);
+    // the rows written and the placements of the variants left make all
+    for pose in poses.as_slice() {
+        if fitting::fits_pose(&board.planned.grid, pose, at) {
+            write_row(work, r + j, mask_of(board, pose, at), kind, p, j);
             j += 1;
         }
     }

@@ -221,7 +221,7 @@ pub all_is : (p : ℕ → Bool) (xs : List ℕ) → all p xs ≡ list_all p xs
 all_is p [] = refl
 all_is p (x ∷ xs) = ap (λ (b : Bool). p x && b) (all_is p xs)
 
-pub how_many_is : (p : ℕ → Bool) (xs : List ℕ) → how_many p xs ≡ count_by p xs
+pub how_many_is : {A : Type 0} (p : A → Bool) (xs : List A) → how_many p xs ≡ count_by p xs
 how_many_is p = is_count_by (how_many p) p refl (λ x xs. counted (p x) (how_many p xs))
   where
     counted : (b : Bool) (n : ℕ) → cond b 1 0 + n ≡ cond b (1 + n) n

@@ -35,6 +35,7 @@ use Rattle.placements.specs.Stripping.{StripsTray}
 use Rattle.placements.specs.declared.stripping.StrippedRecords.{StrippedRecords}
 use Rattle.placements.specs.Counting.{Accepted9, Counted}
 use Rattle.placements.specs.Stages.{config_rows, count_rows_by, lent_rows, slice_rows}
+use Rattle.placements.specs.declared.counted.Turnings.{Turnings}
 use Rattle.placements.specs.declared.counting.Counts.{Counts}
 use Rattle.placements.proofs.AcceptedLaws.{placements_few}
 use Rattle.placements.proofs.CountingLaws.{board_fits, config_decides, count-rows, counts_decide, counts_stripped, early_decides, lent_decides, lent_passes, refused_some, slices_decide}
@@ -226,7 +227,7 @@ module _ (t : Pieces) (board : Record) (bytes : List ℕ) (config : Config) (wor
 
       -- rows 14 and 15, of what is counted of the stripped tray
       module _ (slices : 0 ≡ first_that_applies (slice_rows config work links)) {r : StrippedRecords} {cells : List ℕ} (s : StripsTray t board bytes r cells)
-          {places first turnings : List ℕ} {counts : Counts} (counted : Counted r.pieces r.board cells places first turnings counts) where
+          {places first : List ℕ} {turnings : List Turnings} {counts : Counts} (counted : Counted r.pieces r.board cells places first turnings counts) where
         past : first_that_applies (lent_rows (records_of t) board bytes ++ config_rows config ++ slice_rows config work links) ≡ 0
         past = slices_decide t board bytes config work links (sym lent) (sym chosen) ∙ sym slices
 

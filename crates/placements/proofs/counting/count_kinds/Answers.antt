@@ -2,6 +2,7 @@
 -- variants of the kinds before k stand in the slice. Assumes nothing.
 use Rattle.std.proofs.Common.{ℕ, List, ◌+◌, ◌*◌, ◌≤◌, ◌<◌, ◌≡◌, ◌∙◌, sym, ap, subst, get_or, length, arith}
 use lib.Dec.{eqb}
+use lib.ListN.{length-set}
 use lib.Seq.{take-length}
 use Rattle.lists.specs.Lists.{how_many}
 use Rattle.definitions.specs.Grid.{Grid}
@@ -9,7 +10,7 @@ use Rattle.definitions.specs.Refusals.{grid_of}
 use Rattle.shape.specs.CubicGrids.{grid_of as cubic}
 use Rattle.shape.specs.Scans.{as_order}
 use Rattle.placements.specs.Merging.{Ordered, grid_at}
-use Rattle.placements.specs.Counting.{OnBoard, placements_in, PutVariants}
+use Rattle.placements.specs.Counting.{OnBoard, placements_in, AreVariants}
 use Rattle.placements.proofs.MergingLaws.{piece-at}
 use Rattle.placements.proofs.CountingLaws.{placements_at_piece, placements_counted, links_counted}
 use Rattle.placements.proofs.CountingLaws.{links_some, links_none, links_small, whole_few, counted_none, counted_next, counted_all, variants_next}
@@ -28,13 +29,13 @@ is_piece c =
     let kinds = c.args.kinds.now in
     piece-at t.pieces t.bytes.now kinds (subst (Ordered t.pieces t.bytes.now) (take-length kinds) c.requires.kinds.ordered) c.loop-k.k c.loop-k-test.true
 
-few_rows : (c : After-count_piece-rows) → c.count_piece-rows.result ≤ 3072
-few_rows c = omega (arith, c.count_piece-rows.ensures.1, c.args.board.now.on_board.few)
+few_rows : (c : After-count_piece-rows) → c.count_piece-rows.result.1 ≤ 3072
+few_rows c = omega (arith, c.count_piece-rows.ensures.2, c.args.board.now.on_board.few)
 
-few_links : (c : After-count_filled) → c.count_piece-rows.result ≤ 3072 → c.count_piece-rows.result * (1 + c.count_filled.result) ≤ 1575936
+few_links : (c : After-count_filled) → c.count_piece-rows.result.1 ≤ 3072 → c.count_piece-rows.result.1 * (1 + c.count_filled.result) ≤ 1575936
 few_links c few =
     let grid = c.piece_grid-piece.result in
-    links_small c.count_piece-rows.result c.count_filled.result few (whole_few grid.sides grid.cells.now c.count_filled.result grid.whole c.count_filled.ensures.1)
+    links_small c.count_piece-rows.result.1 c.count_filled.result few (whole_few grid.sides grid.cells.now c.count_filled.result grid.whole c.count_filled.ensures.1)
 
 pub invariant_of-pieces : goal.invariant_of-pieces
 invariant_of-pieces c = record { many = omega arith; sound = sound_pieces c.args.tray.now; smallest = c.requires.smallest }
@@ -42,16 +43,16 @@ invariant_of-pieces c = record { many = omega arith; sound = sound_pieces c.args
 pub loop-k-init : goal.loop-k-init
 loop-k-init c =
     let few = few_kinds (goal.at.loop-k-init c).Start in
-    (counted_none _ _ _ _ _ (omega (arith, c.args.board.now.on_board.few)), λ j l. absurd (omega arith))
+    (counted_none _ _ _ _ _ (omega (arith, c.args.board.now.on_board.few)), omega arith, λ j l. absurd (omega arith))
 
 pub piece_grid-piece-requires : goal.piece_grid-piece-requires
 piece_grid-piece-requires c = is_piece (goal.at.piece_grid-piece-requires c).In-loop-k
 
-pub overflow_mul-k : goal.overflow_mul-k
-overflow_mul-k c = let few = few_kinds (goal.at.overflow_mul-k c).Start in omega arith
+pub offset_bounds-turnings-k : goal.offset_bounds-turnings-k
+offset_bounds-turnings-k c = let few = few_kinds (goal.at.offset_bounds-turnings-k c).Start in omega arith
 
-pub count_piece-rows-requires : goal.count_piece-rows-requires
-count_piece-rows-requires c = let few = few_kinds (goal.at.count_piece-rows-requires c).Start in omega (arith, c.requires.room)
+pub bounds-turnings-k : goal.bounds-turnings-k
+bounds-turnings-k c = let few = few_kinds (goal.at.bounds-turnings-k c).Start in omega arith
 
 pub overflow_add-placements : goal.overflow_add-placements
 overflow_add-placements c =
@@ -93,22 +94,23 @@ loop-k-preserved c =
     let few = few_rows at.After-count_piece-rows in
     let is = c.piece_grid-piece.ensures in
     let grid = c.piece_grid-piece.result in
-    let found : rows.result ≡ placements_at_piece o b t.pieces t.bytes.now i = rows.ensures.0 ∙ ap (placements_in o b) is in
-    let next = counted_next _ _ _ _ _ (omega arith) _ _ _ c.loop-k.invariant.0 c.loop-k-test.true rows.result in (
+    let found : rows.result.1 ≡ placements_at_piece o b t.pieces t.bytes.now i = rows.ensures.1 ∙ ap (placements_in o b) is in
+    let next = counted_next _ _ _ _ _ (omega arith) _ _ _ c.loop-k.invariant.0 c.loop-k-test.true rows.result.1 in (
       elim c.if-copies_of-gt0.branch [
         | then-copies_of-gt0 v ↦
             let n = v.count_filled.result in
             let e : n ≡ how_many (eqb 1) (grid_at t.pieces t.bytes.now i).cells = v.count_filled.ensures.0 ∙ ap (λ (g : Grid). how_many (eqb 1) g.cells) is in
-            next (rows.result * (1 + n)) c.if-copies_of-gt0.links found few
-            (sym (links_some o b t.pieces t.bytes.now i rows.result copies.result found copies.ensures n e v.if-copies_of-gt0.true))
-            (links_small rows.result n few (whole_few grid.sides grid.cells.now n grid.whole v.count_filled.ensures.1)) v.links-is
+            next (rows.result.1 * (1 + n)) c.if-copies_of-gt0.links found few
+            (sym (links_some o b t.pieces t.bytes.now i rows.result.1 copies.result found copies.ensures n e v.if-copies_of-gt0.true))
+            (links_small rows.result.1 n few (whole_few grid.sides grid.cells.now n grid.whole v.count_filled.ensures.1)) v.links-is
         | else-copies_of-gt0 v ↦
             next 0 c.if-copies_of-gt0.links found few
-            (sym (links_none o b t.pieces t.bytes.now i rows.result copies.result found copies.ensures v.if-copies_of-gt0.false)) (omega arith)
+            (sym (links_none o b t.pieces t.bytes.now i rows.result.1 copies.result found copies.ensures v.if-copies_of-gt0.false)) (omega arith)
             (v.links-is ∙ omega arith)
       ],
-      variants_next (λ j. grid_at t.pieces t.bytes.now (get_or kinds j 0)) c.loop-k.turnings rows.new.turnings k c.loop-k.invariant.1
-          (subst (λ (g : Grid). PutVariants g (25 * k) c.loop-k.turnings rows.new.turnings) is rows.ensures.2),
+      length-set c.loop-k.turnings k rows.result.0 ∙ c.loop-k.invariant.1,
+      variants_next (λ j. grid_at t.pieces t.bytes.now (get_or kinds j 0)) c.loop-k.turnings k (let few = few_kinds at.Start in let long = c.loop-k.invariant.1 in omega arith) c.loop-k.invariant.2
+          rows.result.0 (subst (λ (g : Grid). AreVariants g rows.result.0) is rows.ensures.0),
     )
 
 pub returns-clause-counted : goal.returns-clause-counted
@@ -125,7 +127,7 @@ returns-clause-counted c =
     record {
       on_board = subst (λ (o : List ℕ). OnBoard o (grid_of bytes t.board) places (length places)) (sym on.is_order) on;
       are_kinds = c.requires.kinds;
-      each_kind = λ j h. c.loop-k.invariant.1 j (omega (arith, c.loop-k-test.false));
+      each_kind = λ j h. c.loop-k.invariant.2 j (omega (arith, c.loop-k-test.false));
       counts = record {
         placements = all.0 ∙ placements_counted t.pieces t.board bytes (lent t) (omega arith) kinds (length kinds) c.requires.kinds (omega arith) o places (length places) on
             _ c.requires.board;

@@ -11,4 +11,4 @@ use Rattle.placements.proofs.fitting.fits_pose.Given as goal
 abbrev pub invariant-loop-k : goal.invariant-loop-k
 invariant-loop-k l =
     let g = grid_of l.board in
-    fits_pose g (as_cell l.at) l.poses l.i ≡ all (lands_at g (as_cell l.at) l.poses l.i) (from l.k (l.poses.size - l.k))
+    fits_pose g (as_cell l.at) l.pose ≡ all (lands_at g (as_cell l.at) l.pose) (from l.k (l.pose.size - l.k))

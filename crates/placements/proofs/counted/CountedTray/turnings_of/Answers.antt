@@ -3,20 +3,11 @@ use Rattle.std.proofs.Common.{arith}
 use Rattle.placements.proofs.TrayLaws.{few_kinds, few_turnings}
 use Rattle.placements.proofs.counted.CountedTray.turnings_of.Goals as goal
 
-pub overflow_mul-start : goal.overflow_mul-start
-overflow_mul-start c = let few = few_kinds c.args.self.now in omega arith
+pub offset_bounds-turnings-k : goal.offset_bounds-turnings-k
+offset_bounds-turnings-k c = let few = few_kinds c.args.self.now in omega arith
 
-pub overflow_add-start : goal.overflow_add-start
-overflow_add-start c = let few = few_kinds c.args.self.now in omega arith
+pub bounds-turnings-k : goal.bounds-turnings-k
+bounds-turnings-k c = let few = few_kinds c.args.self.now in omega arith
 
-pub overflow_mul-end : goal.overflow_mul-end
-overflow_mul-end c = let few = few_kinds c.args.self.now in omega arith
-
-pub bounds-self-k : goal.bounds-self-k
-bounds-self-k c = let few = few_kinds c.args.self.now in omega arith
-
-pub overflow_add-end : goal.overflow_add-end
-overflow_add-end c = let few = few_kinds c.args.self.now in omega (arith, few_turnings c.args.self.now c.args.k c.requires)
-
-pub slice_bounds-result-end : goal.slice_bounds-result-end
-slice_bounds-result-end c = let few = few_kinds c.args.self.now in omega (arith, few_turnings c.args.self.now c.args.k c.requires)
+pub as_slice-requires : goal.as_slice-requires
+as_slice-requires c = few_turnings c.args.self.now c.args.k c.requires

@@ -1,6 +1,6 @@
 -- `placements::poses::Poses::pose_all` meets its contract. The loop's invariant: the grids of the numbers before i are posed (`PosedTo`), and nothing else is
 -- written (`with_poses`). Assumes nothing.
-use Rattle.std.proofs.Common.{ℕ, List, ◌≡◌, ◌∙◌, sym, ap, subst, length, get_or, arith}
+use Rattle.std.proofs.Common.{ℕ, List, ◌≡◌, ◌∙◌, refl, sym, ap, subst, length, get_or, arith}
 use Rattle.definitions.specs.Grid.{Cell, Grid, volume, filled_cells}
 use Rattle.definitions.specs.Maps.{map_of, map_grid}
 use Rattle.shape.specs.Coords.{as_sides, Fit}
@@ -10,8 +10,7 @@ use Rattle.shape.specs.Scans.{as_order}
 use Rattle.shape.proofs.PlaceLaws.{volume_small, mapped_fit, map_volume}
 use Rattle.placements.specs.declared.poses.Poses.{Poses}
 use Rattle.placements.specs.Poses.{with_poses}
-use Rattle.placements.proofs.CountingLaws.{filled_bytes}
-use Rattle.placements.proofs.PoseLaws.{PosedTo, filled_small, turned_filled, posed_none, posed_next, posed_all, poses_none, poses_next}
+use Rattle.placements.proofs.PoseLaws.{PosedTo, turned_filled, posed_none, posed_next, posed_all, poses_none, poses_next}
 use Rattle.placements.proofs.poses.Poses.pose_all.Goals as goal
 
 -- the filled cells of the grid that number j makes of a grid
@@ -23,22 +22,21 @@ loop-i-init c =
     let a = c.args in
     let g = grid_of a.grid.now in
     record {
-      posed = posed_none (as_order a.order) g a.turnings.now a.self.now (omega arith) (omega arith);
+      posed = posed_none (as_order a.order) g a.turnings.now a.self.now.list (omega arith);
       written = poses_none (as_order a.order) (filled g a.turnings.now) a.self.now;
     }
 
 pub turn_into-requires : goal.turn_into-requires
 turn_into-requires c = omega (arith, (volume_small (as_sides c.args.grid.now.sides) c.args.grid.now.whole.fit).1)
 
-pub put_pose-requires : goal.put_pose-requires
-put_pose-requires c =
+pub put-requires : goal.put-requires
+put-requires c =
     let s = as_sides c.args.grid.now.sides in
     let fit = c.args.grid.now.whole.fit in
     let m = get_or c.args.turnings.now c.loop-i.i 0 in
     let e = c.sides.ensures in (
       subst Fit (sym e) (mapped_fit (map_of m) s fit),
       omega (arith, ap volume e, map_volume m s, (volume_small s fit).1, c.turn_into.auto.out),
-      omega (arith, c.loop-i-test.true, c.requires),
     )
 
 pub loop-i-preserved : goal.loop-i-preserved
@@ -49,14 +47,13 @@ loop-i-preserved c =
     let g = grid_of a.grid.now in
     let fit = a.grid.now.whole.fit in
     let bytes = c.turn_into.new.out in
-    let us = filled_cells (as_grid c.sides.result bytes) in
-    let is : us ≡ filled g a.turnings.now l.i =
+    let h = as_grid c.sides.result bytes in
+    let is : filled_cells h ≡ filled g a.turnings.now l.i =
     turned_filled (get_or a.turnings.now l.i 0) g l.turned bytes (as_sides c.sides.result) (omega (arith, (volume_small g.sides fit).1))
     c.turn_into.ensures c.sides.ensures in
     record {
-      posed = posed_next o g a.turnings.now fit (filled_small g fit) l.self c.put_pose.new.self l.i (omega (arith, c.loop-i-test.true, c.requires)) l.invariant.posed
-          us is c.put_pose.ensures;
-      written = poses_next o (filled g a.turnings.now) a.self.now l.self c.put_pose.new.self l.i l.invariant.written us is c.put_pose.ensures;
+      posed = posed_next o g a.turnings.now l.self.list l.i (omega (arith, c.loop-i-test.true, c.requires)) l.invariant.posed h is c.put.new.self c.put.ensures.0;
+      written = poses_next o (filled g a.turnings.now) a.self.now l.self l.i l.invariant.written (filled_cells h) is c.put.new.self c.put.ensures.1;
     }
 
 pub returns : goal.returns
@@ -66,11 +63,7 @@ returns c =
     let g = grid_of a.grid.now in
     let ks = a.turnings.now in
     let l = c.loop-i in
-    let end : l.i ≡ length ks = omega (arith, c.loop-i-test.false) in
-    let small = filled_small g a.grid.now.whole.fit in
-    let size : c.count_filled-self.result ≡ length (filled_cells g) = c.count_filled-self.ensures.0 ∙ sym (filled_bytes g a.grid.now.whole.size) in
-    let last = ap {B = Poses} (λ (n : ℕ). record l.self { count = length ks; size = n }) size in (
-      posed_all o g ks a.grid.now.whole.fit small l.self (subst (PosedTo o g ks l.self) end l.invariant.posed) c.requires _ last,
-      last ∙ ap (λ (p : Poses). record p { count = length ks; size = length (filled_cells g) })
-          (l.invariant.written ∙ ap (λ (n : ℕ). with_poses o (filled g ks) n a.self.now) end),
+    let end : l.i ≡ length ks = omega (arith, c.loop-i-test.false) in (
+      posed_all o g ks _ (subst (PosedTo o g ks l.self.list) end l.invariant.posed) c.requires refl,
+      ap (λ (p : Poses). record p { count = length ks }) (l.invariant.written ∙ ap (λ (n : ℕ). with_poses o (filled g ks) n a.self.now) end),
     )

@@ -11,6 +11,6 @@ use Rattle.placements.proofs.poses.Poses.pose_all.Given as goal
 -- the grids of the numbers before i are posed, and nothing else is written
 abbrev pub invariant-loop-i : goal.invariant-loop-i
 invariant-loop-i l = record {
-  posed : PosedTo (as_order l.order) (grid_of l.grid) l.turnings l.self l.i;
+  posed : PosedTo (as_order l.order) (grid_of l.grid) l.turnings l.self.list l.i;
   written : l.self ≡ with_poses (as_order l.order) (λ j. filled_cells (map_grid (map_of (get_or l.turnings j 0)) (grid_of l.grid))) l.i l.initial.self;
 }
