@@ -41,7 +41,8 @@ abbrev pub Unplaced : Dims → List ℕ → Chart → List ℕ → Mask → ℕ 
 Unplaced d work chart left covered k =
     (r : ℕ) → r < d.rows → (row_at work r).kind < k → chosen_at (state_by (system_in d work chart) left covered []) (row_at work r) ≡ false
 
-module _ {d : Dims} {work : List ℕ} {chart : Chart} (left : List ℕ) (covered : Mask) (c : ℕ) (ready : Ready d work chart) (first : FirstOpen (has covered) 0 c) where
+module _ {d : Dims} {work : List ℕ} {chart : Chart} (left : List ℕ) (covered : Mask) (c : ℕ) (ready : Ready d work chart)
+    (first : FirstOpen (has covered) 0 c) where
   abbrev S : System
   S = system_in d work chart
 

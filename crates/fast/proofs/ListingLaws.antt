@@ -7,15 +7,12 @@ use mathlib.Core.List.{List, [], map}
 use mathlib.Core.Path.{◌≡◌, refl, sym, ap, ap₂, ◌∙◌}
 use native.Mathlib.Nat.{mul-le-mul}
 use native.Mathlib.Omega.{arith}
-use borrow.Author.Count.{below_more}
-use borrow.Author.Tests.{ne_eqb, eq-eqb}
-use lib.Dec.{eqb, eqb→eq}
-use lib.ListN.{length, get_or, take, set, length-map}
-use lib.Seq.{length-take-le, get_or-take, get_or-set_same, get_or-set_other}
+use lib.Dec.{eqb}
+use lib.ListN.{length, get_or, take, length-map}
+use lib.Seq.{length-take-le, get_or-take}
 use Rattle.std.proofs.lemmas.List.{length-take}
 use Rattle.lists.specs.Lists.{below, from, keep, sum}
-use Rattle.lists.proofs.TestLaws.{and_left, and_right, holds}
-use Rattle.lists.proofs.ListLaws.{keep_all, keep_length, map_same, get_or_pos}
+use Rattle.lists.proofs.ListLaws.{keep_all, keep_length, map_same}
 use Rattle.lists.proofs.RangeLaws.{below_at, length_below, map_below, from_next, from-end, get_or_of}
 use Rattle.definitions.specs.Kinds.{Tray}
 use Rattle.definitions.specs.Placements.{compile}
@@ -48,13 +45,6 @@ cells_at chart k = kind_copies chart.kinds k * kind_size chart.kinds k
 
 -- ---- the copies of each kind, one after the other
 module _ (chart : Chart) (left : List ℕ) where
-  pub left_next : (k x : ℕ) → k < length left → x ≡ kind_copies chart.kinds k
-      → ((j : ℕ) → j < k → get_or left j 0 ≡ kind_copies chart.kinds j)
-      → (j : ℕ) → j < k + 1 → get_or (set left k x) j 0 ≡ kind_copies chart.kinds j
-  left_next k x h e f =
-      below_more (λ (j : ℕ). get_or (set left k x) j 0 ≡ kind_copies chart.kinds j) k
-      (λ j l. get_or-set_other left k j x 0 (λ q. omega arith) ∙ f j l) (get_or-set_same left k x 0 h ∙ e)
-
   pub left_end : (n : ℕ) → n ≤ length left → ((j : ℕ) → j < n → get_or left j 0 ≡ kind_copies chart.kinds j) → take n left ≡ copies_in chart n
   left_end n h f =
       sym (map_below (kind_copies chart.kinds) n 0 (take n left) (length-take-le n left h)
@@ -84,34 +74,6 @@ module _ (chart : Chart) (n : ℕ) where
         mul-le-mul a c
 
 -- ---- kind 0 is placed first as the code decides it
-pub copies_first : (chart : Chart) (n : ℕ) → 0 < n → get_or (copies_in chart n) 0 0 ≡ kind_copies chart.kinds 0
-copies_first chart n h = get_or_of (kind_copies chart.kinds) 0 0 n 0 h
-
-pub copies_none : (chart : Chart) (n : ℕ) → n ≡ 0 → get_or (copies_in chart n) 0 0 ≡ 1 → ⊥
-copies_none chart n e one = let z : get_or (copies_in chart n) 0 0 ≡ 0 = ap (λ (m : ℕ). get_or (copies_in chart m) 0 0) e in omega arith
-
-module _ (turned : Bool) (copies : List ℕ) (cells size : ℕ) where
-  pub first_unless : turned ≡ false → false ≡ (turned && (eqb (get_or copies 0 0) 1 && eqb cells size))
-  first_unless e = sym (ap (λ (b : Bool). b && (eqb (get_or copies 0 0) 1 && eqb cells size)) e)
-
-  pub first_not : (get_or copies 0 0 ≡ 1 → ⊥) → false ≡ (turned && (eqb (get_or copies 0 0) 1 && eqb cells size))
-  first_not n = sym (ap (λ (b : Bool). turned && (b && eqb cells size)) (ne_eqb (get_or copies 0 0) 1 n) ∙ and_none turned)
-    where
-      and_none : (b : Bool) → (b && false) ≡ false
-      and_none true = refl
-      and_none false = refl
-
-  pub first_cells : turned ≡ true → get_or copies 0 0 ≡ 1 → (n : ℕ) → n ≡ cells → eqb n size ≡ (turned && (eqb (get_or copies 0 0) 1 && eqb cells size))
-  first_cells e f n g =
-      sym (ap (λ (b : Bool). b && (eqb (get_or copies 0 0) 1 && eqb cells size)) e
-      ∙ ap (λ (b : Bool). b && eqb cells size) (eq-eqb (get_or copies 0 0) 1 f) ∙ ap (λ (m : ℕ). eqb m size) (sym g))
-
-  -- then it has one copy
-  pub first_one : (turned && (eqb (get_or copies 0 0) 1 && eqb cells size)) ≡ true → get_or copies 0 0 ≡ 1
-  first_one e =
-      eqb→eq (get_or copies 0 0) 1 (and_left (eqb (get_or copies 0 0) 1) (eqb cells size)
-      (and_right turned (eqb (get_or copies 0 0) 1 && eqb cells size) (holds (turned && (eqb (get_or copies 0 0) 1 && eqb cells size)) e)))
-
 turned_is : (turned mirrored : Bool) → identifies_turned (identifies turned mirrored) ≡ turned
 unfolding identifies_turned identifies
 turned_is true true = refl
@@ -163,14 +125,6 @@ module _ (d : Dims) (work : List ℕ) (chart : Chart) where
     left_long : length S.copies ≤ length left
     unfolding system_in system_over
     left_long = let a = ap length full in let b = length-take d.kinds left in omega arith
-
-    pub left_some : get_or (copies_in chart d.kinds) 0 0 ≡ 1 → 0 < get_or left 0 0
-    unfolding system_in system_over
-    left_some one =
-        let n = kinds_many d work chart in
-        let k : 0 < length (copies_in chart d.kinds) = get_or_pos (copies_in chart d.kinds) 0 (omega arith) in
-        let e = sym (get_or-take d.kinds left 0 0 (omega arith)) ∙ ap (λ (l : List ℕ). get_or l 0 0) left_in in
-        omega arith
 
     module _ (covered : Mask) (none : has covered ≡ nothing) where
       pub searching : Searching (system_in d work chart) left covered []

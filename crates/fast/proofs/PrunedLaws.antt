@@ -6,11 +6,10 @@ use mathlib.Core.Logic.{⊎_elim}
 use mathlib.Core.Path.{◌≡◌, refl, sym, ap, ap₂, ◌∙◌, subst}
 use native.Mathlib.Omega.{arith}
 use borrow.Author.Tests.{ltb-true, lt-ltb, le-ltb, le-leb, lt-leb, eq-eqb, ne_eqb, not-true, not-false}
-use lib.Dec.{ltb, leb, eqb, lt→ltb}
+use lib.Dec.{ltb, leb, eqb}
 use lib.ListN.{length, get_or, take, set}
 use Rattle.lists.specs.Lists.{all, any, below, from, keep, each}
 use Rattle.lists.proofs.CountLaws.{at_most_sum}
-use Rattle.lists.proofs.TestLaws.{and_both}
 use Rattle.lists.proofs.ListLaws.{any_map, any_same, all_same, keep_fails}
 use Rattle.lists.proofs.RangeLaws.{from-end, from_next, from_at, below_at, get_or_of}
 use Rattle.definitions.specs.Placements.{Placement}
@@ -28,7 +27,6 @@ use Rattle.rows.specs.Systems.{System, system_in, images_in, owned_in, kind_by, 
 use Rattle.rows.specs.Shown.{Shown, shows_row}
 use Rattle.kept.specs.Normal.{row_of, image_of}
 use Rattle.rows.specs.Ready.{Ready}
-use Rattle.kept.specs.Packings.{AreRows}
 use Rattle.kept.specs.Entries.{entries}
 use Rattle.fast.specs.Searching.{Searching, fast_below, state_by}
 use Rattle.fast.specs.Pruned.{moved_before, always_mirrorable_by, pruned_by, first_rows, fast_first}
@@ -314,13 +312,6 @@ module _ {d : Dims} {work : List ℕ} {chart : Chart} (ready : Ready d work char
 
     -- the copies and the rows with it chosen
     module _ {left₀ placed rs : List ℕ} (z : Chosen left₀ [] 0 r placed rs) where
-      pub first_rows_are : AreRows d rs
-      first_rows_are =
-          record {
-            few = let e = ap length z.rows_are in omega arith;
-            are_rows = rw z.rows_are (and_both (ltb r d.rows) true (lt→ltb r d.rows h) tt);
-          }
-
       module _ {mask : Mask} (m : mask ≡ mask_at work r) where
         first_state : state_by sys placed mask rs ≡ choose (state_by sys left₀ nothing_covered []) (row_of sys r)
         first_state =

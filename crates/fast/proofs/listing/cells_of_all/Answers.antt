@@ -3,14 +3,6 @@ use Rattle.std.proofs.Common.{arith}
 use Rattle.fast.proofs.ListingLaws.{cells_start, cells_end, cells_next, cells_few}
 use Rattle.fast.proofs.listing.cells_of_all.Goals as goal
 
-pub overflow_mul-cells : goal.overflow_mul-cells
-overflow_mul-cells c =
-    omega (arith, cells_few c.args.chart.now c.args.n c.loop-k.k _ _ c.copies_of.ensures.0 c.size_of.ensures.0 c.copies_of.ensures.1 c.size_of.ensures.1)
-
-pub overflow_add-cells : goal.overflow_add-cells
-overflow_add-cells c =
-    omega (arith, cells_few c.args.chart.now c.args.n c.loop-k.k _ _ c.copies_of.ensures.0 c.size_of.ensures.0 c.copies_of.ensures.1 c.size_of.ensures.1)
-
 pub loop-k-preserved : goal.loop-k-preserved
 loop-k-preserved c =
     let a = c.args in

@@ -1,6 +1,6 @@
 -- `list_over` meets its contract: a search begins with all copies left and nothing covered, and what it emits is Fast's list, with kind 0 first or not. Assumes
 -- nothing.
-use Rattle.std.proofs.Common.{ℕ, List, [], ◌≡◌, sym, ap, ◌∙◌, arith}
+use Rattle.std.proofs.Common.{ℕ, List, [], ◌≡◌, ap, ◌∙◌}
 use Rattle.definitions.specs.Emission.{Listed, emits}
 use Rattle.masks.specs.Masks.{has, nothing}
 use Rattle.masks.specs.declared.Mask.{Mask}
@@ -8,9 +8,9 @@ use Rattle.masks.proofs.MaskLaws.{hit2_zero}
 use Rattle.rows.specs.RowSystems.{seen}
 use Rattle.kept.specs.Emission.{emitted_of}
 use Rattle.kept.specs.Wanted.{identified}
-use Rattle.fast.specs.Listing.{cells_in, first_by}
+use Rattle.fast.specs.Listing.{first_by}
 use Rattle.fast.specs.Searching.{Searching, fast_below, state_by}
-use Rattle.fast.proofs.ListingLaws.{copies_in, first_one, first_told, left_some, searching, lists_first, lists_below}
+use Rattle.fast.proofs.ListingLaws.{first_told, searching, lists_first, lists_below}
 use Rattle.fast.proofs.listing.list_over.Goals as goal
 use Rattle.fast.proofs.listing.list_over.Goals.{After-is_kind_0_first}
 
@@ -26,21 +26,9 @@ told c =
     let w = c.args.wanted.now in
     first_told s.d s.work.now s.chart.now w.turned w.mirrored c.is_kind_0_first.result c.is_kind_0_first.ensures
 
-pub search_first-requires : goal.search_first-requires
-search_first-requires c =
-    let s = c.args.wanted.now.system in
-    let copies = copies_in s.chart.now s.d.kinds in
-    let first = first_one c.args.wanted.now.turned copies (cells_in s.chart.now s.d.kinds) s.d.size
-    (sym c.is_kind_0_first.ensures ∙ c.if-is_kind_0_first.true) in
-    let state = c.begin-state in
-    record {
-      ready = (
-        c.requires,
-        left_some s.d s.work.now s.chart.now state.result.left state.ensures.1 first,
-        state.ensures.0,
-      );
-      searching = begins (goal.at.search_first-requires c).After-is_kind_0_first (record { low = 0; high = 0 }) hit2_zero;
-    }
+pub search_first-requires-clause-searching : goal.search_first-requires-clause-searching
+search_first-requires-clause-searching c =
+    begins (goal.at.search_first-requires-clause-searching c).After-is_kind_0_first (record { low = 0; high = 0 }) hit2_zero
 
 pub returns-then-is_kind_0_first : goal.returns-then-is_kind_0_first
 returns-then-is_kind_0_first c =
@@ -51,13 +39,9 @@ returns-then-is_kind_0_first c =
     ∙ ap (λ (l : List Listed). emits w.capacity l (emitted_of c.args.e w.last.now c.args.answers.now))
     (lists_first s.d s.work.now s.chart.now c.begin-state.result.left c.begin-state.ensures.1 (record { low = 0; high = 0 }) hit2_zero (identified w) first)
 
-pub search-requires : goal.search-requires
-search-requires c =
-    let at = begins (goal.at.search-requires c).After-is_kind_0_first c.empty.result c.empty.ensures in
-    record {
-      ready = (rw c.begin-state.ensures.0 (record { few = omega arith; are_rows = tt }), c.requires);
-      searching = rw c.begin-state.ensures.0 at;
-    }
+pub search-requires-clause-searching : goal.search-requires-clause-searching
+search-requires-clause-searching c =
+    rw c.begin-state.ensures.0 (begins (goal.at.search-requires-clause-searching c).After-is_kind_0_first c.empty.result c.empty.ensures)
 
 pub returns : goal.returns
 returns c =

@@ -1,11 +1,11 @@
 -- `search_first` meets its contract: what the rows of kind 0 from r on list, behind what is on the page, is the whole; each row is searched as the
 -- definition chooses it, and its copy is put back. Assumes nothing.
-use Rattle.std.proofs.Common.{ℕ, List, [], ◌+◌, ◌<◌, ◌≡◌, true, false, refl, sym, ap, ap₂, ◌∙◌, subst, length, get_or, arith}
+use Rattle.std.proofs.Common.{ℕ, List, [], ◌+◌, ◌<◌, ◌≡◌, true, false, refl, sym, ap, ap₂, ◌∙◌, length, arith}
 use borrow.Author.Tests.{not-true}
 use Rattle.lists.proofs.TestLaws.{and_true_left}
 use Rattle.definitions.specs.Emission.{Emitted, Listed, emits}
 use Rattle.rows.specs.Rows.{row_at}
-use Rattle.rows.proofs.ReadyLaws.{few-rows, rows_many}
+use Rattle.rows.proofs.ReadyLaws.{rows_many}
 use Rattle.rows.proofs.StandingLaws.{stands}
 use Rattle.rows.specs.RowSystems.{seen}
 use Rattle.kept.specs.Emission.{emitted_of}
@@ -15,7 +15,7 @@ use Rattle.fast.specs.Searching.{state_by}
 use Rattle.fast.specs.Pruned.{pruned_by}
 use Rattle.fast.specs.declared.state.State.{State}
 use Rattle.fast.proofs.PrunedLaws.{nothing_covered, first_from, first_start, first_untried, first_full, first_over, first_left}
-use Rattle.fast.proofs.PrunedLaws.{later_kinds, first_few, first_rows_are, first_searching, first_turns}
+use Rattle.fast.proofs.PrunedLaws.{later_kinds, first_few, first_searching, first_turns}
 use Rattle.fast.proofs.StateLaws.{chosen, to_put_back, is_back}
 use Rattle.fast.proofs.pruning.search_first.Goals as goal
 use Rattle.fast.proofs.pruning.search_first.Goals.{Else-kind_at-gt0, After-is_first, then-is_first+else-s, else-is_first}
@@ -26,7 +26,7 @@ kind_0 c = omega (arith, c.kind_at.ensures, c.if-kind_at-gt0.false)
 
 -- it is not pruned, as it is tried
 unpruned : (c : After-is_first) → c.is_first.result ≡ true → pruned_by (seen c.args.wanted.now.system) (identified c.args.wanted.now) c.loop-r.r ≡ false
-unpruned c tried = not-true (pruned_by (seen c.args.wanted.now.system) (identified c.args.wanted.now) c.loop-r.r) (and_true_left _ _ (sym c.is_first.ensures ∙ tried))
+unpruned c tried = not-true (pruned_by _ _ c.loop-r.r) (and_true_left _ _ (sym c.is_first.ensures ∙ tried))
 
 pub loop-r-init : goal.loop-r-init
 loop-r-init c =
@@ -43,36 +43,19 @@ loop-r-init c =
           (first_start (seen system) i t system.d.rows (rows_many system.d system.work.now system.chart.now));
     }
 
-pub returns-then-kind_at-gt0 : goal.returns-then-kind_at-gt0
-returns-then-kind_at-gt0 c =
+pub returns-then-kind_at-gt0-clause-page : goal.returns-then-kind_at-gt0-clause-page
+returns-then-kind_at-gt0-clause-page c =
     let system = c.args.wanted.now.system in
     let l = c.loop-r in
     let k : 0 < (row_at system.work.now l.r).kind = omega (arith, c.kind_at.ensures, c.if-kind_at-gt0.true) in
-    record {
-      page = first_left _ _ _ _ l.r _ _ _ (later_kinds (stands system) c.loop-r-test.true k) l.invariant.page;
-      restored = (l.invariant.same_left, l.invariant.no_rows);
-    }
+    first_left _ _ _ _ l.r _ _ _ (later_kinds (stands system) c.loop-r-test.true k) l.invariant.page
 
-pub place_row-requires : goal.place_row-requires
-place_row-requires c =
-    let system = c.args.wanted.now.system in
+pub search-s-requires-clause-searching : goal.search-s-requires-clause-searching
+search-s-requires-clause-searching c =
     let inv = c.loop-r.invariant in
-    let few = few-rows system.d system.work.now system.chart.now (stands system).lawful in
-    let e = ap length inv.no_rows in
-    (omega arith, subst (λ (x : List ℕ). 0 < get_or x 0 0) (sym inv.same_left) c.requires.ready.1, omega arith, omega arith)
-
-pub search-s-requires : goal.search-s-requires
-search-s-requires c =
-    let ready = stands c.args.wanted.now.system in
-    let q = c.requires.ready in
-    let inv = c.loop-r.invariant in
-    let row = c.loop-r-test.true in
-    let k = kind_0 (goal.at.search-s-requires c).Else-kind_at-gt0 in
+    let k = kind_0 (goal.at.search-s-requires-clause-searching c).Else-kind_at-gt0 in
     let z = chosen inv.same_left inv.no_rows c.place_row.ensures in
-    record {
-      ready = (first_rows_are ready row k z, omega (arith, inv.answers_long, q.0));
-      searching = first_searching ready row k z c.mask_at-mask.ensures c.requires.searching q.1;
-    }
+    first_searching (stands c.args.wanted.now.system) c.loop-r-test.true k z c.mask_at-mask.ensures c.requires.searching c.requires.ready.1
 
 pub put_back-requires : goal.put_back-requires
 put_back-requires c =
@@ -83,18 +66,15 @@ put_back-requires c =
     let back = to_put_back z c.requires.ready.1 c.search-s.ensures.restored few in
     (omega arith, back.0, back.1)
 
-pub returns-then-s : goal.returns-then-s
-returns-then-s c =
-    let at = goal.at.returns-then-s c in
+pub returns-then-s-clause-page : goal.returns-then-s-clause-page
+returns-then-s-clause-page c =
+    let at = goal.at.returns-then-s-clause-page c in
+    let wanted = c.args.wanted.now in
     let inv = c.loop-r.invariant in
     let z = chosen inv.same_left inv.no_rows c.place_row.ensures in
-    let s = c.search-s in
-    let next = first_turns (stands c.args.wanted.now.system) c.loop-r-test.true (kind_0 at.Else-kind_at-gt0) z c.mask_at-mask.ensures (identified c.args.wanted.now)
-    c.args.wanted.now.capacity _ _ _ (unpruned at.After-is_first c.if-is_first.true) s.ensures.page inv.page in
-    record {
-      page = first_full _ _ _ _ (c.loop-r.r + 1) _ _ _ c.if-s.true next;
-      restored = is_back z c.requires.ready.1 s.ensures.restored c.put_back.ensures;
-    }
+    first_full _ _ _ _ (c.loop-r.r + 1) _ _ _ c.if-s.true
+    (first_turns (stands wanted.system) c.loop-r-test.true (kind_0 at.Else-kind_at-gt0) z c.mask_at-mask.ensures (identified wanted) wanted.capacity _ _ _
+    (unpruned at.After-is_first c.if-is_first.true) c.search-s.ensures.page inv.page)
 
 pub loop-r-preserved : goal.loop-r-preserved
 loop-r-preserved c =
@@ -137,10 +117,5 @@ loop-r-preserved c =
       }
     ]
 
-pub returns : goal.returns
-returns c =
-    let l = c.loop-r in
-    record {
-      page = first_over _ _ _ _ l.r _ _ _ c.loop-r-test.false l.invariant.page;
-      restored = (l.invariant.same_left, l.invariant.no_rows);
-    }
+pub returns-clause-page : goal.returns-clause-page
+returns-clause-page c = first_over _ _ _ _ c.loop-r.r _ _ _ c.loop-r-test.false c.loop-r.invariant.page

@@ -32,7 +32,13 @@ opened : (t : ℕ) (c : After-next_open-c t) → c.next_open-c.result < c.args.w
     → let s = c.args.wanted.now.system in
     Opened s.d s.work.now s.chart.now c.args.state.now.left c.args.state.now.path c.args.covered c.next_open-c.result
 opened t c inside =
-    record { ready = stands c.args.wanted.now.system; of_rows = c.requires.ready.0; searching = c.requires.searching; first = c.next_open-c.ensures; inside = inside }
+    record {
+      ready = stands c.args.wanted.now.system;
+      of_rows = c.requires.ready.0;
+      searching = c.requires.searching;
+      first = c.next_open-c.ensures;
+      inside = inside;
+    }
 
 -- the kind has copies left
 some_copy : (t : ℕ) (c : In-loop-r t) → 0 < get_or c.args.state.now.left c.loop-kind.kind 0
@@ -58,18 +64,15 @@ placing t c x tried others is told =
     let row = in_range t c x in
     record { row = row.0; at = row.2; some = some_copy t c; clear = and_true_left _ others (sym is ∙ told); kind = sym row.1 }
 
-pub returns-then-system-c : goal.returns-then-system-c
-returns-then-system-c t c =
+pub returns-then-system-c-clause-page : goal.returns-then-system-c-clause-page
+returns-then-system-c-clause-page t c =
     let a = c.args in
-    let system = a.wanted.now.system in
     let wanted = a.wanted.now in
+    let system = wanted.system in
     let i = identified wanted in
     let old = emitted_of a.e wanted.last.now a.answers.now in
-    record {
-      page = c.emit_kept.ensures ∙ ap (λ (rs : List ℕ). emit_kept (seen system) i wanted.capacity rs old) c.rows.ensures
-          ∙ leaf_emits (stands system) c.requires.ready.0 c.requires.searching i wanted.capacity c.next_open-c.result old c.next_open-c.ensures c.if-system-c.true;
-      restored = (refl, refl);
-    }
+    c.emit_kept.ensures ∙ ap (λ (rs : List ℕ). emit_kept (seen system) i wanted.capacity rs old) c.rows.ensures
+    ∙ leaf_emits (stands system) c.requires.ready.0 c.requires.searching i wanted.capacity c.next_open-c.result old c.next_open-c.ensures c.if-system-c.true
 
 pub loop-kind-init : goal.loop-kind-init
 loop-kind-init t c =
@@ -244,12 +247,8 @@ loop-kind-preserved t c =
       }
     ]
 
-pub returns : goal.returns
-returns t c =
+pub returns-clause-page : goal.returns-clause-page
+returns-clause-page t c =
     let wanted = c.args.wanted.now in
-    let x = opened t (goal.at.returns t c).After-next_open-c c.if-system-c.false in
-    let l = c.loop-kind in
-    record {
-      page = loop_ends x (identified wanted) wanted.capacity _ l.kind _ c.loop-kind-test.false l.invariant.page;
-      restored = (l.invariant.same_left, l.invariant.same_rows);
-    }
+    let x = opened t (goal.at.returns-clause-page t c).After-next_open-c c.if-system-c.false in
+    loop_ends x (identified wanted) wanted.capacity _ c.loop-kind.kind _ c.loop-kind-test.false c.loop-kind.invariant.page

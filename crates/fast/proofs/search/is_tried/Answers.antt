@@ -35,17 +35,3 @@ returns-then-leads c =
     ∙ goes_below a.state.now.left a.covered c.union.result (stands a.wanted.now.system) a.r a.kind r.0 r.1
     (c.union.ensures ∙ ap (λ (m : Mask). either (has a.covered) (has m)) c.mask_at-mask.ensures))
     ∙ both clear shows _
-
-pub returns-else-leads : goal.returns-else-leads
-returns-else-leads c =
-    let a = c.args in
-    let s = a.wanted.now.system in
-    let clear = apart 128 (has (mask_at s.work.now a.r)) (has a.covered) in
-    let shows = not (waits_at a.e.now.start) || shows_row (owned_in s.chart.now.pieces s.d.pieces) a.wanted.now.shown (row_at s.work.now a.r) in
-    let two : c.if-is_clear.value ≡ (clear && shows) =
-    elim c.if-is_clear.branch [
-      | then-is_clear w ↦ w.value-is ∙ test_passes clear shows c.is_clear.result w.leads.result c.is_clear.ensures w.if-is_clear.true
-          (w.leads.ensures ∙ leads_while _ _ _ _ _ w.shown_while.ensures)
-      | else-is_clear w ↦ w.value-is ∙ w.if-is_clear.false ∙ test_fails clear shows c.is_clear.result c.is_clear.ensures w.if-is_clear.false
-    ] in
-    c.if-leads.false ∙ test_fails (clear && shows) _ c.if-is_clear.value two c.if-leads.false ∙ both clear shows _
