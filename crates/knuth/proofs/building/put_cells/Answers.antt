@@ -8,7 +8,7 @@ use Rattle.lists.specs.Lists.{below, how_many}
 use Rattle.lists.proofs.CountLaws.{count_more}
 use Rattle.masks.specs.Masks.{has}
 use Rattle.knuth.specs.Matrix.{Laid}
-use Rattle.knuth.proofs.LaidLaws.{cell_nodes, cells_hit, cells_miss, count_hit, count_miss, laid_none}
+use Rattle.knuth.proofs.LaidLaws.{cells_hit, cells_miss, count_hit, count_miss, laid_none}
 use Rattle.knuth.proofs.building.put_cells.Goals as goal
 use Rattle.knuth.proofs.building.put_cells.Goals.{then-has_cell, else-has_cell}
 
@@ -51,10 +51,3 @@ loop-c-preserved c =
         cells_miss p k.first k.end k.row a.links.now l.links c.if-has_cell.links (k.first + 1) l.at l.c l.invariant.0 l.invariant.1 b w.links-is,
       )
     ]
-
-pub returns : goal.returns
-returns c =
-    let a = c.args in
-    let k = a.kind in
-    let e : c.loop-c.c ≡ a.n = omega arith in
-    subst (λ (n : ℕ). Laid a.links.now (k.first + 1) c.loop-c.links (cell_nodes (has a.mask) k.first k.end k.row n)) e c.loop-c.invariant.1

@@ -1,21 +1,12 @@
 -- `put_copies` meets its contract. The loop's invariant: the copies of the columns before j are written. Assumes nothing.
 use Prim.Native.Nat.{◌<◌}
-use mathlib.Core.Path.{refl, ◌∙◌}
+use mathlib.Core.Path.{◌∙◌}
 use native.Mathlib.Omega.{arith}
 use lib.ListN.{length}
 use Rattle.links.specs.Links.{at_copies}
-use Rattle.knuth.proofs.LaidLaws.{stock_none, stock_cell, stock_kind, stock_all}
+use Rattle.knuth.proofs.LaidLaws.{stock_cell, stock_kind, stock_all}
 use Rattle.knuth.proofs.building.put_copies.Goals as goal
 use Rattle.knuth.proofs.building.put_copies.Goals.{then-j-d, else-j-d}
-
-pub loop-j-init : goal.loop-j-init
-loop-j-init c = stock_none _ _ 0 _ refl
-
-pub set-requires : goal.set-requires
-set-requires c = (
-  omega arith,
-  elim c.if-j-d.branch [ then-j-d w ↦ omega (arith, w.copies-is) | else-j-d w ↦ omega (arith, w.copies-is, w.copies_of-copies.ensures) ],
-)
 
 pub loop-j-preserved : goal.loop-j-preserved
 loop-j-preserved c =

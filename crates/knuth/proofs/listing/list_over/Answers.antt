@@ -12,13 +12,10 @@ use Rattle.knuth.proofs.KnuthPageLaws.{begins, choosable, lists}
 use Rattle.knuth.proofs.listing.list_over.Goals as goal
 
 -- every row is possible, and none is chosen
-pub choose-requires : goal.choose-requires
-choose-requires c =
+pub choose-requires-clause-choosable : goal.choose-requires-clause-choosable
+choose-requires-clause-choosable c =
     let y = c.args.wanted.now.system in
-    record {
-      ready = (rw c.new-path.ensures (record { few = omega arith; are_rows = tt }), c.requires.room);
-      choosable = rw c.new-path.ensures (choosable y.d y.work.now y.chart.now c.build_links.new.links c.build_links.ensures);
-    }
+    rw c.new-path.ensures (choosable y.d y.work.now y.chart.now c.build_links.new.links c.build_links.ensures)
 
 pub returns : goal.returns
 returns c =

@@ -3,60 +3,34 @@ use native.Mathlib.Omega.{arith}
 use mathlib.Core.Path.{refl, ap, ◌∙◌}
 use Rattle.kept.specs.Emission.{emit_kept, emitted_of}
 use Rattle.kept.specs.Wanted.{identified}
-use Rattle.rows.specs.Systems.{system_in}
+use Rattle.rows.specs.RowSystems.{seen}
 use Rattle.links.specs.Links.{size_of}
 use Rattle.links.specs.Search.{has_row, pivot}
 use Rattle.links.proofs.Tally.{counted}
 use Rattle.links.proofs.Search.{seek_cells, try_small, try_sized, try_selectable, try_sub, try_selected, try_back, try_less, try_below}
 use Rattle.rows.proofs.StandingLaws.{stands}
 use Rattle.kept.proofs.WantedLaws.{leads_while}
-use Rattle.knuth.proofs.CycleStepLaws.{of_seek, leaf_fills, column_tryable, path_room, row_below, row_bound, longer_rows, row_choosable}
+use Rattle.knuth.proofs.CycleStepLaws.{of_seek, column_tryable, path_room, row_below, row_bound, longer_rows, row_choosable}
 use Rattle.knuth.proofs.CycleStepLaws.{next_tryable, found_leaf, found_few, found_none, found_rows, found_head, found_stop, found_on, found_passed}
 use Rattle.knuth.proofs.search.+choose_try_rows.Goals as goal
 
--- ---- choosing a column
-pub choose-emit_kept-requires : goal.choose-emit_kept-requires
-choose-emit_kept-requires t c =
+pub choose-returns-then-left-eq0-clause-found : goal.choose-returns-then-left-eq0-clause-found
+choose-returns-then-left-eq0-clause-found t c = λ w uncovered copies g s e h.
     let a = c.args in
     let y = a.wanted.now.system in
-    let q = c.requires.ready in
-    (rw c.rows.ensures q.0, rw c.rows.ensures (leaf_fills y.d y.work.now y.chart.now c.requires.choosable), q.1)
-
-pub choose-returns-then-left-eq0 : goal.choose-returns-then-left-eq0
-choose-returns-then-left-eq0 t c =
-    let a = c.args in
-    let y = a.wanted.now.system in
-    let S = system_in y.d y.work.now y.chart.now in
     let put = c.emit_kept in
     let old = emitted_of a.e a.wanted.now.last.now a.answers.now in
-    let new = emitted_of put.result a.wanted.now.last.now put.new.answers in record {
-      same = (refl, refl);
-      found = λ w uncovered copies g s e h. found_leaf y.d y.work.now y.chart.now (identified a.wanted.now) a.wanted.now.capacity s a.path.now old new g h
-          c.if-left-eq0.true (put.ensures ∙ ap (λ rs. emit_kept S (identified a.wanted.now) a.wanted.now.capacity rs old) c.rows.ensures);
-    }
+    let new = emitted_of put.result a.wanted.now.last.now put.new.answers in
+    found_leaf y.d y.work.now y.chart.now (identified a.wanted.now) a.wanted.now.capacity s a.path.now old new g h c.if-left-eq0.true
+    (put.ensures ∙ ap (λ rs. emit_kept (seen y) (identified a.wanted.now) a.wanted.now.capacity rs old) c.rows.ensures)
 
-pub choose-open_columns-requires : goal.choose-open_columns-requires
-choose-open_columns-requires t c =
+pub choose-returns-then-open_columns-left-clause-found : goal.choose-returns-then-open_columns-left-clause-found
+choose-returns-then-open_columns-left-clause-found t c = λ w uncovered copies g s e h.
     let a = c.args in
     let y = a.wanted.now.system in
-    seek_cells (of_seek y.d y.work.now y.chart.now c.requires.choosable.seek)
-
-pub choose-returns-then-open_columns-left : goal.choose-returns-then-open_columns-left
-choose-returns-then-open_columns-left t c =
-    let a = c.args in
-    let y = a.wanted.now.system in
-    let rows = c.open_columns in
-    let old = emitted_of a.e a.wanted.now.last.now a.answers.now in record {
-      same = (refl, refl);
-      found = λ w uncovered copies g s e h. found_few y.d y.work.now y.chart.now (identified a.wanted.now) a.wanted.now.capacity s a.path.now old
-          (omega (arith, rows.ensures ∙ counted (has_row a.links.now) y.d.size, c.if-open_columns-left.true)) g;
-    }
-
-pub choose-choose_column-requires : goal.choose-choose_column-requires
-choose-choose_column-requires t c =
-    let a = c.args in
-    let y = a.wanted.now.system in
-    seek_cells (of_seek y.d y.work.now y.chart.now c.requires.choosable.seek)
+    let old = emitted_of a.e a.wanted.now.last.now a.answers.now in
+    found_few y.d y.work.now y.chart.now (identified a.wanted.now) a.wanted.now.capacity s a.path.now old
+    (omega (arith, c.open_columns.ensures ∙ counted (has_row a.links.now) y.d.size, c.if-open_columns-left.true)) g
 
 pub choose-returns-in_default-clause-found : goal.choose-returns-in_default-clause-found
 choose-returns-in_default-clause-found t c = λ w uncovered copies g s e h.
@@ -65,14 +39,6 @@ choose-returns-in_default-clause-found t c = λ w uncovered copies g s e h.
     let old = emitted_of a.e a.wanted.now.last.now a.answers.now in
     found_none y.d y.work.now y.chart.now (identified a.wanted.now) a.wanted.now.capacity s a.path.now old
     c.if-left-eq0.false (pivot (size_of a.links.now) y.d.size) refl c.in_default.ensures g h
-
--- the cell that is found, as a column that `pivot` found
-pub choose-below-k-requires : goal.choose-below-k-requires
-choose-below-k-requires t c =
-    let a = c.args in
-    let y = a.wanted.now.system in
-    let found = c.in-Some.ensures in
-    omega (arith, found.0, found.1, seek_cells (of_seek y.d y.work.now y.chart.now c.requires.choosable.seek))
 
 pub choose-try_rows-requires : goal.choose-try_rows-requires
 choose-try_rows-requires t c =
