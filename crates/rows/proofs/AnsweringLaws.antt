@@ -19,6 +19,8 @@ use Rattle.lists.proofs.TestLaws.{and_left, and_right, or_cases, is_true, is_fal
 use Rattle.lists.proofs.ListLaws.{all_at, all_of, keep_at, keep_of, map_same, take_in, keep_fails}
 use Rattle.lists.proofs.SortLaws.{same→eq, same_refl}
 use Rattle.lists.proofs.RangeLaws.{below_of, length_below, from_at, member_at, member_of, get_or_of}
+use Rattle.std.specs.List.{count_by}
+use Rattle.std.proofs.lemmas.List.Sums.{sum_by-cons}
 use Rattle.lists.proofs.NthLaws.{nth_mem, nth_at}
 use Rattle.definitions.specs.Kinds.{Copy}
 use Rattle.definitions.specs.Placements.{Placement}
@@ -111,13 +113,14 @@ module _ (work path : List ℕ) where
   rows_whole = ap (path_in work) (take_all (length path) path (omega arith))
 
 -- how many of the rows of a path are of a kind
-pub kind_counted : (work path : List ℕ) (kind : ℕ) → how_many (λ q. eqb q.kind kind) (path_in work path) ≡ how_many (λ r. eqb (row_at work r).kind kind) path
+pub kind_counted : (work path : List ℕ) (kind : ℕ) → how_many (λ q. eqb q.kind kind) (path_in work path) ≡ count_by (λ r. eqb (row_at work r).kind kind) path
 unfolding path_in
 kind_counted work path kind = go path
   where
-    go : (xs : List ℕ) → how_many (λ q. eqb q.kind kind) (map (row_at work) xs) ≡ how_many (λ r. eqb (row_at work r).kind kind) xs
+    go : (xs : List ℕ) → how_many (λ q. eqb q.kind kind) (map (row_at work) xs) ≡ count_by (λ r. eqb (row_at work r).kind kind) xs
     go [] = refl
-    go (x ∷ xs) = ap (λ (m : ℕ). cond (eqb (row_at work x).kind kind) 1 0 + m) (go xs)
+    go (x ∷ xs) =
+        ap (λ (m : ℕ). cond (eqb (row_at work x).kind kind) 1 0 + m) (go xs) ∙ sym (sum_by-cons (λ r. cond (eqb (row_at work r).kind kind) 1 0) x xs)
 
 -- a number below 128 is one of a mask's cells where it is in the mask
 pub in_cells : (m : Mask) (cell : ℕ) → cell < 128 → member cell (cells_of m) ≡ has m cell

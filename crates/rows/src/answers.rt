@@ -50,14 +50,9 @@ pub fn used_before(work: &[u64], path: &[u16], kind: usize) -> usize
     requires { T (all (λ r. ltb (8 * r + 7) (length work.now)) path.now) }
     ensures { (result ≡ how_many (λ q. eqb q.kind kind) (path_in work.now path.now)) × (result ≤ length path.now) }
 {
-    let mut used = 0;
-    // the rows before this one are counted
-    for &r in path {
-        if row::kind_at(work, r as usize) == kind {
-            used += 1;
-        }
-    }
-    used
+    path.iter()
+        .filter(|&&r| row::kind_at(work, r as usize) == kind)
+        .count()
 }
 
 // A copy on the cells of a mask.
@@ -103,6 +98,7 @@ fn tell_cells(d: Dims, work: &[u64], chart: &Chart, path: &[u16]) -> [u8; 256]
 }
 
 // The copy at a place of the board's box, of which the two bytes of each scan number tell.
+#[tactic(auto, unfolding(crate::specs::Answering::as_copy, crate::specs::Answering::told_of))]
 fn copy_at(chart: &Chart, told: &[u8; 256], place: usize) -> Copied
     requires { place < 512 }
     ensures { as_copy result ≡ told_of told.now (get_or chart.now.scans place 0) }

@@ -123,6 +123,7 @@ fn find_row(work: &[u64], rows: usize, chart: &Chart, kind: usize, mask: Mask) -
 }
 
 // The kind after a map.
+#[tactic(auto, using(crate::proofs::MovedLaws::kind_odd, crate::proofs::MovedLaws::kind_even))]
 pub fn kind_after(chart: &Chart, n: usize, odd: bool, kind: usize) -> usize
     requires { (n ≤ 16) × (kind < n) }
     ensures { result ≡ kind_by (map (kind_partner chart.now.kinds) (below n)) odd kind }

@@ -5,6 +5,7 @@ ghost use Rattle.rows.specs.Rows.{mask_at, row_at};
 use masks::Mask;
 
 // The cells of a row.
+#[tactic(auto, unfolding(crate::specs::Rows::mask_at))]
 pub fn mask_at(work: &[u64], r: usize) -> Mask
     requires { 8 * r + 8 ≤ length work.now }
     ensures { result ≡ mask_at work.now r }
@@ -16,6 +17,7 @@ pub fn mask_at(work: &[u64], r: usize) -> Mask
 }
 
 // The kind of a row.
+#[tactic(auto, unfolding(crate::specs::Rows::row_at))]
 pub fn kind_at(work: &[u64], r: usize) -> usize
     requires { 8 * r + 8 ≤ length work.now }
     ensures { result ≡ (row_at work.now r).kind }
@@ -24,6 +26,7 @@ pub fn kind_at(work: &[u64], r: usize) -> usize
 }
 
 // The first cell of a row, its p.
+#[tactic(auto, unfolding(crate::specs::Rows::row_at))]
 pub fn first_at(work: &[u64], r: usize) -> usize
     requires { 8 * r + 8 ≤ length work.now }
     ensures { result ≡ (row_at work.now r).p }

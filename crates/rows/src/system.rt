@@ -39,6 +39,7 @@ fn list_kinds(counted: &CountedTray, kinds: &mut [Kind])
 }
 
 // How many pieces a tray has: as many as records.
+#[tactic(auto, using(placements::proofs::RefusalLaws::records_count))]
 fn count_pieces(tray: &LentTray) -> usize
     ensures { (result ≡ tray.now.pieces.count) × (length (records_of tray.now.pieces) ≡ result) }
 {

@@ -33,18 +33,6 @@ returns-in-Entry c =
     let w = a.wanted.now in
     skipped a.e w.last.now a.answers.now w.capacity _ c.if-e.false c.in-Entry.skip c.in-Entry.is c.if-skip-gt0.true
 
-pub overflow_mul-at-in-Entry-2 : goal.overflow_mul-at-in-Entry-2
-overflow_mul-at-in-Entry-2 c =
-    let a = c.args in
-    let w = a.wanted.now in
-    omega (arith, room a.e.written w.capacity (2 * a.wanted.now.system.d.places) (length a.answers.now) c.if-e-wanted.true c.requires.1)
-
-pub reconstruct_answer-requires : goal.reconstruct_answer-requires
-reconstruct_answer-requires c =
-    let a = c.args in
-    let w = a.wanted.now in
-    (c.requires.0, room a.e.written w.capacity (2 * a.wanted.now.system.d.places) (length a.answers.now) c.if-e-wanted.true c.requires.1)
-
 pub returns-in-Entry-2 : goal.returns-in-Entry-2
 returns-in-Entry-2 c =
     let a = c.args in

@@ -35,12 +35,6 @@ loop-i-init c =
       told_none a.d a.work.now a.chart.now a.path.now held,
     )
 
--- where the path's rows are looked at, a row stands in the work slice
-pub kind_at-k-requires : goal.kind_at-k-requires
-kind_at-k-requires c =
-    let held = c.requires in
-    row_in c.args.work.now c.args.path.now held.are_rows (c.loop-i.i - 1) (omega arith)
-
 pub overflow_sub-used : goal.overflow_sub-used
 overflow_sub-used c =
     let a = c.args in
@@ -53,11 +47,6 @@ pub used_before-used-requires : goal.used_before-used-requires
 used_before-used-requires c =
     let held = c.requires in
     rows_fewer c.args.work.now c.args.path.now held.are_rows (c.loop-i.i - 1)
-
-pub mask_at-requires : goal.mask_at-requires
-mask_at-requires c =
-    let held = c.requires in
-    row_in c.args.work.now c.args.path.now held.are_rows (c.loop-i.i - 1) (omega arith)
 
 pub loop-i-preserved : goal.loop-i-preserved
 unfolding row_at used

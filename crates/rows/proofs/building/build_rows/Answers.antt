@@ -61,9 +61,6 @@ module _ (d : CountedTray) (b : NumberedBoard) where
       more : {later : List ℕ} {s : ℕ} → Appended work r later s (map spread (own (turned_by g ts))) → Reached old 0 later s (left (k + 1)) (left 0)
       more a = reached_more c (own (turned_by g ts)) (left (k + 1)) left_is a
 
-pub loop-k-init : goal.loop-k-init
-loop-k-init c = (refl, reached_none c.args.work.now 0 _ _ refl)
-
 pub rows_by-r-requires-clause-room : goal.rows_by-r-requires-clause-room
 rows_by-r-requires-clause-room c =
     let a = c.args in

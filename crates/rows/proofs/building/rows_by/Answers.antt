@@ -18,14 +18,6 @@ use Rattle.rows.proofs.RowLaws.{reached_none, reached_more, reached_all, reached
 use Rattle.rows.proofs.building.rows_by.Goals as goal
 use Rattle.rows.proofs.building.rows_by.Invariants.{left_by, placements}
 
-pub loop-p-init : goal.loop-p-init
-loop-p-init c = (refl, reached_none c.args.work.now c.args.r _ _ refl)
-
-pub cell_at-at-requires : goal.cell_at-at-requires
-cell_at-at-requires c =
-    let b = c.args.board.now in
-    (b.planned.grid.whole.fit, place_below _ _ _ _ b.planned.on_board c.loop-p.p (omega arith))
-
 pub rows_at-t-requires-clause-room : goal.rows_at-t-requires-clause-room
 rows_at-t-requires-clause-room c =
     let a = c.args in

@@ -15,9 +15,6 @@ loop-m-init c =
     let b = a.board.now in
     (search rules, omega arith, done_none (order_of b) (board_of b) (length b.planned.places.now) a.images.now a.n a.start a.end)
 
-pub cell_images-requires : goal.cell_images-requires
-cell_images-requires c = omega (arith, c.args.board.now.planned.on_board.few)
-
 pub loop-m-preserved : goal.loop-m-preserved
 loop-m-preserved c =
     let l = c.loop-m in

@@ -16,13 +16,6 @@ use Rattle.rows.proofs.images.cell_images.Goals as goal
 movable : (b : NumberedBoard) → let places = b.planned.places.now in CanMove (sides_of b) places b.scans (length places)
 movable b = can_move (order_of b) (board_of b) b.planned.places.now b.scans (length b.planned.places.now) b.planned.on_board b.numbered b.planned.grid.whole.fit
 
-pub image_index-j-requires : goal.image_index-j-requires
-image_index-j-requires c =
-    let b = c.args.board.now in
-    let can = movable b in
-    let places = b.planned.places.now in
-    (can.fit, place_at places (length places) (volume (sides_of b)) can.within can.in_box c.loop-i.i (omega arith))
-
 pub bounds-board-j : goal.bounds-board-j
 bounds-board-j c = omega (arith, (movable c.args.board.now).enough)
 
@@ -36,12 +29,3 @@ loop-i-preserved c =
       images_next (sides_of b) (map_of a.m.0) places b.scans (length places) (omega arith) a.images.now a.start l.i c.image_index-j.result c.requires
           (omega arith) c.image_index-j.ensures.0 l.images l.invariant.1,
     )
-
-pub returns : goal.returns
-returns c =
-    let a = c.args in
-    let b = a.board.now in
-    let places = b.planned.places.now in
-    let l = c.loop-i in
-    let e : l.i ≡ length places = omega arith in
-    l.invariant.1 ∙ ap (paste a.images.now a.start (place_images (sides_of b) (map_of a.m.0) places b.scans (length places))) e

@@ -63,12 +63,6 @@ overflow_cast-kinds-in-loop-k-2 c = omega (arith, c.count_filled.ensures.1, few_
 pub invariant_of-kinds : goal.invariant_of-kinds
 invariant_of-kinds c = omega (arith, c.count_filled.ensures.1, few_cells c.piece_grid-piece.result)
 
-pub bounds-kinds-k : goal.bounds-kinds-k
-bounds-kinds-k c =
-    let d = c.args.counted.now in
-    let long : length d.first ≡ 16 = omega arith in
-    omega (arith, kind_number d long _ c.kinds-first-items.ensures, kind_within d long)
-
 pub loop-k-preserved : goal.loop-k-preserved
 loop-k-preserved c =
     let d = c.args.counted.now in

@@ -43,10 +43,3 @@ invariant_of-result c =
       few = c.requires.0;
       rise = λ k h. let p = are k (omega arith) in let q = are (k + 1) (omega arith) in let r = starts_rise a.work.now a.rows.now k in omega arith;
     }
-
-pub returns : goal.returns
-returns c =
-    let a = c.args in
-    let l = c.loop-k in
-    let v = l.invariant in
-    (refl, made a.work.now a.rows.now a.kinds l.at l.k l.starts (omega arith) (omega arith) v.long v.here v.before)
