@@ -1,5 +1,5 @@
 // A packing that a search has found, on the page.
-ghost use Rattle.std.specs.Prelude.{◌≡◌, ◌+◌, ◌*◌, ◌≤◌, ◌<◌, length, take};
+ghost use Rattle.std.specs.Prelude.{◌≡◌, ◌*◌, ◌≤◌, length, take};
 ghost use Rattle.definitions.specs.Emission.{emit};
 ghost use Rattle.definitions.specs.Starts.{waits_at};
 ghost use Rattle.rows.specs.Answering.{Held, answers_over, taken_in};

@@ -1,5 +1,5 @@
 // The rows that a search has chosen, in order. Contracts see the list of their numbers. (A number beside an array: nothing is put on a heap.)
-ghost use Rattle.std.specs.Prelude.{[], ◌∷◌, ◌++◌, ◌≡◌, List, ℕ, ◌+◌, ◌≤◌, ◌<◌, length, take};
+ghost use Rattle.std.specs.Prelude.{[], ◌∷◌, ◌++◌, ◌≡◌, List, ℕ, ◌≤◌, ◌<◌, length, take};
 
 use std::marker::Model;
 

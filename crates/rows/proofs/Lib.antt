@@ -1,3 +1,4 @@
+pub mod FirstLaws
 pub mod PairLaws
 pub mod AnsweringLaws
 pub mod ShownLaws

@@ -12,7 +12,7 @@ use lib.Dec.{T, eqb, ltb, eqb→eq, eqb_refl, ltb→lt, lt→ltb}
 use lib.ListN.{length, get_or, length-map}
 use Rattle.lists.specs.Lists.{all, before, below, head_or, keep, member, numbered, same}
 use Rattle.lists.proofs.TestLaws.{and_left, and_right, and_both, is_true, is_false, holds, eqb_of, tests_same}
-use Rattle.lists.proofs.ListLaws.{before_is, all_at, all_of, keep_at, keep_of, keep_same, joined_at, joined_of}
+use Rattle.lists.proofs.ListLaws.{all_at, all_of, keep_at, keep_of, keep_same, joined_at, joined_of}
 use Rattle.lists.proofs.SortLaws.{same→eq, same_refl}
 use Rattle.lists.proofs.RangeLaws.{below_at, below_of, length_below, member_at, member_of, get_or_of}
 use Rattle.lists.proofs.CountLaws.{how_many_length}
@@ -43,11 +43,6 @@ before_found n (x ∷ xs) m = go (eqb n x) refl (Memᴰ.cases_cons m) (λ (k : M
     go true e k f = (omega arith, sym (eqb-true n x e))
     go false e (inl k) f = absurd (eqb-false n x e k)
     go false e (inr k) f = let r = f k in (omega arith, r.1)
-
--- no place before i is the cell's
-pub place_is : (scans : List ℕ) (cell i : ℕ) → i ≤ length scans → ((k : ℕ) → k < i → get_or scans k 0 ≡ cell → ⊥) → (i < length scans → get_or scans i 0 ≡ cell)
-    → i ≡ before (eqb cell) scans
-place_is scans cell i h f g = sym (before_is (eqb cell) 0 scans i h (λ k l t. f k l (sym (eqb→eq cell (get_or scans k 0) t))) (λ l. eqb_of (sym (g l))))
 
 -- ---- a row shown by one copy, cell by cell
 -- the cells of a mask before cell c show a copy of a piece

@@ -19,13 +19,10 @@ fn byte_or(last: &[u8], i: usize) -> u8
 fn place_of(scans: &[u8], cell: usize) -> usize
     ensures { (result ≡ before (eqb cell) scans.now) × (result ≤ length scans.now) }
 {
-    // no place before i is the cell's
-    for (i, &scan) in scans.iter().enumerate() {
-        if scan as usize == cell {
-            return i;
-        }
-    }
-    scans.len()
+    scans
+        .iter()
+        .position(|&scan| scan as usize == cell)
+        .unwrap_or(scans.len())
 }
 
 // The two bytes that an answer has for each cell of the board.

@@ -1,11 +1,8 @@
 -- `emit_answer` meets its contract: each way through the code is a case of `emit`. Assumes nothing.
-use Prim.Native.Nat.{◌*◌}
 use mathlib.Core.Bool.{not}
 use mathlib.Core.Path.{refl, sym, ap}
-use native.Mathlib.Omega.{arith}
-use lib.ListN.{length}
 use Rattle.definitions.specs.declared.Start.TheVariants.{Behind, Entry}
-use Rattle.theorems.proofs.EmissionLaws.{emit_done, room}
+use Rattle.theorems.proofs.EmissionLaws.{emit_done}
 use Rattle.rows.specs.Answering.{taken_in}
 use Rattle.kept.proofs.EmitLaws.{full, passed, put, skipped}
 use Rattle.kept.proofs.emission.emit_answer.Goals as goal

@@ -12,7 +12,7 @@ use Rattle.rows.specs.Rows.{row_at, cells_of}
 use Rattle.rows.specs.Systems.{owned_in}
 use Rattle.rows.specs.declared.Dims.{Dims}
 use Rattle.rows.specs.Answering.{Held, copies_by, laid, no_copy}
-use Rattle.rows.proofs.AnsweringLaws.{rows_to, row_in, rows_fewer}
+use Rattle.rows.proofs.AnsweringLaws.{rows_to, rows_fewer}
 use Rattle.rows.proofs.TellingLaws.{told_from, told_long, told_none, told_row, told_all, used_here, used_none}
 use Rattle.rows.proofs.answers.tell_cells.Goals as goal
 use Rattle.rows.proofs.answers.tell_cells.Goals.{else-k-kind, then-k-kind}

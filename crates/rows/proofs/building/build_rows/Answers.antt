@@ -1,6 +1,6 @@
 use Prim.Native.Nat.{ℕ, ◌+◌, ◌*◌, ◌≤◌, ◌<◌}
 use mathlib.Core.List.{List, ◌++◌, map}
-use mathlib.Core.Path.{◌≡◌, refl, sym, ap, ◌∙◌, subst}
+use mathlib.Core.Path.{◌≡◌, sym, ap, ◌∙◌, subst}
 use native.Mathlib.Omega.{arith}
 use lib.ListN.{length, get_or, take}
 use Rattle.definitions.specs.Grid.{Grid}
@@ -15,7 +15,7 @@ use Rattle.placements.specs.Trays.{board_grid, lent_tray}
 use Rattle.rows.specs.NumberedBoards.{board_of, order_of}
 use Rattle.rows.specs.Rows.{spread, Appended}
 use Rattle.rows.specs.declared.board.NumberedBoard.{NumberedBoard}
-use Rattle.rows.proofs.RowLaws.{Reached, reached_none, reached_more, reached_all, reached_room}
+use Rattle.rows.proofs.RowLaws.{Reached, reached_more, reached_all, reached_room}
 use Rattle.rows.proofs.BuildLaws.{placements_by, left_from, left_kind, left_kinds_end, placements_all, placements_room}
 use Rattle.rows.proofs.CountedLaws.{lent-of, first_of, kind_number, kind_within, kind_below}
 use Rattle.rows.proofs.building.build_rows.Goals as goal

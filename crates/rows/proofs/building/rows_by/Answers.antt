@@ -11,10 +11,9 @@ use Rattle.shape.specs.CubicGrids.{grid_of}
 use Rattle.shape.specs.Variants.{turned_by}
 use Rattle.placements.specs.Poses.{variants_in}
 use Rattle.placements.proofs.PoseLaws.{posed_make}
-use Rattle.placements.proofs.CountingLaws.{place_below}
 use Rattle.rows.specs.NumberedBoards.{board_of, order_of}
 use Rattle.rows.specs.Rows.{Appended, spread}
-use Rattle.rows.proofs.RowLaws.{reached_none, reached_more, reached_all, reached_room, left_cell, left_cells_end}
+use Rattle.rows.proofs.RowLaws.{reached_more, reached_all, reached_room, left_cell, left_cells_end}
 use Rattle.rows.proofs.building.rows_by.Goals as goal
 use Rattle.rows.proofs.building.rows_by.Invariants.{left_by, placements}
 

@@ -1,15 +1,12 @@
 -- `cell_images` meets its contract. The loop's invariant: the images of the first i cells are written. Assumes nothing.
-use mathlib.Core.Path.{◌≡◌, ap, ◌∙◌}
 use native.Mathlib.Omega.{arith}
 use borrow.Author.Rules.{rules}
 use lib.ListN.{length}
-use lib.Seq.{paste}
-use Rattle.definitions.specs.Grid.{volume}
 use Rattle.definitions.specs.Maps.{map_of}
-use Rattle.rows.specs.Boards.{CanMove, place_images}
+use Rattle.rows.specs.Boards.{CanMove}
 use Rattle.rows.specs.NumberedBoards.{board_of, sides_of, order_of}
 use Rattle.rows.specs.declared.board.NumberedBoard.{NumberedBoard}
-use Rattle.rows.proofs.PictureLaws.{can_move, place_at, images_next}
+use Rattle.rows.proofs.PictureLaws.{can_move, images_next}
 use Rattle.rows.proofs.images.cell_images.Goals as goal
 
 -- the board's cells can be moved

@@ -1,6 +1,6 @@
 -- `rows::system::build_system` meets its contract: the rows and images of the stripped tray, its kinds and pieces, and the scan numbers of the lent box.
 -- Assumes nothing.
-use Prim.Native.Nat.{ℕ, ◌*◌, ◌≤◌}
+use Prim.Native.Nat.{ℕ, ◌≤◌}
 use mathlib.Core.List.{List, map}
 use mathlib.Core.Path.{◌≡◌, sym, ap, ◌∙◌, subst}
 use native.Mathlib.Omega.{arith}
