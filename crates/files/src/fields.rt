@@ -12,13 +12,14 @@ pub fn count_fields(line: &[u8]) -> usize
 }
 
 // Field n of a line; nothing where it has no such field.
+// (No Option: document 01's `field` is the empty text then, and how many fields a line has is tested before one of them is read.)
 pub fn field(line: &[u8], n: usize) -> &[u8]
     ensures { result.now ≡ field line.now n }
 {
     line.split(|&byte| byte == b'\t').nth(n).unwrap_or(&[])
 }
 
-// The number that one decimal digit to so many stand for.
+// The number that decimal digits stand for; none where there is no digit, where there are more than `most`, or where a byte is no digit.
 pub fn number_in(digits: &[u8], most: usize) -> Option<usize>
     requires { most ≤ 9 }
     ensures { Read result (is_number most digits.now) (λ n. (n ≡ number_in digits.now) × (n < 10 ^ most)) }

@@ -1,5 +1,5 @@
 // Grids as they are written, and their cells put into lent bytes.
-ghost use Rattle.std.specs.Prelude.{map, ◌≡◌, true, ◌||◌, ◌+◌, ◌-◌, ◌*◌, ◌≤◌, ◌<◌, eqb, length};
+ghost use Rattle.std.specs.Prelude.{map, ◌≡◌, true, ◌||◌, ◌+◌, ◌-◌, ◌≤◌, eqb, length};
 ghost use Rattle.std.proofs.Math.Seq.{paste};
 ghost use Rattle.lists.specs.Lists.{all};
 ghost use Rattle.definitions.specs.Files.{record_at};

@@ -9,7 +9,7 @@ mod lines;
 mod pages;
 mod stretches;
 
-ghost use Rattle.std.specs.Prelude.{◌≡◌, ◌≤◌, length};
+ghost use Rattle.std.specs.Prelude.{◌≤◌, length};
 ghost use Rattle.output.specs.Stretches.{Ready, Stepped};
 
 use files::reading::Asked;

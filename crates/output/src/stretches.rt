@@ -100,9 +100,8 @@ pub fn first_lines(
     ensures { Stepped text.now Progress.Unbegun cells.old work.old links.old out.old
         cells.new answers.new work.new links.new out.new result }
 {
-    // 16 is no refusal of a call and so no `Refusal`: such a text makes no call
     let Some(asked) = reading::read_file(text, cells) else {
-        // the number that document 01 has for a text that is no file, beside those of `Refusal`
+        // document 01's number for a text that is no file: such a text makes no call, so that 16 is no `Refusal`
         return refused_line(16, out);
     };
     match pages::first_page(text, asked, cells, answers, work, links) {

@@ -20,7 +20,8 @@ refusal_by rs board bytes config work links =
     first_that_applies (lent_rows rs board bytes ++ config_rows config ++ slice_rows config work links ++ count_rows (compile (tray_in rs board bytes)) config)
 
 -- why a call is refused, with work slice and chart untouched
-pub record RefusedBy (why : Refusal) (rs : List Record) (board : Record) (bytes : List ℕ) (config : Config) (links : ℕ) (work : List ℕ) (chart : Chart) (after : List ℕ) (charted : Chart) : Type 0 where
+pub record RefusedBy (why : Refusal) (rs : List Record) (board : Record) (bytes : List ℕ) (config : Config) (links : ℕ) (work : List ℕ) (chart : Chart)
+    (after : List ℕ) (charted : Chart) : Type 0 where
   pub first : number_of why ≡ refusal_by rs board bytes config (length work) links
   pub untouched : after ≡ work
   pub uncharted : charted ≡ chart

@@ -22,16 +22,7 @@ pub record Going (text cells answers work links out : List ℕ) (p : Progress) :
 pub going_first : (text cells answers work links out : List ℕ) → Lent cells answers work links out → Going text cells answers work links out Unbegun
 going_first text cells answers work links out lent =
     record {
-      ready = record {
-        room = record {
-          long_cells = lent.long_cells;
-          long_answers = lent.long_answers;
-          few_answers = lent.few_answers;
-          words = lent.words;
-          numbers = lent.numbers;
-        };
-        left_there = tt;
-      };
+      ready = record { room = lent.room; left_there = tt };
       long_out = lent.long_out;
       before = [];
       rest = refl;

@@ -1,13 +1,10 @@
 -- What is lent to print with, and what stands there at the end.
-use Rattle.std.specs.Prelude.{ℕ, ◌<◌, ◌≤◌, List, ◌++◌, ◌≡◌, length, take}
+use Rattle.std.specs.Prelude.{ℕ, ◌≤◌, List, ◌++◌, ◌≡◌, length, take}
+use Rattle.output.specs.Stretches.{Room}
 
 -- the slices are long enough; what they hold does not matter
 pub record Lent (cells answers work links out : List ℕ) : Type 0 where
-  pub long_cells : 16384 ≤ length cells
-  pub long_answers : 1024 ≤ length answers
-  pub few_answers : length answers < 4611686018427387904
-  pub words : length work ≡ 8192
-  pub numbers : length links ≡ 32768
+  pub room : Room cells answers work links
   pub long_out : 4160 ≤ length out
 
 -- a text's last bytes stand at the start of a buffer: those of the last stretch

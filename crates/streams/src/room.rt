@@ -1,5 +1,7 @@
 // The memory that a text is read into and printed with.
-ghost use Rattle.std.specs.Prelude.{◌≤◌};
+ghost use Rattle.std.specs.Prelude.{◌≡◌, ◌≤◌, OnOk, replicate, take};
+ghost use Rattle.definitions.specs.Files.{packed};
+ghost use Rattle.streams.specs.Printing.{Ends};
 
 use super::{print, read_text};
 use std::io;
@@ -21,7 +23,14 @@ impl Room {
     // How many bytes a text can have.
     pub const TEXT: usize = 16385;
 
-    pub fn new() -> Room {
+    pub fn new() -> Room
+        ensures text { result.text ≡ replicate 16385 0 }
+        ensures cells { result.cells ≡ replicate 16384 0 }
+        ensures answers { result.answers ≡ replicate 262144 0 }
+        ensures work { result.work ≡ replicate 8192 0 }
+        ensures links { result.links ≡ replicate 32768 0 }
+        ensures out { result.out ≡ replicate 65536 0 }
+    {
         Room {
             text: [0; 16385],
             cells: [0; 16384],
@@ -34,7 +43,8 @@ impl Room {
 
     // Reads a text, and answers how many of its bytes are read.
     pub fn read<R: Read>(&mut self, input: &mut R) -> usize
-        ensures { result ≤ 16385 }
+        ensures within { result ≤ 16385 }
+        ensures others { self.new ≡ record self.old { text = self.new.text } }
     {
         read_text(input, &mut self.text)
     }
@@ -42,15 +52,17 @@ impl Room {
     // Writes what `pack` prints for the first bytes of the text.
     pub fn print<W: Write>(&mut self, read: usize, writer: &mut W) -> io::Result<()>
         requires { read ≤ 16385 }
+        ensures whole { OnOk result (Ends (packed (take read self.old.text)) self.new.out) }
+        ensures text { self.new.text ≡ self.old.text }
     {
-        let Room {
-            text,
-            cells,
-            answers,
-            work,
-            links,
-            out,
-        } = self;
-        print(writer, &text[..read], cells, answers, work, links, out)
+        print(
+            writer,
+            &self.text[..read],
+            &mut self.cells,
+            &mut self.answers,
+            &mut self.work,
+            &mut self.links,
+            &mut self.out,
+        )
     }
 }
