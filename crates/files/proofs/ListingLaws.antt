@@ -6,8 +6,8 @@ use mathlib.Core.Path.{◌≡◌, refl, sym, ap, ◌∙◌, subst}
 use native.Mathlib.Omega.{arith}
 use borrow.Author.Tests.{eq-eqb, ne_eqb, eqb-true}
 use lib.Dec.{eqb}
-use lib.ListN.{length, get_or, take, drop, set}
-use lib.Seq.{take-add, drop-cons, length-take-le}
+use lib.ListN.{length, get_or, take, drop, set, length-drop}
+use lib.Seq.{take-add, drop-cons, drop-drop, get_or-drop, length-take-le}
 use Rattle.definitions.specs.Files.{cell_shown, cells_shown, decimal}
 use Rattle.texts.specs.Put.{Put}
 use Rattle.texts.proofs.PutLaws.{put_one, put_then, put_parted}
@@ -38,6 +38,21 @@ cells-behind (a ∷ []) k x y e h = absurd (omega arith)
 cells-behind (a ∷ b ∷ []) k x y e h = refl
 cells-behind (a ∷ b ∷ d ∷ rest) zero x y e h = absurd (omega arith)
 cells-behind (a ∷ b ∷ d ∷ rest) (suc k) x y e h = ap (λ (l : List ℕ). cell_shown a b ++ 32 ∷ l) (cells-behind (d ∷ rest) k x y (omega arith) (omega arith)) ∙ sym (append_assoc (cell_shown a b) (32 ∷ cells_shown (d ∷ rest)) (32 ∷ cell_shown x y))
+
+-- the two bytes of a cell as a chunk of an answer
+pub chunk_is : (answer cell rest : List ℕ) (i : ℕ) → drop (2 * i) answer ≡ cell ++ rest → length cell ≡ 2
+    → (2 * i + 1 < length answer) × (get_or cell 0 0 ≡ get_or answer (2 * i) 0) × (get_or cell 1 0 ≡ get_or answer (2 * i + 1) 0)
+      × (rest ≡ drop (2 * (i + 1)) answer)
+chunk_is answer [] rest i e h = absurd (omega arith)
+chunk_is answer (x ∷ []) rest i e h = absurd (omega arith)
+chunk_is answer (x ∷ y ∷ []) rest i e h =
+    let long = sym (length-drop (2 * i) answer) ∙ ap length e in (
+      omega arith,
+      sym (ap (λ (l : List ℕ). get_or l 0 0) e) ∙ get_or-drop (2 * i) answer 0 0 ∙ ap (λ (k : ℕ). get_or answer k 0) (omega arith),
+      sym (ap (λ (l : List ℕ). get_or l 1 0) e) ∙ get_or-drop (2 * i) answer 1 0,
+      sym (ap (drop 2) e) ∙ drop-drop 2 (2 * i) answer ∙ ap (λ (k : ℕ). drop k answer) (omega arith),
+    )
+chunk_is answer (x ∷ y ∷ z ∷ more) rest i e h = absurd (omega arith)
 
 -- the next cell of an answer
 module _ (answer : List ℕ) (i : ℕ) (h : 2 * i + 1 < length answer) where

@@ -34,6 +34,7 @@ impl GridText<'_> {
     }
 
     // The cells as bytes 0 and 1, put from a place of a slice on; and the place behind them.
+    // (Tried by `zip` over the part's `iter_mut`: what was written through it is not known to the proof.)
     pub fn put_cells(&self, cells: &mut [u8], at: usize) -> usize
         requires { at + length self.now.cells.now ≤ length cells.old }
         ensures { let bits = map (λ x. x - 48) self.now.cells.now in

@@ -24,12 +24,12 @@ fn put_cells(out: &mut [u8], at: usize, answer: &[u8]) -> usize
 {
     let mut end = at;
     // the first i cells are put, and `end` is the place behind them
-    for i in 0..answer.len() / 2 {
+    for (i, cell) in answer.chunks_exact(2).enumerate() {
         if 0 < i {
             out[end] = b' ';
             end += 1;
         }
-        end = put_cell(out, end, answer[2 * i], answer[2 * i + 1]);
+        end = put_cell(out, end, cell[0], cell[1]);
     }
     end
 }

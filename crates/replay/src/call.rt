@@ -65,7 +65,7 @@ fn read_config(reader: &mut Reader) -> Config
 }
 
 // The call that stands next, its cells in a buffer; and what is shown of it.
-pub fn read<'a>(reader: &mut Reader, cells: &'a mut [u8]) -> (Call<'a>, Shown)
+pub(crate) fn read<'a>(reader: &mut Reader, cells: &'a mut [u8]) -> (Call<'a>, Shown)
     ensures { length reader.new.text.now ≤ length reader.old.text.now }
 {
     let n = reader.number();

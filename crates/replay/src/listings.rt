@@ -33,7 +33,7 @@ fn sum_bytes(bytes: &[u8], before: u64) -> u64 {
     sum
 }
 
-// An answer's bytes; 2 where a side is out of range, and the call is refused.
+// An answer's bytes; 2 where a side is out of range. (No Option: such a call is refused whatever room it has, and 2 makes room as any other size.)
 fn size_of(board: Record) -> usize
     ensures { result ≤ 1024 }
 {
@@ -197,7 +197,7 @@ fn show_list(rt: &impl Print, call: &Call, solver: SolverKind) -> io::Result<()>
 }
 
 // The pages of both engines.
-pub fn show(rt: &impl Print, call: &Call) -> io::Result<()> {
+pub(crate) fn show(rt: &impl Print, call: &Call) -> io::Result<()> {
     print!(rt; "fast: ")?;
     show_list(rt, call, SolverKind::Fast)?;
     print!(rt; "knuth: ")?;

@@ -17,7 +17,7 @@ impl<'a> Reader<'a> {
     }
 
     // Whether nothing but blanks is left, which are passed over.
-    pub fn is_at_end(&mut self) -> bool
+    pub(crate) fn is_at_end(&mut self) -> bool
         ensures { length self.new.text.now ≤ length self.old.text.now }
     {
         self.skip_blanks();
@@ -37,7 +37,8 @@ impl<'a> Reader<'a> {
     }
 
     // The number that stands next, behind blanks, and 0 where none does; digits past the nineteenth are passed over.
-    pub fn number(&mut self) -> usize
+    // (No Option: a call that is cut short is shown as if zeros stood there, and each reader of a number would say so anew.)
+    pub(crate) fn number(&mut self) -> usize
         ensures { length self.new.text.now ≤ length self.old.text.now }
     {
         self.skip_blanks();
@@ -52,7 +53,7 @@ impl<'a> Reader<'a> {
     }
 
     // The digits that stand next, behind blanks, each as a byte, as far as there is room; and how many they are.
-    pub fn digits(&mut self, bytes: &mut [u8]) -> usize
+    pub(crate) fn digits(&mut self, bytes: &mut [u8]) -> usize
         ensures left { length self.new.text.now ≤ length self.old.text.now }
         ensures fit { result ≤ length bytes.old }
     {

@@ -2,26 +2,17 @@
 ghost use Rattle.std.specs.Prelude.{◌<◌};
 
 use super::call::Call;
-use rows::chart::{Chart, Kind, Owned};
+use rows::chart::Chart;
 use rows::row;
 use rows::row_system::RowSystem;
 use solver::prepare;
 use std::io;
 
-// Of each kind its copies and its mirror partner.
-fn show_kinds(rt: &impl Print, kinds: &[Kind], n: usize) -> io::Result<()> {
-    print!(rt; "kinds")?;
-    for kind in kinds.iter().take(n) {
-        print!(rt; " {} {}", kind.copies, kind.partner)?;
-    }
-    println!(rt)
-}
-
-// Of each piece its kind and its count.
-fn show_pieces(rt: &impl Print, pieces: &[Owned], n: usize) -> io::Result<()> {
-    print!(rt; "pieces")?;
-    for piece in pieces.iter().take(n) {
-        print!(rt; " {} {}", piece.kind, piece.count)?;
+// The first n pairs of a slice, in a line of that name.
+fn show_pairs(rt: &impl Print, name: &str, pairs: &[(u8, u8)], n: usize) -> io::Result<()> {
+    print!(rt; "{name}")?;
+    for (first, second) in pairs.iter().take(n) {
+        print!(rt; " {first} {second}")?;
     }
     println!(rt)
 }
@@ -78,8 +69,11 @@ fn show_system(rt: &impl Print, system: &RowSystem) -> io::Result<()> {
     let chart = system.chart;
     print!(rt; "cells {} kinds {} rows {}", d.size, d.kinds, d.rows)?;
     println!(rt; " turns {} mirrorings {}", d.turns, d.mirrorings)?;
-    show_kinds(rt, &chart.kinds, d.kinds)?;
-    show_pieces(rt, &chart.pieces, d.pieces)?;
+    // of each kind its copies and its mirror partner, of each piece its kind and its count
+    let kinds = chart.kinds.map(|kind| (kind.copies, kind.partner));
+    show_pairs(rt, "kinds", &kinds, d.kinds)?;
+    let pieces = chart.pieces.map(|piece| (piece.kind, piece.count));
+    show_pairs(rt, "pieces", &pieces, d.pieces)?;
     if d.size <= 30 {
         show_numbers(rt, "scan", &chart.scans, d.places)?;
         let maps = d.turns.saturating_add(d.mirrorings);
@@ -89,7 +83,7 @@ fn show_system(rt: &impl Print, system: &RowSystem) -> io::Result<()> {
 }
 
 // The refusal of a call, or its row system. A work slice of more than 8,200 words counts as one of 8,200.
-pub fn show(rt: &impl Print, call: &Call) -> io::Result<()> {
+pub(crate) fn show(rt: &impl Print, call: &Call) -> io::Result<()> {
     let mut words = [0; 8200];
     let work = &mut words[..call.words.min(8200)];
     let mut chart = Chart::empty();
