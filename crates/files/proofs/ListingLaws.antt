@@ -42,7 +42,7 @@ cells-behind (a ∷ b ∷ d ∷ rest) (suc k) x y e h = ap (λ (l : List ℕ). c
 -- the two bytes of a cell as a chunk of an answer
 pub chunk_is : (answer cell rest : List ℕ) (i : ℕ) → drop (2 * i) answer ≡ cell ++ rest → length cell ≡ 2
     → (2 * i + 1 < length answer) × (get_or cell 0 0 ≡ get_or answer (2 * i) 0) × (get_or cell 1 0 ≡ get_or answer (2 * i + 1) 0)
-      × (rest ≡ drop (2 * (i + 1)) answer)
+    × (rest ≡ drop (2 * (i + 1)) answer)
 chunk_is answer [] rest i e h = absurd (omega arith)
 chunk_is answer (x ∷ []) rest i e h = absurd (omega arith)
 chunk_is answer (x ∷ y ∷ []) rest i e h =

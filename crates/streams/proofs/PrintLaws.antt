@@ -1,16 +1,14 @@
 -- What holds whenever `print` makes a step. Assumes nothing.
 use Prim.Native.Nat.{ℕ, ◌≤◌}
 use Rattle.std.specs.Prelude.{Option, Some, IfSome}
-use mathlib.Core.List.{List, [], ◌++◌, append_assoc}
-use mathlib.Core.Path.{◌≡◌, refl, sym, ap, ◌∙◌, subst}
+use mathlib.Core.List.{List, ◌++◌, append_assoc}
+use mathlib.Core.Path.{◌≡◌, sym, ap, ◌∙◌, subst}
 use native.Mathlib.Omega.{arith}
 use lib.ListN.{length, take}
 use Rattle.definitions.specs.Files.{packed}
 use Rattle.output.specs.Stretches.{Ready, Stepped, rest_after, rest_of}
 use Rattle.output.specs.declared.Progress.{Progress}
-use Rattle.output.specs.declared.Progress.TheVariants.{Unbegun}
 use Rattle.output.specs.declared.Stretch.{Stretch}
-use Rattle.streams.specs.Printing.{Lent}
 
 -- what is written already, and then what is still to be printed, is what is to be printed for the text
 pub record Going (text cells answers work links out : List ℕ) (p : Progress) : Type 0 where
@@ -18,15 +16,6 @@ pub record Going (text cells answers work links out : List ℕ) (p : Progress) :
   pub long_out : 4160 ≤ length out
   pub before : List ℕ
   pub rest : packed text ≡ before ++ rest_of text p
-
-pub going_first : (text cells answers work links out : List ℕ) → Lent cells answers work links out → Going text cells answers work links out Unbegun
-going_first text cells answers work links out lent =
-    record {
-      ready = record { room = lent.room; left_there = tt };
-      long_out = lent.long_out;
-      before = [];
-      rest = refl;
-    }
 
 module _ (text cells answers work links out : List ℕ) (p : Progress) (g : Going text cells answers work links out p)
     (cells' answers' work' links' out' : List ℕ) (r : Stretch) (s : Stepped text p cells work links out cells' answers' work' links' out' r)

@@ -1,10 +1,7 @@
--- What `Going` gives at the start of `print`, after a step and at the end. Assumes nothing.
-use Rattle.std.proofs.Common.{refl, ◌∙◌}
-use Rattle.streams.proofs.PrintLaws.{going_first, going_next}
+-- What `Going` gives after a step. Assumes nothing.
+use Rattle.std.proofs.Common.{◌∙◌}
+use Rattle.streams.proofs.PrintLaws.{going_next}
 use Rattle.streams.proofs.print.Goals as goal
-
-pub loop-further-init : goal.loop-further-init
-loop-further-init g c = (going_first c.args.text.now _ _ _ _ _ c.requires, refl, refl, refl, refl, refl)
 
 pub loop-further-preserved : goal.loop-further-preserved
 loop-further-preserved g c =

@@ -35,8 +35,8 @@ loop-i-preserved c =
       chunk.3 ∙ ap (λ (k : ℕ). drop (2 * k) answer) (sym more),
       step.0.0 ∙ l.invariant.4,
       subst (λ (k : ℕ). Put a.out.now a.at (cells_shown (take (2 * k) answer)) z.new.out z.result) (sym more)
-      (elim c.if-i-gt0.branch [
-        | then-i-gt0 w ↦ put_next_cell answer n within l.invariant.5 (omega (arith, w.if-i-gt0.true)) (put_from w.out-is w.end-is put) (omega arith)
-        | else-i-gt0 w ↦ put_first_cell answer n within l.invariant.5 (omega (arith, w.if-i-gt0.false)) (put_from w.out-is w.end-is put) (omega arith)
-      ]),
+          (elim c.if-i-gt0.branch [
+            | then-i-gt0 w ↦ put_next_cell answer n within l.invariant.5 (omega (arith, w.if-i-gt0.true)) (put_from w.out-is w.end-is put) (omega arith)
+            | else-i-gt0 w ↦ put_first_cell answer n within l.invariant.5 (omega (arith, w.if-i-gt0.false)) (put_from w.out-is w.end-is put) (omega arith)
+          ]),
     )

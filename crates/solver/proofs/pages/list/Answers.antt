@@ -1,8 +1,5 @@
 -- `list` meets its contract: the engine that the configuration names lists, and one that is not ported lists nothing. Assumes nothing.
-use Prim.Native.Nat.{◌*◌, ◌≤◌}
-use mathlib.Core.Path.{sym, refl, ap, subst}
-use native.Mathlib.Nat.{div-mul-le_self}
-use lib.ListN.{length}
+use mathlib.Core.Path.{refl, ap}
 use Rattle.definitions.specs.Refusals.{identify_of, is_knuth}
 use Rattle.definitions.specs.declared.SolverKind.TheVariants.{Fast, KnuthAlgorithm}
 use Rattle.rows.specs.RowSystems.{seen}
@@ -10,17 +7,11 @@ use Rattle.solver.specs.Lent.{LinksAfter, answers_by}
 use Rattle.solver.proofs.CallLaws.{by_engine, unported}
 use Rattle.solver.proofs.pages.list.Goals as goal
 
-pub list-requires : goal.list-requires
-list-requires c = let a = c.args in div-mul-le_self (length a.answers.now) (2 * a.system.now.d.places)
-
-pub list-requires-in-KnuthAlgorithm : goal.list-requires-in-KnuthAlgorithm
+pub list-requires-in-KnuthAlgorithm-clause-links : goal.list-requires-in-KnuthAlgorithm-clause-links
 unfolding is_knuth
-list-requires-in-KnuthAlgorithm c =
-    let a = c.args in
-    let is = ap is_knuth c.in-KnuthAlgorithm.is in record {
-      links = (c.requires.1 is, c.requires.2 is);
-      room = div-mul-le_self (length a.answers.now) (2 * a.system.now.d.places);
-    }
+list-requires-in-KnuthAlgorithm-clause-links c =
+    let is = ap is_knuth c.in-KnuthAlgorithm.is in
+    (c.requires.1 is, c.requires.2 is)
 
 pub returns-in-Auto : goal.returns-in-Auto
 returns-in-Auto c = let h = unported c.in-Auto.is _ _ _ _ _ in record { page = h.0; behind = h.1 }

@@ -46,12 +46,6 @@ returns-in_err-check_slices c =
     refuses (records_of a.pieces.now) a.board a.bytes.now a.config a.links a.work.now a.chart.now is
     (slices_refused a.pieces.now a.board a.bytes.now a.config (length a.work.now) a.links c.in_ok-check_lent.ensures c.in_ok-check_config.ensures _ c.in_err-check_slices.ensures)
 
-pub invariant_of-lent : goal.invariant_of-lent
-invariant_of-lent c = record { accepted = sym c.in_ok-check_lent.ensures }
-
-pub invariant_of-count_tray : goal.invariant_of-count_tray
-invariant_of-count_tray c = record { accepted = c.strip_tray-stripped.ensures.0.accepted }
-
 pub returns-in_err-check_counts : goal.returns-in_err-check_counts
 returns-in_err-check_counts c =
     let a = c.args in
