@@ -123,7 +123,7 @@ fn board_of(line: &[u8]) -> Option<GridText<'_>>
 }
 
 // The wood of a line with as many fields as a piece's: 0 where it has six, the last field where it has seven.
-#[tactic(auto, using(crate::proofs::FieldLaws::wood_absent), unfolding(definitions::specs::Files::has_piece_fields, definitions::specs::Files::is_wood, definitions::specs::Files::wood_in))]
+#[tactic(auto, using(crate::proofs::FieldLaws::wood_absent), unfolding(definitions::specs::Files::has_piece_fields, definitions::specs::Files::wood_in))]
 fn wood_of(line: &[u8]) -> Option<u8>
     ensures { Read result (has_piece_fields line.now) (λ wood. wood ≡ wood_in line.now) }
 {
@@ -138,7 +138,7 @@ fn wood_of(line: &[u8]) -> Option<u8>
 }
 
 // The piece that a line gives: the word, a count, a grid, and a wood or none.
-#[tactic(auto, using(crate::proofs::PartLaws::same_are), unfolding(definitions::specs::Files::is_piece, definitions::specs::Files::piece_in, definitions::specs::Files::grid_in))]
+#[tactic(auto, using(crate::proofs::PartLaws::same_are), unfolding(definitions::specs::Files::is_piece, definitions::specs::Files::piece_in))]
 pub fn piece_of(line: &[u8]) -> Option<PieceText<'_>>
     ensures { Read result (is_piece line.now)
         (λ piece. (of_piece piece ≡ piece_in line.now) × (length piece.grid.cells.now ≤ length line.now)) }
