@@ -115,10 +115,6 @@ module _ (s : System) {w : Reduced} {uncovered : ℕ → Bool} {copies : ℕ →
 
 module _ (s : System) {w : Reduced} {uncovered : ℕ → Bool} {copies : ℕ → ℕ} {left : ℕ} {m : List ℕ} (seek : Seek w uncovered copies s.size left m) {rs : List ℕ}
     (h : Chosen s w copies left rs) where
-  -- no kind has more of the rows chosen than it has copies
-  pub all_fill : Fillable s rs
-  all_fill = record { apart = h.apart; enough = λ k l. let e = h.taken k l in omega arith }
-
   module _ {k : ℕ} (live : w.alive k ≡ true) where
     abbrev r : ℕ
     r = (matrix_of s).row k

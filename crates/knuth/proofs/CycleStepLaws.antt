@@ -17,7 +17,7 @@ use Rattle.rows.specs.Lawful.{Lawful}
 use Rattle.rows.specs.declared.Dims.{Dims}
 use Rattle.kept.specs.Emission.{emit_kept}
 use Rattle.kept.specs.Normal.{row_of}
-use Rattle.kept.specs.Packings.{AreRows, Fillable}
+use Rattle.kept.specs.Packings.{AreRows}
 use Rattle.rows.proofs.ReadyLaws.{rows_many}
 use Rattle.kept.proofs.ReadyLaws.{row_is as row-stands}
 use Rattle.links.specs.Links.{down, first_of, end_of, size_of, row_number}
@@ -26,7 +26,7 @@ use Rattle.links.specs.Search.{Seek, At, selected, spend, first_covered, has_row
 use Rattle.links.proofs.Search.{choose_at, sel_uncovered, try_live, try_sub, try_seek, try_at}
 use Rattle.knuth.specs.Matrix.{matrix_of}
 use Rattle.knuth.specs.Listing.{Chosen, Choosable, Tryable, emit_all, knuth_below, knuth_rows}
-use Rattle.knuth.proofs.ChosenLaws.{all_fill, row-number, row_small, chosen_next, room_next}
+use Rattle.knuth.proofs.ChosenLaws.{row-number, row_small, chosen_next, room_next}
 use Rattle.knuth.proofs.CycleLaws.{leaf, few, none, below_rows, no_rows, stops, goes_on}
 use Rattle.knuth.proofs.UnmetLaws.{passed_over}
 use Rattle.rows.specs.declared.chart.Chart.{Chart}
@@ -56,9 +56,6 @@ module _ (d : Dims) (work : List ℕ) (chart : Chart) where
   to_shown q = q
 
   -- ---- choosing a column
-  pub leaf_fills : {m : List ℕ} {left : ℕ} {rs : List ℕ} → Choosable S m left rs → Fillable S rs
-  leaf_fills p = all_fill S p.seek p.chosen
-
   pub column_tryable : {m : List ℕ} {left : ℕ} {rs : List ℕ} → Choosable S m left rs → (left ≡ 0 → ⊥) → (c : ℕ) → c ≡ pivot (size_of m) d.size → (c ≡ 4096 → ⊥) → (k : ℕ) → k ≡ down m c
       → Tryable S m left c k rs
   unfolding system_in system_over

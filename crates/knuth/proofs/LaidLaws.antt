@@ -242,9 +242,6 @@ pub record StockTo (old new : List ℕ) (size j : ℕ) (chart : Chart) : Type 0 
   pub copies : (k : ℕ) → size + k < j → copies_of new (size + k) ≡ kind_copies chart.kinds k
   pub others : (i : ℕ) → ((k : ℕ) → k < j → i ≡ at_copies k → ⊥) → get_or new i 0 ≡ get_or old i 0
 
-pub stock_none : (m : List ℕ) (size j : ℕ) (chart : Chart) → j ≡ 0 → StockTo m m size j chart
-stock_none m size j chart e = record { cells = λ i h k. absurd (omega arith); copies = λ k h. absurd (omega arith); others = λ i h. refl }
-
 module _ (old m : List ℕ) (size j v : ℕ) (chart : Chart) (st : StockTo old m size j chart) (long : at_copies j < length m) where
   abbrev new : List ℕ
   new = set m (at_copies j) v
