@@ -15,7 +15,6 @@ use Rattle.lists.proofs.ListLaws.{apart_end}
 use Rattle.rows.specs.Systems.{System}
 use Rattle.rows.specs.Lawful.{Lawful}
 use Rattle.kept.specs.Normal.{row_of, of_kind}
-use Rattle.kept.specs.Packings.{Fillable}
 use Rattle.links.specs.Links.{row_number, Matrix}
 use Rattle.links.specs.Cover.{Reduced, reduced_to}
 use Rattle.links.specs.Search.{Seek, apart, first_covered, select, spend}
