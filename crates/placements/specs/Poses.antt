@@ -52,7 +52,7 @@ with_poses order us (suc i) poses =
     let before = with_poses order us i poses in
     record before { list = set before.list i (with_pose order (us i) (get_or before.list i no_pose)) }
 
--- a variant stands there, with its origin; and so does each of them
+-- a variant stands there, with its origin; and so does each of them (no ghost field of `Poses`: the order of the axes is the board's)
 pub record Stands (order : List ℕ) (pose : Pose) : Type 0 where
   pub small : pose.size ≤ 512
   pub origin_is : origin_in pose ≡ origin (variant_in order pose)

@@ -11,7 +11,7 @@ ghost use Rattle.shape.specs.CubicGrids.{grid_of};
 ghost use Rattle.shape.specs.Grids.{as_grid};
 ghost use Rattle.shape.specs.Scans.{as_order};
 ghost use Rattle.shape.specs.Variants.{turned_by};
-ghost use Rattle.placements.specs.Poses.{code_of, cell_of, origin_in, no_pose, with_pose, with_poses, empty_poses, PoseOf, Posed};
+ghost use Rattle.placements.specs.Poses.{code_of, cell_of, origin_in, with_pose, with_poses, empty_poses, PoseOf, Posed};
 
 use shape::maps::Map;
 use shape::{AxisOrder, Coord, CubicGrid, cells, scan};
@@ -70,7 +70,7 @@ fn list_filled(cells: &[u8], s: Coord, codes: &mut [u16]) -> usize
     n
 }
 
-// The code of the first in scan order of cells whose codes are listed; 0 where there are none. (No Option: the origin of no cells is (0, 0, 0).)
+// The code of the first in scan order of cells whose codes are listed; 0 where there are none. (No Option: so is `origin` defined.)
 fn first_of(codes: &[u16], order: AxisOrder) -> u16
     ensures { cell_of result ≡ origin (sort (cell_ahead (as_order order)) (map cell_of codes.now)) }
 {

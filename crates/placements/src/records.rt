@@ -4,7 +4,7 @@ ghost use Rattle.definitions.specs.Refusals.{sides_of, grid_of, is_side, sides_f
 ghost use Rattle.definitions.specs.Grid.{volume};
 ghost use Rattle.shape.specs.Coords.{as_sides};
 ghost use Rattle.shape.specs.CubicGrids.{grid_of as cubic};
-ghost use Rattle.placements.specs.Pieces.{empty_pieces, no_record, put_record, records_of};
+ghost use Rattle.placements.specs.Pieces.{empty_pieces, put_record, records_of};
 
 use crate::Pieces;
 use definitions::Record;

@@ -2,6 +2,7 @@
 use Prim.Native.Nat.{ℕ, ◌+◌, ◌-◌, ◌≤◌, ◌<◌, min, max}
 use mathlib.Core.Bool.{Bool, true, false, cond, not}
 use mathlib.Core.List.{List, [], ◌∷◌, Memᴰ}
+use Rattle.std.proofs.Common.{Option, None, Some}
 use mathlib.Core.Path.{◌≡◌, refl, sym, ap, ap₂, ◌∙◌}
 use mathlib.Core.Logic.{◌⊎◌, inl, inr}
 use native.Mathlib.Nat.{mul-le-mul}
@@ -17,23 +18,20 @@ use Rattle.lists.proofs.ListLaws.{map_same}
 use Rattle.definitions.specs.Grid.{Sides, Cell, Grid, box, volume, place_of, byte_at, grid_with, set_down, filled_cells, InBox}
 use Rattle.definitions.specs.Maps.{side, coordinate}
 use Rattle.definitions.specs.Stripping.{corner, strip, FitsIn, frame_of}
-use Rattle.theorems.proofs.MapLaws.{byte_with, filled_at, filled_of}
+use Rattle.theorems.proofs.MapLaws.{byte_with, cell_path, filled_at, filled_of}
 use Rattle.theorems.proofs.GroupLaws.{bytes_whole, coordinate_below}
 use Rattle.theorems.proofs.GridLaws.{length_box, set_down_none}
 use Rattle.theorems.proofs.StrippingLaws.{strip_is, strip_empty, strip_fits, some_or_none, corner_none}
 use Rattle.theorems.proofs.StrippedLaws.{Bounds, corner_by, strip_by}
-use Rattle.shape.specs.Coords.{Fit}
+use Rattle.shape.specs.Coords.{Fit, as_cell}
 use Rattle.shape.specs.Places.{cell_at}
-use Rattle.shape.specs.Stripping.{part_of}
+use Rattle.shape.specs.declared.stripping.Span.{Span}
+use Rattle.shape.specs.Stripping.{both, sides_between, part_of}
 use Rattle.shape.proofs.PlaceLaws.{place_lt, cell_at_place, cell_in_box, place_of_cell, side_fit}
 
 -- ---- a number for each axis
 abbrev zeros : Cell
 zeros = record { x = 0; y = 0; z = 0 }
-
--- of two cells, axis by axis
-abbrev pub both : (ℕ → ℕ → ℕ) → Cell → Cell → Cell
-both f u v = record { x = f u.x v.x; y = f u.y v.y; z = f u.z v.z }
 
 both_at : (f : ℕ → ℕ → ℕ) (u v : Cell) (a : ℕ) → coordinate (both f u v) a ≡ f (coordinate u a) (coordinate v a)
 unfolding coordinate
@@ -45,13 +43,9 @@ both_at f u v a = go (eqb a 0) (eqb a 1)
     go false true = refl
     go false false = refl
 
--- the sides from one cell to another
-abbrev pub sides_to : Cell → Cell → Sides
-sides_to low high = record { a = high.x - low.x; b = high.y - low.y; c = high.z - low.z }
-
-sides_to_at : (low high : Cell) (a : ℕ) → side (sides_to low high) a ≡ coordinate high a - coordinate low a
+sides_between_at : (low high : Cell) (a : ℕ) → side (sides_between low high) a ≡ coordinate high a - coordinate low a
 unfolding coordinate side
-sides_to_at low high a = both_at (λ m n. m - n) high low a
+sides_between_at low high a = both_at (λ m n. m - n) high low a
 
 same_at : (n a : ℕ) → coordinate (record { x = n; y = n; z = n }) a ≡ n
 unfolding coordinate
@@ -143,6 +137,22 @@ module _ {s : Sides} {cells : List ℕ} {i : ℕ} {low high : Cell} (m : AllMet 
         (met_more (on_axis s a) cells i (m.on a) one (omega (arith, side_fit s fit a)));
   }
 
+-- the bounds that a span gives: 8 and 0 where there is none yet
+abbrev pub low_of : Option Span → Cell
+low_of None = record { x = 8; y = 8; z = 8 }
+low_of (Some span) = as_cell span.low
+
+abbrev pub high_of : Option Span → Cell
+high_of None = zeros
+high_of (Some span) = as_cell span.high
+
+-- the first filled cell widens these to its own
+pub first_low : {s : Sides} (u : Cell) → Fit s → InBox s u → u ≡ both min (low_of None) u
+first_low u f b = cell_path (omega arith) (omega arith) (omega arith)
+
+pub first_high : (u : Cell) → both (λ m n. n + 1) u u ≡ both (λ m n. max m (n + 1)) (high_of None) u
+first_high u = cell_path (omega arith) (omega arith) (omega arith)
+
 -- ---- at the end: the box that the filled cells span
 module _ {s : Sides} {cells : List ℕ} {i : ℕ} {low high : Cell} (m : AllMet s cells i low high) (whole : length cells ≡ volume s)
     (end : length cells ≤ i) where
@@ -168,14 +178,14 @@ module _ {s : Sides} {cells : List ℕ} {i : ℕ} {low high : Cell} (m : AllMet 
       go [] none = refl
       go (u ∷ us) none = absurd (none u (Memᴰ.head refl))
 
-  met_bounds : (coordinate high 0 ≡ 0 → ⊥) → Bounds g low (sides_to low high)
+  met_bounds : (coordinate high 0 ≡ 0 → ⊥) → Bounds g low (sides_between low high)
   met_bounds some = record {
     low = λ a. let o = (ends a).0 in (cell_at s o.at, cell-of o, o.is);
     high = λ a. let o = (ends a).1 in
-        (cell_at s o.at, cell-of o, omega (arith, o.is, (m.on a).from o.at o.below o.filled, sides_to_at low high a));
+        (cell_at s o.at, cell-of o, omega (arith, o.is, (m.on a).from o.at o.below o.filled, sides_between_at low high a));
     from = from;
     to = λ a u k. let p = place-of u k in
-        omega (arith, from a u k, ap (λ (v : Cell). coordinate v a) p.3, (m.on a).to p.0 p.1 p.2, sides_to_at low high a);
+        omega (arith, from a u k, ap (λ (v : Cell). coordinate v a) p.3, (m.on a).to p.0 p.1 p.2, sides_between_at low high a);
   }
     where
       first : NoneOrEnds (on_axis s 0) cells i (coordinate low 0) (coordinate high 0) → OneOf (on_axis s 0) cells i (coordinate low 0)
@@ -196,19 +206,9 @@ module _ {s : Sides} {cells : List ℕ} {i : ℕ} {low high : Cell} (m : AllMet 
   pub found_none : high.x ≡ 0 → (zeros ≡ corner g) × (s ≡ (strip g).sides)
   found_none e = let none = met_empty e in (sym (corner_none g none), sym (ap (λ (h : Grid). h.sides) (strip_empty g none)))
 
-  pub found_some : (high.x ≡ 0 → ⊥) → {t : Sides} → t ≡ sides_to low high → (low ≡ corner g) × (t ≡ (strip g).sides)
+  pub found_some : (high.x ≡ 0 → ⊥) → {t : Sides} → t ≡ sides_between low high → (low ≡ corner g) × (t ≡ (strip g).sides)
   unfolding grid_with coordinate
   found_some some e = let b = met_bounds some in (sym (corner_by b), e ∙ sym (ap (λ (h : Grid). h.sides) (strip_by b)))
-
-  pub found_order : (high.x ≡ 0 → ⊥) → (low.x ≤ high.x) × (low.y ≤ high.y) × (low.z ≤ high.z)
-  unfolding coordinate side
-  found_order some = (axis 0, axis 1, axis 2)
-    where
-      axis : (a : ℕ) → coordinate low a ≤ coordinate high a
-      axis a =
-          let r = (met_bounds some).low 0 in
-          let p = place-of r.0 r.1 in
-          omega (arith, (m.on a).from p.0 p.1 p.2, (m.on a).to p.0 p.1 p.2)
 
 -- ---- a part of a grid's box, byte by byte
 pub part_fit : {s t : Sides} {at : Cell} → Fit s → FitsIn (record { lent = s; at = at }) t → Fit t

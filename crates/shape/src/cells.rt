@@ -1,5 +1,6 @@
 // Cells of a box and their places: x slowest, z fastest. Sides are a plain `Coord` that each function asks to fit: those of a grid that is lent whole
-// do, but so do a part's, a mapped box's and a record's that was let pass, and a type for sides would be made anew at each such call.
+// do, but so do a part's, a mapped box's and a record's that was let pass, and a type for sides would be made anew at each such call. A cell is a plain
+// `Coord` that is asked to lie in a box (`InBox`): this ties it to sides that another owns, and one cell is asked of two boxes.
 ghost use Rattle.std.specs.Prelude.{cond, ◌≡◌, ◌+◌, ◌<◌, ◌≤◌, ◌↔◌, IsTrue};
 ghost use Rattle.definitions.specs.Grid.{volume, place_of, InBox};
 ghost use Rattle.definitions.specs.Maps.{map_of};

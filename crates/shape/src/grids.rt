@@ -1,4 +1,5 @@
-// Any cells and sides, of which it is asked whether they make a grid. Where they do not, the answers are 0 or false.
+// Any cells and sides, of which it is asked whether they make a grid. Where they do not, the answers are 0 or false. (No Option: a byte that is not
+// there is one of no filled cell, which 0 says, and false says as well that no map brings them onto themselves.)
 ghost use Rattle.std.specs.Prelude.{cond, ◌&&◌, ◌≡◌, ◌≤◌, ◌↔◌, IsTrue, length, get_or, eqb, leb};
 ghost use Rattle.lists.specs.Lists.{all, how_many};
 ghost use Rattle.definitions.specs.Grid.{byte_at, same_grid};

@@ -7,6 +7,7 @@ use super::constants::{Axes, INVERSES, MAPS, PRODUCTS};
 use super::{Axis, Coord};
 
 // A map, by its number: below 24 a turn, from 24 to 47 a mirroring. A larger number stands for the map that moves nothing.
+// (No `TryFrom`: `map_of` gives each number a map, and making one cannot fail.)
 #[derive(Clone, Copy)]
 pub struct Map(pub u8);
 

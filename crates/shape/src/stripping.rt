@@ -1,5 +1,5 @@
 // Grids without their empty outer layers.
-ghost use Rattle.std.specs.Prelude.{◌≡◌, ◌+◌, ◌-◌, ◌≤◌, min, max, length};
+ghost use Rattle.std.specs.Prelude.{◌≡◌, ◌+◌, ◌≤◌, ◌<◌, length};
 ghost use Rattle.std.proofs.Math.Seq.{paste};
 ghost use Rattle.definitions.specs.Grid.{volume};
 ghost use Rattle.definitions.specs.Stripping.{corner, strip, FitsIn};
@@ -10,56 +10,85 @@ ghost use Rattle.shape.specs.Stripping.{part_of, StripsInto};
 use super::{Coord, CubicGrid, cells};
 
 // The box that a grid's filled cells span: where its corner lies, and its sides. A grid without filled cells keeps its box.
+// (That a part lies in a box, `FitsIn`, stays a fact of contracts: it ties a window to sides that another owns.)
 #[derive(Clone, Copy)]
 pub struct Window {
     pub at: Coord,
     pub sides: Coord,
 }
 
-// The smaller coordinates of two cells, axis by axis; and the larger ones.
-fn lower(u: Coord, v: Coord) -> Coord
-    ensures { (result.0 ≡ min u.0 v.0) × (result.1 ≡ min u.1 v.1) × (result.2 ≡ min u.2 v.2) }
-{
-    Coord(u.0.min(v.0), u.1.min(v.1), u.2.min(v.2))
+// A box that has a cell, from its corner to one past its last cell.
+#[derive(Clone, Copy)]
+struct Span {
+    low: Coord,
+    high: Coord,
+    ghost some: { (low.0 < high.0) × (low.1 < high.1) × (low.2 < high.2) },
 }
 
-fn higher(u: Coord, v: Coord) -> Coord
-    ensures { (result.0 ≡ max u.0 v.0) × (result.1 ≡ max u.1 v.1) × (result.2 ≡ max u.2 v.2) }
-{
-    Coord(u.0.max(v.0), u.1.max(v.1), u.2.max(v.2))
+impl Span {
+    ghost use Rattle.std.specs.Prelude.{◌≡◌, ◌+◌, ◌-◌, ◌<◌, min, max};
+    ghost use Rattle.shape.specs.Coords.{as_sides, as_cell};
+    ghost use Rattle.shape.specs.Stripping.{both, sides_between};
+
+    // That of a cell.
+    fn of(u: Coord) -> Span
+        requires { (u.0 < 8) × (u.1 < 8) × (u.2 < 8) }
+        ensures { (result.low ≡ u) × (as_cell result.high ≡ both (λ m n. n + 1) (as_cell u) (as_cell u)) }
+    {
+        Span {
+            low: u,
+            high: Coord(u.0 + 1, u.1 + 1, u.2 + 1),
+        }
+    }
+
+    // The one that has another cell too.
+    fn with(self, u: Coord) -> Span
+        requires { (u.0 < 8) × (u.1 < 8) × (u.2 < 8) }
+        ensures { (as_cell result.low ≡ both min (as_cell self.low) (as_cell u))
+            × (as_cell result.high ≡ both (λ m n. max m (n + 1)) (as_cell self.high) (as_cell u)) }
+    {
+        let Coord(x, y, z) = self.low;
+        let Coord(a, b, c) = self.high;
+        Span {
+            low: Coord(x.min(u.0), y.min(u.1), z.min(u.2)),
+            high: Coord(a.max(u.0 + 1), b.max(u.1 + 1), c.max(u.2 + 1)),
+        }
+    }
+
+    // Its corner and its sides.
+    fn window(self) -> Window
+        ensures { (result.at ≡ self.low) × (as_sides result.sides ≡ sides_between (as_cell self.low) (as_cell self.high)) }
+    {
+        let Coord(x, y, z) = self.low;
+        let Coord(a, b, c) = self.high;
+        Window {
+            at: self.low,
+            sides: Coord(a - x, b - y, c - z),
+        }
+    }
 }
 
-// The sides of a box from its corner to the cell past its last.
-fn sides_to(low: Coord, high: Coord) -> Coord
-    requires { (low.0 ≤ high.0) × (low.1 ≤ high.1) × (low.2 ≤ high.2) }
-    ensures { (result.0 ≡ high.0 - low.0) × (result.1 ≡ high.1 - low.1) × (result.2 ≡ high.2 - low.2) }
-{
-    Coord(high.0 - low.0, high.1 - low.1, high.2 - low.2)
-}
-
-// low ends at the smallest coordinates of the filled cells, high at one past the largest; no coordinate is above 7.
+// Where a grid's box without its empty outer layers lies, and its sides.
 fn window_of(grid: &CubicGrid) -> Window
     ensures { (as_cell result.at ≡ corner (grid_of grid.now)) × (as_sides result.sides ≡ (strip (grid_of grid.now)).sides) }
 {
-    let mut low = Coord(8, 8, 8);
-    let mut high = Coord(0, 0, 0);
-    // of the filled cells before place i: low the smallest coordinates, high one past the largest
+    let mut span: Option<Span> = None;
+    // the span of the filled cells before place i
     for (i, &cell) in grid.cells.iter().enumerate() {
         if cell == 1 {
             let u = cells::cell_at(grid.sides, i);
-            low = lower(low, u);
-            high = higher(high, Coord(u.0 + 1, u.1 + 1, u.2 + 1));
+            span = Some(match span {
+                Some(span) => span.with(u),
+                None => Span::of(u),
+            });
         }
     }
-    if high.0 == 0 {
-        return Window {
+    match span {
+        Some(span) => span.window(),
+        None => Window {
             at: Coord(0, 0, 0),
             sides: grid.sides,
-        };
-    }
-    Window {
-        at: low,
-        sides: sides_to(low, high),
+        },
     }
 }
 

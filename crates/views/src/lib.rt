@@ -10,7 +10,7 @@ ghost use Rattle.views.specs.Views.{cell_seen, turned_seen};
 use shape::maps::Map;
 use shape::{Coord, CubicGrid, cells, grids};
 
-// Cells and sides, whatever these are.
+// Cells and sides, whatever these are. (No Option of a grid: each function takes any, and a cell that is not there is not filled, which 0 says.)
 #[derive(Clone, Copy)]
 pub struct GridView<'a> {
     pub cells: &'a [u8],
