@@ -7,3 +7,4 @@ pub mod Scans
 pub mod Lines
 pub mod Variants
 pub mod Stripping
+pub mod Spots
