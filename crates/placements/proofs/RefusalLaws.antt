@@ -36,6 +36,10 @@ pub sum_is : {A : Type 0} (f : A → ℕ) (xs : List A) → sum (map f xs) ≡ s
 sum_is f [] = refl
 sum_is f (x ∷ xs) = ap (λ (n : ℕ). f x + n) (sum_is f xs) ∙ sym (sum_by-cons f x xs)
 
+-- what holds of all records holds of the one at a place
+pub told_at : (test : Record → Bool) (rs : List Record) → T (all test rs) → (p : Record) (k : ℕ) → k < length rs → p ≡ get_or rs k p → T (test p)
+told_at test rs t p k inside at = subst (λ (q : Record). T (test q)) (sym at) (all_get_or test p rs t k inside)
+
 -- ---- a record's sides and cells
 side_small : (n : ℕ) → T (is_side n) → n ≤ 8
 unfolding is_side

@@ -10,7 +10,6 @@ use Rattle.placements.specs.declared.trays.LentTray.{LentTray}
 use Rattle.placements.specs.declared.counted.CountedTray.{CountedTray}
 use Rattle.placements.specs.Pieces.{no_record}
 use Rattle.placements.specs.Merging.{Sound}
-use Rattle.placements.specs.Counting.{no_turnings}
 use Rattle.placements.proofs.MergingLaws.{record_fits}
 use Rattle.placements.proofs.CountingLaws.{Lent, lent_passes, sound}
 
@@ -34,6 +33,3 @@ module _ (t : LentTray) where
 module _ (c : CountedTray) where
   pub few_kinds : c.counts.kinds ≤ 16
   few_kinds = let few = few_pieces c.tray in omega (arith, c.counted.are_kinds.few)
-
-  pub few_turnings : (k : ℕ) → k < c.counts.kinds → (get_or c.turnings k no_turnings).count ≤ 24
-  few_turnings k h = (c.counted.each_kind k h).within

@@ -1,22 +1,20 @@
 -- `all_bits` meets its contract: `all` asks the grid of each record, whose sides fit and whose cells lie in the bytes. Assumes nothing.
-use Rattle.std.proofs.Common.{◌∙◌, Bool, T, sym, subst, rules, tests}
+use Rattle.std.proofs.Common.{◌∙◌, Bool, sym, rules, tests}
 use Rattle.std.proofs.lemmas.Iterator.{YieldsList-from_slice}
 use Rattle.std.proofs.lemmas.Iterator.Adapters.{serves_from_places}
 use Rattle.std.proofs.lemmas.Iterator.Search.{all_from_yields_List}
-use Rattle.lists.proofs.ListLaws.{all_get_or}
 use Rattle.definitions.specs.Refusals.{grid_of, sides_fit, cells_lie, are_bits}
 use Rattle.definitions.specs.declared.Record.{Record}
-use Rattle.placements.proofs.RefusalLaws.{all_is, bits_told}
+use Rattle.placements.proofs.RefusalLaws.{told_at, all_is, bits_told}
 use Rattle.placements.proofs.refusals.all_bits.Goals as goal
 
 pub all-requires-clause-callable : goal.all-requires-clause-callable
 all-requires-clause-callable c =
     let pieces = c.args.pieces.now in
-    let lie = cells_lie c.args.bytes.now in
     serves_from_places (YieldsList-from_slice pieces cc) (λ x q r. search rules)
     (λ x k inside at.
-    let fit : T (sides_fit x.now) = subst (λ (p : Record). T (sides_fit p)) (sym at) (all_get_or sides_fit x.now pieces c.requires.0 k inside) in
-    let there : T (cells_lie c.args.bytes.now x.now) = subst (λ (p : Record). T (lie p)) (sym at) (all_get_or lie x.now pieces c.requires.1 k inside) in search rules)
+    let fit = told_at sides_fit pieces c.requires.0 x.now k inside at in let there = told_at (cells_lie c.args.bytes.now) pieces c.requires.1 x.now k inside at in
+    search rules)
 
 pub returns : goal.returns
 returns c =
