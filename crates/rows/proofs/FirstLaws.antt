@@ -7,7 +7,7 @@ use native.Mathlib.Omega.{arith}
 use borrow.Author.Tests.{eq-eqb, ne_eqb}
 use lib.Dec.{eqb}
 use lib.ListN.{length}
-use Rattle.core.specs.List.{position_from}
+use Rattle.std.specs.List.{position_from}
 use Rattle.std.specs.Prelude.{Some, unwrap_or}
 use Rattle.lists.specs.Lists.{before}
 use Rattle.lists.proofs.TestLaws.{by_eq}

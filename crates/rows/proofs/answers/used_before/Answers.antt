@@ -5,8 +5,9 @@ use mathlib.Core.Path.{◌≡◌, sym, ◌∙◌}
 use native.Mathlib.Omega.{arith}
 use lib.Dec.{T, eqb, ltb, ltb→lt}
 use lib.ListN.{length, get_or}
-use Rattle.core.proofs.iter.Serving.{serving}
 use Rattle.std.proofs.Common.{rules, tests}
+use Rattle.std.proofs.lemmas.Iterator.{YieldsList-from_slice}
+use Rattle.std.proofs.lemmas.Iterator.Adapters.{serves_from_places}
 use Rattle.std.specs.List.{count_by}
 use Rattle.std.proofs.lemmas.List.Sums.{count_by-le-length}
 use Rattle.lists.specs.Lists.{all}
@@ -23,7 +24,13 @@ row_found work path t r i h e =
     omega arith
 
 pub count-requires-clause-can : goal.count-requires-clause-can
-count-requires-clause-can c = grind (serving, row_found c.args.work.now c.args.path.now c.requires)
+count-requires-clause-can c =
+    let path = c.args.path.now in (
+      tt,
+      tt,
+      serves_from_places (YieldsList-from_slice path cc) (λ x q r. search rules)
+          (λ x k inside at. let there = row_found c.args.work.now path c.requires x.now k inside (search (rules, at)) in search (rules, there)),
+    )
 
 pub returns : goal.returns
 returns c =
