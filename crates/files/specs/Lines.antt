@@ -1,5 +1,6 @@
 -- What is read of a line, and of the first lines of a text.
-use Rattle.std.specs.Prelude.{ℕ, ◌+◌, ◌-◌, ◌≤◌, ◌<◌, Bool, true, false, cond, ◌||◌, ◌&&◌, Option, Some, None, List, [], ◌∷◌, map, ◌≡◌, leb, length, get_or, drop}
+use Rattle.std.specs.Prelude.{ℕ, ◌+◌, ◌-◌, ◌≤◌, ◌<◌, Bool, true, false, cond, ◌||◌, ◌&&◌, Option, Some, None}
+use Rattle.std.specs.Prelude.{List, [], ◌∷◌, map, ◌≡◌, leb, length, get_or, drop}
 use Rattle.lists.specs.Lists.{all, is_empty, same}
 use Rattle.definitions.specs.Texts.{text}
 use Rattle.definitions.specs.Files.{Written, field, grid_in, is_board, is_config, is_piece, last_of, lines_of, parts}

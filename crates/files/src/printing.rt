@@ -55,7 +55,7 @@ pub fn put_last(out: &mut [u8], at: usize, count: u64) -> usize
     texts::put_labelled(out, at, b"packings", count)
 }
 
-// The line of a refusal.
+// The line of a refusal. (Not one function with `put_last`: each is a word and a promise of its own over `put_labelled`.)
 #[tactic(auto, unfolding(definitions::specs::Files::refused_line))]
 pub fn put_refused(out: &mut [u8], at: usize, number: u64) -> usize
     requires { at + 64 ≤ length out.old }

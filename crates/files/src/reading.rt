@@ -24,7 +24,8 @@ pub struct Asked {
 }
 
 // One record more, behind those of the pieces; past 16 it is only counted.
-// (Tried by `Pieces::put`: the test in its definition is gone then, and the proof needs a lemma on records past the 16 where now it needs none.)
+// (Tried by `Pieces::put`: its promise has no test of the count, which the definition `push_record` has, so the proof needs a lemma on records past the 16
+// where now it needs none.)
 fn push_record(pieces: &mut Pieces, piece: Record)
     requires { pieces.old.count < 16384 }
     ensures { pieces.new ≡ push_record pieces.old piece }
@@ -35,7 +36,8 @@ fn push_record(pieces: &mut Pieces, piece: Record)
     pieces.count += 1;
 }
 
-// The pieces that the lines of a text give, their cells from the start of a slice on.
+// The pieces that the lines of a text give, their cells from the start of a slice on. (The lines are walked twice, by `are_pieces` before this: the cells
+// stay as they are where one line is no piece, so all are tested before any is put.)
 fn read_pieces(text: &[u8], cells: &mut [u8]) -> FilePieces
     requires { (length text.now ≤ 16384) × (16384 ≤ length cells.old) × (all_pieces text.now ≡ true) }
     ensures { PiecesRead text.now cells.old result.pieces result.used cells.new × (result.used ≤ length text.now) }

@@ -1,4 +1,5 @@
--- Covering a column hides its live rows in ascending order; walking its ring up again shows them in the reverse order, which restores the links. Assumes nothing.
+-- Covering a column hides its live rows in ascending order; walking its ring up again shows them in the reverse order, which restores the links.
+-- Assumes nothing.
 use Prim.Native.Nat.{ℕ, zero, suc, ◌-◌, ◌≤◌, ◌<◌}
 use native.Mathlib.Omega.{arith}
 use mathlib.Core.Path.{◌≡◌, refl, sym, ap, ◌∙◌, subst}

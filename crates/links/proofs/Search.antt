@@ -1,4 +1,5 @@
--- What a search over the links may ask and gets: which rows stay possible once a row is chosen, and that walking a column's ring lists the packings row by row. Assumes nothing.
+-- What a search over the links may ask and gets: which rows stay possible once a row is chosen, and that walking a column's ring lists the packings row by
+-- row. Assumes nothing.
 use Prim.Native.Nat.{ℕ, zero, suc, ◌+◌, ◌-◌, ◌*◌, ◌≤◌, ◌<◌}
 use native.Mathlib.Omega.{arith}
 use mathlib.Core.Path.{◌≡◌, refl, sym, ap, ◌∙◌, subst, fun_ext}

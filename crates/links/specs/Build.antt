@@ -1,6 +1,7 @@
 -- Linking a matrix's nodes: the heads, each alone in its ring, then each node of a row as the last of its column.
 use Rattle.std.specs.Prelude.{ℕ, ◌≤◌, ◌<◌, ◌≡◌, List, Bool, true, false, cond, set, ltb, leb}
-use Rattle.links.specs.Links.{up, down, column_of, first_of, end_of, row_number, size_of, copies_of, at_up, at_down, at_size, Matrix, LawfulMatrix, Fields, Rings}
+use Rattle.links.specs.Links.{up, down, column_of, first_of, end_of, row_number, size_of, copies_of, at_up, at_down, at_size}
+use Rattle.links.specs.Links.{Matrix, LawfulMatrix, Fields, Rings}
 use Rattle.links.specs.Cover.{tally, inc, here, Reduced}
 use Rattle.links.specs.Search.{Shape}
 

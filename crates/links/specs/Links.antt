@@ -68,7 +68,8 @@ copies_of m x = get_or m (at_copies x) 0
 abbrev pub row_number : List ℕ → ℕ → ℕ
 row_number m x = get_or m (at_row x) 0
 
--- no neighbour and no count stands at i, so that linking, hiding and covering leave it as it is: it is another field of a node, or lies behind all nodes
+-- no neighbour and no count stands at i, so that linking, hiding and covering leave it as it is: it is another field of a node, or
+-- the list of 4,096 nodes ends before it
 pub record Still (i : ℕ) : Type 0 where
   pub up : (x : ℕ) → x < 4096 → i ≡ at_up x → ⊥
   pub down : (x : ℕ) → x < 4096 → i ≡ at_down x → ⊥

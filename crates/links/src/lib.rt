@@ -22,7 +22,7 @@ fn is_better(n: usize, least: usize) -> bool
 
 impl Links<'_> {
     // The first of the columns below `primary` with the fewest possible rows but at least one, if one has any. A chain by `filter` and `min_by_key` would
-    // read each size twice.
+    // read each size twice. (`fewest` is no part of `best`: it begins above each number of rows, so that one comparison decides, with or without a best.)
     pub fn choose_column(&self, primary: usize) -> Option<usize>
         requires { primary ≤ 4096 }
         ensures { let c = pivot (size_of self.now) primary in MatchOption result (c ≡ 4096) (λ found. (found ≡ c) × (c < primary)) }

@@ -1,5 +1,6 @@
 // The steps of dancing links, over the numbers of the nodes: lent on as `Links`, their address would be read anew at each step. A step and its undoing
 // (`unlink`, `relink`) go over the same nodes in opposite orders: no type, size or constant tells them apart, so each is a function.
+// That a node's number is below 4,096 stays a clause: it is an index of the array, and what a field holds is a plain number.
 ghost use Rattle.std.specs.Prelude.{◌≡◌, true, cond, List, ℕ, ◌+◌, ◌-◌, ◌≤◌, ◌<◌, length, get_or, set as set_at, eqb};
 ghost use Rattle.links.specs.Search.{spent, regained, Takes, Gives};
 ghost use Rattle.links.specs.Links.{at, column_of, size_of, copies_of};

@@ -88,7 +88,8 @@ impl Mask {
         128
     }
 
-    // The first cell from n on that is in the set; 128, the place behind the last cell, where none is (as `next_open`).
+    // The first cell from n on that is in the set; 128, the place behind the last cell, where none is. (No Option: a walk from cell to cell goes on while
+    // what it found is below 128, and an Option would be taken apart at each step to the same number.)
     pub fn next_cell(self, n: usize) -> usize
         ensures { FirstIn (has self) n result }
     {

@@ -58,7 +58,8 @@ unfoldable pub places_of : Record → ℕ
 places_of board = cond (sides_fit board) (volume (sides_of board)) 0
 
 -- the page call behind the answer in a place of a buffer, over the start of that buffer
-pub record PageAfter (asked : Asked) (cells : List ℕ) (size place room : ℕ) (answers work links : List ℕ) (r : Reply) (answers' work' links' : List ℕ) : Type 0 where
+pub record PageAfter (asked : Asked) (cells : List ℕ) (size place room : ℕ) (answers work links : List ℕ) (r : Reply) (answers' work' links' : List ℕ)
+    : Type 0 where
   pub page : List ℕ
   pub outcome_is : outcome_of r page work' links'
       ≡ outcome_from Behind (take size (drop (place * size) answers))

@@ -77,8 +77,8 @@ abbrev pub KeptBy : Progress → List ℕ → List ℕ → Type 0
 KeptBy Unbegun cells cells' = Unit {0}
 KeptBy (Begun p) cells cells' = cells' ≡ cells
 
--- What a step leaves: its bytes at the start of `out`, at least one, and what lay behind them; what is still to be printed; slices that serve the next step, which
--- comes nearer to the end. The first 16,384 cells are free until a text is read into them, and then stay; the answer buffer is free but for the entries
+-- What a step leaves: its bytes at the start of `out`, at least one, and what lay behind them; what is still to be printed; slices that serve the next step,
+-- which comes nearer to the end. The first 16,384 cells are free until a text is read into them, and then stay; the answer buffer is free but for the entries
 -- that stand in it (`Ready`).
 pub record Stepped (text : List ℕ) (p : Progress) (cells work links out cells' answers' work' links' out' : List ℕ) (r : Stretch) : Type 0 where
   pub some : 1 ≤ r.made

@@ -9,7 +9,7 @@ use super::trays::LentTray;
 use shape::maps::Map;
 
 // The variants of a kind, at most 24: how many they are, and their map numbers (what lies behind these says nothing). Of fixed length, with a count beside
-// it, since nothing is put on a heap.
+// it, since nothing is put on a heap. (Bytes, not `Map`s, as in `small`: the definitions and laws speak of lists of numbers.)
 #[derive(Clone, Copy)]
 pub struct Turnings {
     pub count: usize,
@@ -93,7 +93,8 @@ impl<'a> CountedTray<'a> {
         turnings[k].as_slice()
     }
 
-    // The number of the kind whose smallest turned grid a map makes of piece i; how many kinds there are where it is none of them.
+    // The number of the kind whose smallest turned grid a map makes of piece i; how many kinds there are where it is none of them. (No Option: definitions
+    // and chart number what is no kind so.)
     pub fn kind_of(&self, i: usize, m: Map) -> usize
         requires { i < self.now.tray.pieces.count }
         ensures { let c = self.now in

@@ -1,10 +1,12 @@
 // Records, their sides and their cells; and pieces, records by value.
-ghost use Rattle.std.specs.Prelude.{◌≡◌, ◌≤◌, T};
+// That sides fit and that cells lie in the bytes stay clauses: the stages find them out of plain records one after the other, and each row of the table lets
+// the next one be asked.
+ghost use Rattle.std.specs.Prelude.{◌≡◌, ◌≤◌, ◌<◌, T, get_or};
 ghost use Rattle.definitions.specs.Refusals.{sides_of, grid_of, is_side, sides_fit, cells_lie};
 ghost use Rattle.definitions.specs.Grid.{volume};
 ghost use Rattle.shape.specs.Coords.{as_sides};
 ghost use Rattle.shape.specs.CubicGrids.{grid_of as cubic};
-ghost use Rattle.placements.specs.Pieces.{empty_pieces, put_record, records_of};
+ghost use Rattle.placements.specs.Pieces.{empty_pieces, no_record, put_record, records_of};
 
 use crate::Pieces;
 use definitions::Record;
@@ -82,6 +84,14 @@ impl Pieces {
             records: [NO_RECORD; 16],
             count,
         }
+    }
+
+    // The record of piece n.
+    pub fn get(&self, n: usize) -> Record
+        requires { n < 16 }
+        ensures { result ≡ get_or self.now.records n no_record }
+    {
+        self.records[n]
     }
 
     // Another record at place i; past 16 there is no place, and they stay as they are.

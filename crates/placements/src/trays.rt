@@ -1,4 +1,5 @@
 // Trays that rows 2 to 9 of the table of refusals let pass.
+// That a piece's number is below the count stays a clause: it is an index of the tray that is asked.
 ghost use Rattle.placements.specs.Counting.{Accepted9};
 
 use super::{Pieces, records};
@@ -15,12 +16,11 @@ pub struct LentTray<'a> {
 }
 
 impl<'a> LentTray<'a> {
-    ghost use Rattle.std.specs.Prelude.{◌≡◌, ◌<◌, get_or};
+    ghost use Rattle.std.specs.Prelude.{◌≡◌, ◌<◌};
     ghost use Rattle.definitions.specs.Refusals.{sides_of};
     ghost use Rattle.definitions.specs.Scan.{axes};
     ghost use Rattle.shape.specs.Scans.{as_order};
     ghost use Rattle.shape.specs.CubicGrids.{grid_of as cubic};
-    ghost use Rattle.placements.specs.Pieces.{no_record};
     ghost use Rattle.placements.specs.Trays.{board_grid, piece_grid};
 
     // The board's grid.
@@ -37,19 +37,11 @@ impl<'a> LentTray<'a> {
         scan::plan_axis_order(records::sides_of(self.board))
     }
 
-    // The record of piece i.
-    pub fn piece(&self, i: usize) -> Record
-        requires { i < self.now.pieces.count }
-        ensures { result ≡ get_or self.now.pieces.records i no_record }
-    {
-        self.pieces.records[i]
-    }
-
     // The grid of piece i.
     pub fn piece_grid(&self, i: usize) -> CubicGrid<'a>
         requires { i < self.now.pieces.count }
         ensures { cubic result ≡ piece_grid self.now i }
     {
-        records::grid_of(self.bytes, self.piece(i))
+        records::grid_of(self.bytes, self.pieces.get(i))
     }
 }

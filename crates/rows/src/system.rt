@@ -29,7 +29,7 @@ fn list_kinds(counted: &CountedTray, kinds: &mut [Kind])
     for (k, &first) in counted.kinds().iter().enumerate() {
         let i = first as usize;
         let piece = counted.tray.piece_grid(i);
-        let m = variants::smallest_of(&piece, Map(merging::MIRROR));
+        let m = variants::smallest_of(&piece, merging::MIRROR);
         kinds[k] = Kind {
             copies: counted.copies_of(i) as u8,
             partner: counted.kind_of(i, m) as u8,
@@ -55,7 +55,7 @@ fn list_pieces(counted: &CountedTray, pieces: &mut [Owned])
     for i in 0..count_pieces(&counted.tray) {
         pieces[i] = Owned {
             kind: counted.kind_of(i, Map(counted.small[i])) as u8,
-            count: counted.tray.piece(i).count as u8,
+            count: counted.tray.pieces.get(i).count as u8,
         };
     }
 }

@@ -27,7 +27,8 @@ pub record RefusedBy (why : Refusal) (rs : List Record) (board : Record) (bytes 
   pub uncharted : charted ≡ chart
 
 -- or the row system of its tray, ready for the engines
-pub record Stands (d : Dims) (rs : List Record) (board : Record) (bytes : List ℕ) (config : Config) (links : ℕ) (work after : List ℕ) (charted : Chart) : Type 0 where
+pub record Stands (d : Dims) (rs : List Record) (board : Record) (bytes : List ℕ) (config : Config) (links : ℕ) (work after : List ℕ) (charted : Chart)
+    : Type 0 where
   pub accepted : refusal_by rs board bytes config (length work) links ≡ 0
   pub ready : Ready d after charted
   pub system : system_in d after charted ≡ system_of (tray_in rs board bytes)

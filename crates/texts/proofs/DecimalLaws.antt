@@ -1,4 +1,5 @@
--- A number's digits are those of its tenth and the last one: at most 20 for 64 bits, of which the tenth has at most 19, and at most three for a byte. Assumes nothing.
+-- A number's digits are those of its tenth and the last one: at most 20 for 64 bits, of which the tenth has at most 19, and at most three for a byte.
+-- Assumes nothing.
 use Prim.Native.Nat.{ℕ, zero, suc, ◌+◌, ◌/◌, ◌%◌, ◌^◌, ◌≤◌, ◌<◌}
 use mathlib.Core.Bool.{Bool, true, false, cond}
 use mathlib.Core.List.{List, [], ◌∷◌, ◌++◌}

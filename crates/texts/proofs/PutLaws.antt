@@ -1,12 +1,11 @@
--- A text put behind a text puts both, one byte stored puts that byte, and so does a text stored byte by byte; a line is put part by part. The buffer keeps
--- its length. Assumes nothing.
+-- A text put behind a text puts both, and one byte stored puts that byte; a line is put part by part. The buffer keeps its length. Assumes nothing.
 use Prim.Native.Nat.{ℕ, suc, ◌+◌, ◌≤◌, ◌<◌}
 use mathlib.Core.List.{List, [], ◌∷◌, ◌++◌, append_assoc}
 use mathlib.Core.Path.{◌≡◌, refl, sym, ap, ap₂, ◌∙◌, subst}
 use native.Mathlib.Numerals.{add-one}
 use native.Mathlib.Omega.{arith}
-use lib.ListN.{length, take, drop, set, get_or, length-append}
-use lib.Seq.{paste, paste-zero, paste-suc, take-paste, drop-paste, length-paste, take-length, drop-drop, set_split, append_snoc}
+use lib.ListN.{length, take, drop, set, length-append}
+use lib.Seq.{paste, take-paste, drop-paste, length-paste, take-length, drop-drop, set_split, append_snoc}
 use Rattle.texts.specs.Put.{Put}
 
 put_over : (old xs : List ℕ) (at : ℕ) → paste old at xs (length xs) ≡ take at old ++ xs ++ drop (at + length xs) old

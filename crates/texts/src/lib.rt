@@ -1,6 +1,9 @@
 // Bytes put into a buffer: numbers in decimal, words, and lines of both. Each function puts its bytes from a place on, leaves every
 // other byte as it was, and hands back the place behind them.
 //
+// The buffer and the place in it stay two: a struct of both would hold the slice lent on, and what the slice holds once it is given back is then not known
+// to the caller's proof.
+//
 // No Display and no String: what a program prints is made by proved functions on slices, and nothing is put on a heap.
 //
 // Every function here is proved, and the crate assumes nothing. Each asks that the buffer has room for the most that it can put.

@@ -1,4 +1,5 @@
--- `all_filled` meets its contract: `all` asks the grid of each record, whose sides fit and whose cells lie in the bytes. A grid has a filled cell if their count is not 0. Assumes nothing.
+-- `all_filled` meets its contract: `all` asks the grid of each record, whose sides fit and whose cells lie in the bytes. A grid has a filled cell if their
+-- count is not 0. Assumes nothing.
 use Rattle.std.proofs.Common.{◌∙◌, Bool, sym, rules, tests}
 use Rattle.std.proofs.lemmas.Iterator.{YieldsList-from_slice}
 use Rattle.std.proofs.lemmas.Iterator.Adapters.{serves_from_places}

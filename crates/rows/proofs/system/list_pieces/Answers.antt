@@ -16,6 +16,9 @@ use Rattle.rows.proofs.system.list_pieces.Goals as goal
 pub bounds-counted-i : goal.bounds-counted-i
 bounds-counted-i c = omega (arith, c.count_pieces-i-end.ensures.0, (lent-of c.args.counted.now).few)
 
+pub get-requires : goal.get-requires
+get-requires c = omega (arith, c.count_pieces-i-end.ensures.0, (lent-of c.args.counted.now).few)
+
 pub offset_bounds-pieces-i : goal.offset_bounds-pieces-i
 offset_bounds-pieces-i c = omega (arith, c.count_pieces-i-end.ensures.0, (lent-of c.args.counted.now).few)
 
@@ -39,7 +42,7 @@ overflow_cast-pieces-in-loop-i c =
     let t = d.tray in
     omega (
       arith,
-      ap (λ (r : Record). r.count) c.piece.ensures,
+      ap (λ (r : Record). r.count) c.get.ensures,
       count_fits t.pieces t.board t.bytes.now d.first d.counts.kinds t.accepted d.counted.are_kinds (kind_within d (omega arith)) c.loop-i.i
           (omega (arith, c.count_pieces-i-end.ensures.0)),
     )
@@ -52,10 +55,10 @@ loop-i-preserved c =
     let h : l.i < t.pieces.count = omega (arith, c.count_pieces-i-end.ensures.0) in
     let kind = c.kind_of.ensures ∙ ap (λ (f : Form). before (same_form f) (forms_of t.pieces t.bytes.now (take d.counts.kinds d.first)))
     (small_form t.pieces t.bytes.now d.small d.smallest l.i h) in
-    let entry : Owned = record { kind = c.kind_of.result; count = c.piece.result.count } in (
+    let entry : Owned = record { kind = c.kind_of.result; count = c.get.result.count } in (
       length-set l.pieces l.i entry ∙ l.invariant.0,
       piece_next t.pieces t.board t.bytes.now d.first d.counts.kinds t.accepted d.counted.are_kinds (kind_within d (omega arith)) l.pieces l.i entry
-          (omega (arith, (lent-of d).few)) l.invariant.1 kind (ap (λ (r : Record). r.count) c.piece.ensures),
+          (omega (arith, (lent-of d).few)) l.invariant.1 kind (ap (λ (r : Record). r.count) c.get.ensures),
     )
 
 pub returns : goal.returns
