@@ -19,10 +19,10 @@ fn put_node(links: &mut Links, x: usize, node: Node)
     requires { (x < 4096) × (node.column < 4096) × (node.first < 4096) × (node.end ≤ 4096) × (node.row < 4096) }
     ensures { Laid links.old x links.new (node ∷ []) }
 {
-    links.set(x, Field::Column, node.column);
-    links.set(x, Field::First, node.first);
-    links.set(x, Field::End, node.end);
-    links.set(x, Field::Row, node.row);
+    links::set(links, x, Field::Column, node.column);
+    links::set(links, x, Field::First, node.first);
+    links::set(links, x, Field::End, node.end);
+    links::set(links, x, Field::Row, node.row);
 }
 
 // The heads of n columns.
@@ -104,7 +104,7 @@ fn put_copies(system: &RowSystem, links: &mut Links)
         } else {
             system.chart.copies_of(j - d.size)
         };
-        links.set(j, Field::Copies, copies);
+        links::set(links, j, Field::Copies, copies);
     }
 }
 
@@ -134,5 +134,5 @@ pub fn build_links(system: &RowSystem, links: &mut Links)
     put_heads(links, columns);
     put_copies(system, links);
     let nodes = put_rows(system, links);
-    links.link_all(system.d.size, columns, nodes);
+    links::link_all(links, system.d.size, columns, nodes);
 }

@@ -12,23 +12,7 @@ use super::{building, search};
 use kept::emission::Emission;
 use kept::path::Path;
 use kept::wanted::Wanted;
-use links::Links;
 use rows::row_system::RowSystem;
-
-// The answers of the list below, over numbers that are all free for the links.
-fn list_over(wanted: &Wanted, numbers: &mut [u16], answers: &mut [u8], e: Emission) -> Emission
-    requires links { (32768 ≤ length numbers.old) × (length (link_nodes (seen wanted.now.system)) ≤ 4096) }
-    requires room { let w = wanted.now in w.capacity * (2 * w.system.d.places) ≤ length answers.old }
-    ensures { let w = wanted.now in
-        let old = emitted_of e w.last.now answers.old in
-        emitted_of result w.last.now answers.new ≡ emits w.capacity (knuth_answers (seen w.system) (identified w)) old }
-{
-    let mut links = Links::new(numbers);
-    building::build_links(&wanted.system, &mut links);
-    let mut path = Path::new();
-    let size = wanted.system.d.size;
-    search::choose(wanted, &mut links, size, &mut path, answers, e)
-}
 
 // The answers of KnuthAlgorithm's list, one after the other, until the page is full and a further one is known. The links are built first, and stand in
 // their slice afterwards as they were built: their 32,768 numbers are free.
@@ -49,6 +33,8 @@ pub fn list(
     ensures behind { drop 32768 links.new ≡ drop 32768 links.old }
 {
     let wanted = Wanted::new(system, turned, mirrored, capacity, last);
-    let numbers = &mut links[..32768];
-    list_over(&wanted, numbers, answers, e)
+    let links = links::first_links(links);
+    building::build_links(system, links);
+    let mut path = Path::new();
+    search::choose(&wanted, links, system.d.size, &mut path, answers, e)
 }

@@ -47,13 +47,13 @@ pub fn choose(
     if left == 0 {
         return emission::emit_kept(wanted, path.rows(), answers, e);
     }
-    if links.open_columns(wanted.system.d.size) < left {
+    if links::open_columns(links, wanted.system.d.size) < left {
         return e;
     }
-    let Some(cell) = links.choose_column(wanted.system.d.size) else {
+    let Some(cell) = links::choose_column(links, wanted.system.d.size) else {
         return e;
     };
-    let k = links.below(cell);
+    let k = links::below(links, cell);
     let at = Column { cell, left };
     try_rows(wanted, links, at, k, path, answers, e)
 }
@@ -85,21 +85,21 @@ fn try_rows(
     if k == at.cell {
         return e;
     }
-    let r = links.row_of(k);
+    let r = links::row_of(links, k);
     if !wanted.system.leads(wanted.shown_while(&e), r) {
-        let passed = links.below(k);
+        let passed = links::below(links, k);
         return try_rows(wanted, links, at, passed, path, answers, e);
     }
-    let cells = links.row_cells(k);
+    let cells = links::row_cells(links, k);
     path.push(r);
-    let a = links.select_row(k);
+    let a = links::select_row(links, k);
     let left = at.left - cells;
     let s = choose(wanted, links, left, path, answers, e);
-    links.unselect_row(k, a);
+    links::unselect_row(links, k, a);
     path.pop();
     if s.further {
         return s;
     }
-    let next = links.below(k);
+    let next = links::below(links, k);
     try_rows(wanted, links, at, next, path, answers, s)
 }

@@ -1,11 +1,8 @@
-// The nodes of the links, by their numbers, in a slice that is lent: eight numbers to a node. The slice is the caller's, and its first 32,768 numbers serve
-// as an array; they are plain numbers, so a node names others by their numbers; nothing here follows them.
-ghost use Rattle.std.specs.Prelude.{◌≡◌, ℕ, List, ◌≤◌, ◌<◌, length, get_or, set, take};
+// The nodes of the links, by their numbers: eight numbers to a node. They stand in the first 32,768 numbers of a slice that the caller lends; a node names
+// another by its number.
+ghost use Rattle.std.specs.Prelude.{◌≡◌, ◌≤◌, ◌<◌, ◌++◌, length, get_or, set as set_at, take, drop};
+ghost use Rattle.std.specs.Borrow.{Lends, sem, u16 as word, Array};
 ghost use Rattle.links.specs.Links.{at};
-
-use super::steps;
-use super::steps::Numbers;
-use std::marker::Model;
 
 // What a node's eight numbers are, in the order in which they stand.
 #[derive(Clone, Copy)]
@@ -28,47 +25,36 @@ pub enum Field {
     Row,
 }
 
-// What contracts see of it is the list of its numbers.
-#[derive(Drop)]
-pub struct Links<'a> {
-    pub(super) numbers: &'a mut Numbers,
+// The numbers of all nodes, eight to a node. A struct that borrows them, with a model, was tried: when it goes, its lender's last value is not known.
+pub type Links = [u16; 32768];
+
+// The links in the first numbers of a slice, as they stand there. When the loan ends, the slice holds what was last written to them, then what lay behind.
+pub fn first_links(numbers: &mut [u16]) -> &mut Links
+    requires { 32768 ≤ length numbers.old }
+    ensures* writes_back { sem 𝓛 (Lends (Array word 0) (Array word 0) numbers.entry result (λ links. links ++ drop 32768 numbers.old)) }
+    ensures value { result.now ≡ take 32768 numbers.old }
+{
+    let Some(links) = numbers.first_chunk_mut() else {
+        unreachable!()
+    };
+    links
 }
 
-impl<'a> Model for Links<'a> {
-    ghost Value = { List ℕ };
-
-    ghost view = { λ l. l.numbers.now };
+// Field f of node x.
+#[inline(always)]
+pub fn get(links: &Links, x: usize, f: Field) -> usize
+    requires { x < 4096 }
+    ensures value { result ≡ get_or links.now (at f x) 0 }
+    ensures small { result < 65536 }
+{
+    links[8 * x + f as usize] as usize
 }
 
-impl<'a> Links<'a> {
-    // The links in the first numbers of a slice, as they stand there.
-    pub fn new(numbers: &'a mut [u16]) -> Links<'a>
-        requires { 32768 ≤ length numbers.old }
-        ensures { result ≡ take 32768 numbers.entry.now }
-    {
-        let Some(numbers) = numbers.first_chunk_mut() else {
-            unreachable!()
-        };
-        Links { numbers }
-    }
-
-    // Field f of node x.
-    #[inline(always)]
-    pub fn get(&self, x: usize, f: Field) -> usize
-        requires { x < 4096 }
-        ensures value { result ≡ get_or self.now (at f x) 0 }
-        ensures small { result < 65536 }
-    {
-        steps::get(self.numbers, x, f)
-    }
-
-    // Writes n into field f of node x.
-    #[inline(always)]
-    pub fn set(&mut self, x: usize, f: Field, n: usize)
-        requires { (x < 4096) × (n < 65536) }
-        ensures value { self.new ≡ set self.old (at f x) n }
-        ensures room { 32768 ≤ length self.old }
-    {
-        steps::set(self.numbers, x, f, n);
-    }
+// Writes n into field f of node x.
+#[inline(always)]
+pub fn set(links: &mut Links, x: usize, f: Field, n: usize)
+    requires { (x < 4096) × (n < 65536) }
+    ensures { links.new ≡ set_at links.old (at f x) n }
+{
+    links[8 * x + f as usize] = n as u16;
 }

@@ -16,4 +16,4 @@ returns c =
     let r = c.put_rows-nodes in
     let all = c.link_all in
     begun a.system.now.d a.system.now.work.now a.system.now.chart.now (stands a.system.now) c.requires a.links.now c.put_heads.new.links c.put_copies.new.links r.new.links
-    c.put_heads.ensures c.put_copies.ensures r.ensures.1 r.result r.ensures.0 all.new.self all.ensures.linked
+    c.put_heads.ensures c.put_copies.ensures r.ensures.1 r.result r.ensures.0 all.new.links all.ensures.linked

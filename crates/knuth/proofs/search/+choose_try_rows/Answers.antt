@@ -158,7 +158,7 @@ try_rows-choose-s-requires t c =
           q.1,
         ),
         row_choosable y.d y.work.now y.chart.now (stands y).lawful q.0 p kc size.result size.ensures row.result row.ensures path.new.self path.ensures
-            sel.new.self sel.ensures.done,
+            sel.new.links sel.ensures.done,
       ),
     )
 
@@ -167,7 +167,7 @@ try_rows-unselect_row-requires t c =
     let p = c.requires.tryable in
     let size = c.row_cells-cells in
     let sel = c.select_row-a in
-    try_selected p.seek p.stand c.if-k-at.false size.result size.ensures sel.new.self sel.ensures.done sel.result sel.ensures.first
+    try_selected p.seek p.stand c.if-k-at.false size.result size.ensures sel.new.links sel.ensures.done sel.result sel.ensures.first
     c.choose-s.new.links c.choose-s.ensures.same.0
 
 pub try_rows-returns-then-s : goal.try_rows-returns-then-s
@@ -185,12 +185,12 @@ try_rows-returns-then-s t c =
     let old = emitted_of a.e a.wanted.now.last.now a.answers.now in
     let new = emitted_of s.result a.wanted.now.last.now s.new.answers in record {
       same = (
-        try_back p.seek p.stand kc size.result size.ensures sel.new.self sel.ensures.done sel.result sel.ensures.first
-            s.new.links s.ensures.same.0 c.unselect_row.new.self c.unselect_row.ensures,
+        try_back p.seek p.stand kc size.result size.ensures sel.new.links sel.ensures.done sel.result sel.ensures.first
+            s.new.links s.ensures.same.0 c.unselect_row.new.links c.unselect_row.ensures,
         c.pop.ensures a.path.now row.result (s.ensures.same.1 ∙ path.ensures),
       );
       found = λ w uncovered copies g sk st e h. found_stop y.d y.work.now y.chart.now (stands y).lawful q.0 p kc
-          size.result size.ensures row.result row.ensures path.new.self path.ensures sel.new.self sel.ensures.done
+          size.result size.ensures row.result row.ensures path.new.self path.ensures sel.new.links sel.ensures.done
           (identified a.wanted.now) a.wanted.now.capacity sk st e old new s.ensures.found g h c.if-s.true;
     }
 
@@ -207,8 +207,8 @@ try_rows-try_rows-requires-2 t c =
     let size = c.row_cells-cells in
     let sel = c.select_row-a in
     let s = c.choose-s in
-    let links = c.unselect_row.new.self in
-    let back = try_back p.seek p.stand kc size.result size.ensures sel.new.self sel.ensures.done sel.result sel.ensures.first
+    let links = c.unselect_row.new.links in
+    let back = try_back p.seek p.stand kc size.result size.ensures sel.new.links sel.ensures.done sel.result sel.ensures.first
     s.new.links s.ensures.same.0 links c.unselect_row.ensures in
     let path = c.pop.ensures a.path.now c.row_of-r.result (s.ensures.same.1 ∙ c.push.ensures) in
     let next = c.below-next in (
@@ -230,8 +230,8 @@ try_rows-returns t c =
     let row = c.row_of-r in
     let sel = c.select_row-a in
     let s = c.choose-s in
-    let links = c.unselect_row.new.self in
-    let back = try_back p.seek p.stand kc size.result size.ensures sel.new.self sel.ensures.done sel.result sel.ensures.first
+    let links = c.unselect_row.new.links in
+    let back = try_back p.seek p.stand kc size.result size.ensures sel.new.links sel.ensures.done sel.result sel.ensures.first
     s.new.links s.ensures.same.0 links c.unselect_row.ensures in
     let path = c.pop.ensures a.path.now row.result (s.ensures.same.1 ∙ c.push.ensures) in
     let next = c.below-next in
@@ -241,7 +241,7 @@ try_rows-returns t c =
     let end = emitted_of rest.result a.wanted.now.last.now rest.new.answers in record {
       same = (rest.ensures.same.0 ∙ back, rest.ensures.same.1 ∙ path);
       found = λ w uncovered copies g sk st e h. found_on y.d y.work.now y.chart.now (stands y).lawful q.0 p kc
-          size.result size.ensures row.result row.ensures c.push.new.self c.push.ensures sel.new.self sel.ensures.done
+          size.result size.ensures row.result row.ensures c.push.new.self c.push.ensures sel.new.links sel.ensures.done
           (identified a.wanted.now) a.wanted.now.capacity sk st e old new s.ensures.found g h
           links back next.result next.ensures c.pop.new.self path end rest.ensures.found;
     }

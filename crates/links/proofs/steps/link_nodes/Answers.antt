@@ -26,4 +26,4 @@ loop-x-preserved c =
     )
 
 pub returns-clause-linked : goal.returns-clause-linked
-returns-clause-linked c = λ t law q e g. subst (λ (n : ℕ). Partial t n c.loop-x.numbers) (omega arith) (c.loop-x.invariant.1 t law q e g)
+returns-clause-linked c = λ t law q e g. subst (λ (n : ℕ). Partial t n c.loop-x.links) (omega arith) (c.loop-x.invariant.1 t law q e g)

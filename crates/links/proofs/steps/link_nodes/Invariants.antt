@@ -7,5 +7,5 @@ use Rattle.links.proofs.steps.link_nodes.Given as goal
 
 abbrev pub invariant-loop-x : goal.invariant-loop-x
 invariant-loop-x l = (l.x ≤ l.nodes)
-    × ((t : Matrix) → LawfulMatrix t → Partial t l.cols l.initial.numbers → l.cols ≡ t.cols → l.nodes ≡ t.nodes → Partial t l.x l.numbers)
-    × ((k : ℕ) → Still k → get_or l.numbers k 0 ≡ get_or l.initial.numbers k 0)
+    × ((t : Matrix) → LawfulMatrix t → Partial t l.cols l.initial.links → l.cols ≡ t.cols → l.nodes ≡ t.nodes → Partial t l.x l.links)
+    × ((k : ℕ) → Still k → get_or l.links k 0 ≡ get_or l.initial.links k 0)

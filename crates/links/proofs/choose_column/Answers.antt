@@ -4,8 +4,8 @@ use mathlib.Core.Path.{refl, sym, ◌∙◌}
 use Rattle.links.specs.Links.{size_of}
 use Rattle.links.specs.Search.{least, pivot}
 use Rattle.links.proofs.Pivot.{pivot_taken, pivot_left, still_found}
-use Rattle.links.proofs.nodes.Links.choose_column.Goals as goal
-use Rattle.links.proofs.nodes.Links.choose_column.Goals.{else-is_better, then-is_better}
+use Rattle.links.proofs.choose_column.Goals as goal
+use Rattle.links.proofs.choose_column.Goals.{else-is_better, then-is_better}
 
 pub loop-i-init : goal.loop-i-init
 unfolding least pivot
@@ -13,7 +13,7 @@ loop-i-init c = (refl, refl)
 
 pub loop-i-preserved : goal.loop-i-preserved
 loop-i-preserved c =
-    let sizes = size_of c.args.self.now in
+    let sizes = size_of c.args.links.now in
     let n = c.get-n.ensures.value in
     let l = c.loop-i in
     elim c.if-is_better.branch [
