@@ -29,11 +29,11 @@ const NAMES: [&str; 19] = [
 
 // What `pack` prints for a file; one that cannot be opened counts as one whose first read fails.
 fn list(rt: &HostRuntime, room: &mut Room, name: &str) {
-    let read = match fs::open(rt, name) {
+    match fs::open(rt, name) {
         Ok(mut file) => room.read(&mut file),
-        Err(_) => Room::TEXT,
-    };
-    let _ = room.print(read, &mut rt.stdout());
+        Err(_) => room.mark_unreadable(),
+    }
+    let _ = room.print(&mut rt.stdout());
 }
 
 fn main(rt: HostRuntime) {
