@@ -14,14 +14,15 @@ const WORD_STAIN: u64 = 12297829382473034410;
 
 const LINK_STAIN: u16 = 43690;
 
-// Whether all from number n on are as they were.
-fn is_kept<T: Copy + PartialEq>(slice: &[T], n: usize, stain: T) -> bool {
-    slice.iter().skip(n).all(|&x| x == stain)
+// Whether all of a slice are one value.
+fn is_all<T: Copy + PartialEq>(slice: &[T], value: T) -> bool {
+    slice.iter().all(|&x| x == value)
 }
 
-// Whether the first n are 0.
-fn is_cleared<T: Copy + PartialEq>(slice: &[T], n: usize, zero: T) -> bool {
-    slice.iter().take(n).all(|&x| x == zero)
+// Whether the first n of a slice, or all where it is shorter, are 0, and those behind them as they were.
+fn is_cleared<T: Copy + PartialEq>(slice: &[T], n: usize, zero: T, stain: T) -> bool {
+    let (first, rest) = slice.split_at(n.min(slice.len()));
+    is_all(first, zero) && is_all(rest, stain)
 }
 
 // A sum over bytes, in their order, behind another sum.
@@ -66,9 +67,9 @@ impl<'a> Asked<'a> {
     // A refused call changes nothing.
     fn see_refused(&mut self, answers: &[u8], work: &[u64], links: &[u16]) {
         self.kept = self.kept
-            && is_kept(answers, 0, STAIN)
-            && is_kept(work, 0, WORD_STAIN)
-            && is_kept(links, 0, LINK_STAIN);
+            && is_all(answers, STAIN)
+            && is_all(work, WORD_STAIN)
+            && is_all(links, LINK_STAIN);
     }
 
     // An accepted call that wrote so many bytes clears the first words and links; Fast leaves the links.
@@ -78,13 +79,12 @@ impl<'a> Asked<'a> {
         } else {
             0
         };
+        let (entries, rest) = answers.split_at(written.min(answers.len()));
         self.kept = self.kept
-            && is_kept(answers, written, STAIN)
-            && is_cleared(work, 8192, 0)
-            && is_kept(work, 8192, WORD_STAIN)
-            && is_cleared(links, cleared, 0)
-            && is_kept(links, cleared, LINK_STAIN);
-        self.sum = sum_bytes(&answers[..written.min(answers.len())], self.sum);
+            && is_all(rest, STAIN)
+            && is_cleared(work, 8192, 0, WORD_STAIN)
+            && is_cleared(links, cleared, 0, LINK_STAIN);
+        self.sum = sum_bytes(entries, self.sum);
     }
 
     // A page with room for so many bytes, at most 4,096, in slices of at most 8,200 words and 32,776 links.

@@ -11,7 +11,7 @@ use std::io::{Read, Write};
 // links of the search, and bytes to be written.
 #[derive(Drop)]
 pub struct Room {
-    text: [u8; 16385],
+    text: [u8; Room::TEXT],
     read: usize,
     cells: [u8; 16384],
     answers: [u8; 262144],
