@@ -62,6 +62,7 @@ fn engine_of(engine: u8) -> SolverKind
     }
 }
 
+// A configuration. (A number and two flags, as C hands them over.)
 fn config_of(engine: u8, turned: bool, mirrored: bool) -> Config
     ensures { result ≡ config_of engine turned mirrored }
 {

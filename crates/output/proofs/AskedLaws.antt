@@ -1,5 +1,6 @@
--- What is asked of the solver is what the text says: with what `read_file` ensures of its result and of the cells that it writes, the solver's calls have the outcome of
--- document 01's call for the text, and its refusal is the one by which `packed` says what is printed. Assumes nothing.
+-- What is asked of the solver is what the text says: with what `read_file` ensures of its result and of the cells that it writes, the
+-- solver's calls have the outcome of document 01's call for the text, and its refusal is the one by which `packed` says what is printed.
+-- Assumes nothing.
 use Prim.Native.Nat.{ℕ}
 use mathlib.Core.List.{List, ◌++◌}
 use mathlib.Core.Path.{◌≡◌, sym, ap, ap₂, ◌∙◌}

@@ -6,7 +6,7 @@ use mathlib.Core.Path.{◌≡◌, refl, sym, ap, ap₂, ◌∙◌}
 use native.Mathlib.Omega.{arith}
 use lib.Dec.{ltb, lt→ltb, ltb→lt}
 use lib.ListN.{length, take, drop, get_or, length-take, length-append, length-drop}
-use lib.Seq.{paste, take-paste, drop-paste, take-length, take_all, drop-length, drop-cons, drop-drop, get_or-take, length-take-le}
+use lib.Seq.{take-paste, drop-paste, take-length, take_all, drop-length, drop-cons, drop-drop, get_or-take, length-take-le}
 use Rattle.lists.specs.Lists.{joined, numbered, numbered_from}
 use Rattle.lists.proofs.TestLaws.{is_true, is_false}
 use Rattle.definitions.specs.Texts.{text}

@@ -18,7 +18,7 @@ use Rattle.definitions.specs.Refusals.{refusal}
 use Rattle.files.specs.Reading.{Asks}
 use Rattle.files.specs.declared.reading.Asked.{Asked}
 use Rattle.output.specs.Rest.{rest_from}
-use Rattle.output.specs.Standing.{IsRead, Scratch, Standing, list_in}
+use Rattle.output.specs.Standing.{IsRead, Scratch, list_in}
 use Rattle.output.specs.Stretches.{Made, Onward, Ready, RefusedMade, Stepped, left, rest_after, rest_at}
 use Rattle.output.specs.declared.Held.{Held}
 use Rattle.output.specs.declared.Progress.{Progress}

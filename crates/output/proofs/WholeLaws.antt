@@ -1,7 +1,7 @@
 -- All steps together print what `pack` is to print: for an accepted file demand 3's list. Assumes nothing.
 use Prim.Native.Nat.{ℕ}
 use Rattle.std.specs.Prelude.{Option, Some, None}
-use mathlib.Core.List.{List, [], ◌++◌, append-nil}
+use mathlib.Core.List.{List, ◌++◌, append-nil}
 use mathlib.Core.Path.{◌≡◌, ap, ◌∙◌, subst}
 use lib.Dec.{T}
 use lib.ListN.{take}

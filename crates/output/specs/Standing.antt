@@ -15,6 +15,7 @@ use Rattle.output.specs.Rest.{Stands}
 use Rattle.output.specs.declared.Held.{Held}
 
 -- what a text asks for was read of it, its cells stand at the start of a slice, and the work words and links are as many as document 01 has them
+-- (a clause and no type's fact, as `Standing` is: each ties a text, what was read of it, and slices of other owners)
 pub record IsRead (text : List ℕ) (asked : Asked) (cells work links : List ℕ) : Type 0 where
   pub pieces_are : asked.pieces ≡ pieces_of (call_in text 0 0).pieces
   pub board_is : asked.board ≡ (call_in text 0 0).board

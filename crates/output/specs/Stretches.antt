@@ -30,7 +30,7 @@ left Unbegun = 18446744073709551617
 left (Begun p) = 18446744073709551616 - (p.base + p.from)
 
 -- ---- the lent slices
--- room
+-- each is long enough for any text, and the work words and links are as many as document 01 has them
 pub record Room (cells answers work links : List ℕ) : Type 0 where
   pub long_cells : 16384 ≤ length cells
   pub long_answers : 1024 ≤ length answers

@@ -44,7 +44,8 @@ pub struct Stretch {
 
 // The next stretch of what is printed for a text, at the start of `out`: a refusal, alone; the lines of entries, as many as stand ready
 // and fit; or the last line. The other slices keep what the next step needs: the text's cells, the answers of a page, and the work
-// words and links of the search. (No struct of slices: some are only read further down, and it would be taken apart at each call.)
+// words and links of the search. (No struct of slices: some are only read further down, and it would be taken apart at each call.
+// 4160 bytes hold the longest line, 8 for each of 512 places and 64 more: a clause, since fixed memory of any such length is lent.)
 pub fn step(
     text: &[u8],
     progress: &Progress,

@@ -12,7 +12,7 @@ pub struct Lines {
 }
 
 // The lines of a page's entries from one on, as many as fit and at least one, at the start of a buffer. The page begins with entry
-// `base` of its list.
+// `base` of its list. (The whole page and no subslice by chunks: entries' numbers, and where the lines stop, are counted from its start.)
 pub fn put_lines(
     out: &mut [u8],
     base: u64,

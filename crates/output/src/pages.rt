@@ -82,7 +82,8 @@ pub fn turn_page(
     }
 }
 
-// The places of a board's box; 0 where a side is out of range. (No Option: room for none is what the call is then lent.)
+// The places of a board's box; 0 where a side is out of range. (No Option: room for none is what the call is then lent. `size_of` of
+// replay, which does not stand on this crate, has room there.)
 #[tactic(auto, unfolding(crate::specs::Standing::places_of))]
 fn places_of(board: Record) -> usize
     ensures { (result ≡ places_of board) × (result ≤ 512) }

@@ -16,7 +16,7 @@ pub struct Call<'a> {
     pub links: usize,
 }
 
-// What is shown of a call: its row system, pages, or both.
+// What is shown of a call: its row system, pages, or both. (Two flags: each part asks for its own, and an enum of three would be taken apart into them.)
 #[derive(Clone, Copy)]
 pub struct Shown {
     pub system: bool,
@@ -48,6 +48,7 @@ fn read_pieces(reader: &mut Reader, n: usize) -> Pieces
     pieces
 }
 
+// A configuration. (The solver's number by hand: in a text any above 3 counts as 3, unlike one that C hands over.)
 fn read_config(reader: &mut Reader) -> Config
     ensures { length reader.new.text.now ≤ length reader.old.text.now }
 {

@@ -34,7 +34,8 @@ fn sum_bytes(bytes: &[u8], before: u64) -> u64 {
     sum
 }
 
-// An answer's bytes; 2 where a side is out of range. (No Option: such a call is refused whatever room it has, and 2 makes room as any other size.)
+// An answer's bytes; 2 where a side is out of range. (No Option: such a call is refused whatever room it has, and 2 makes room as any other size.
+// Not by `places_of` of output, which is private to it and says 0 there.)
 fn size_of(board: Record) -> usize
     ensures { result ≤ 1024 }
 {

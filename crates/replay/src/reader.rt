@@ -1,7 +1,7 @@
 // Numbers and digits, read from the front of a text.
 ghost use Rattle.std.specs.Prelude.{◌≡◌, ◌<◌, ◌≤◌, MatchOption, length};
 
-// What is left of a text.
+// What is left of a text. (Each function that reads says that the text does not grow: by it `show_calls` ends.)
 #[derive(Drop)]
 pub struct Reader<'a> {
     pub text: &'a [u8],

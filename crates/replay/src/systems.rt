@@ -8,7 +8,7 @@ use rows::row_system::RowSystem;
 use solver::prepare;
 use std::io;
 
-// The first n pairs of a slice, in a line of that name.
+// The first n pairs of a slice, in a line of that name. (Beside `show_numbers`: for one function the pairs would first be laid out flat.)
 fn show_pairs(rt: &impl Print, name: &str, pairs: &[(u8, u8)], n: usize) -> io::Result<()> {
     print!(rt; "{name}")?;
     for (first, second) in pairs.iter().take(n) {
@@ -17,7 +17,8 @@ fn show_pairs(rt: &impl Print, name: &str, pairs: &[(u8, u8)], n: usize) -> io::
     println!(rt)
 }
 
-// The first n numbers of a slice, in a line of that name.
+// The first n numbers of a slice, in a line of that name. (A number and no subslice, here and above: what is shown stops at the slice's end by itself,
+// and no size has to be within it.)
 fn show_numbers(rt: &impl Print, name: &str, numbers: &[u8], n: usize) -> io::Result<()> {
     print!(rt; "{name}")?;
     for number in numbers.iter().take(n) {

@@ -7,6 +7,7 @@ use shape::{AxisOrder, Coord, CubicGrid, grids, scan, variants};
 use std::cmp::Ordering;
 use std::io;
 
+// Three numbers, each behind a blank. (No Display of Coord: the text is this program's alone.)
 fn show_coord(rt: &impl Print, s: Coord) -> io::Result<()> {
     print!(rt; " {} {} {}", s.0, s.1, s.2)
 }
@@ -75,6 +76,7 @@ fn show(rt: &impl Print, cells: &[u8], sides: Coord) -> io::Result<()> {
     show_scan(rt, &grid, order)
 }
 
+// An order in a word. (By hand: std's Ordering takes no Display of ours.)
 fn name_of(order: Ordering) -> &'static str {
     match order {
         Ordering::Less => "less",

@@ -1,19 +1,19 @@
 -- A call as the solver answers it: the first row of the table that applies is its refusal; where none does, an engine's answers over the tray's row system are
 -- the list of document 01, so that what is emitted is the call's page. Assumes nothing.
 use Prim.Native.Nat.{ℕ, ◌*◌, ◌/◌, ◌≤◌, ◌<◌}
-use mathlib.Core.Bool.{Bool, true, false, cond}
+use mathlib.Core.Bool.{true, false, cond}
 use mathlib.Core.List.{List}
-use mathlib.Core.Path.{◌≡◌, refl, sym, ap, ap₂, ◌∙◌, subst}
+use mathlib.Core.Path.{◌≡◌, refl, sym, ap, ◌∙◌, subst}
 use mathlib.Core.Logic.{◌⊎◌, inl, inr}
 use native.Mathlib.Omega.{arith}
 use lib.ListN.{length}
 use Rattle.std.specs.Prelude.{Err}
 use Rattle.placements.proofs.RefusalLaws.{sides_some}
 use Rattle.definitions.specs.Kept.{Identify}
-use Rattle.definitions.specs.Emission.{Emitted, Listed, answers_in, begin, emits}
+use Rattle.definitions.specs.Emission.{Emitted, answers_in, emits}
 use Rattle.definitions.specs.Orders.{packings, listed}
 use Rattle.definitions.specs.Outcomes.{answers_of, cleared, number_of, outcome_of, refused}
-use Rattle.definitions.specs.Refusals.{Call, identifies, identify_of, is_knuth, lent_of, refusal, tray_of}
+use Rattle.definitions.specs.Refusals.{Call, identify_of, is_knuth, lent_of, refusal, tray_of}
 use Rattle.definitions.specs.Starts.{PageIs, list_of, outcome_from, reply_of, skip_at, skipping, waits_at}
 use Rattle.definitions.specs.declared.Config.{Config}
 use Rattle.definitions.specs.declared.Record.{Record}
@@ -31,9 +31,7 @@ use Rattle.rows.specs.declared.Dims.{Dims}
 use Rattle.rows.specs.declared.chart.Chart.{Chart}
 use Rattle.rows.specs.Systems.{System, system_in, system_of}
 use Rattle.kept.specs.Emission.{emitted_of}
-use Rattle.kept.specs.Wanted.{identified}
 use Rattle.kept.specs.declared.emission.Emission.{Emission}
-use Rattle.kept.specs.declared.wanted.Wanted.{Wanted}
 use Rattle.fast.proofs.FastListLaws.{fast-answers}
 use Rattle.knuth.specs.Matrix.{link_nodes}
 use Rattle.knuth.proofs.KnuthPageLaws.{knuth-answers, links_many}

@@ -8,8 +8,8 @@ use placements::{Pieces, counting, records, refusals, stripping};
 use rows::chart::Chart;
 use rows::{Dims, system};
 
-// The first refusal that applies, with nothing written; or how large the row system is, which then stands in work slice and chart. Links of so many numbers are
-// lent to the call. (No struct of what is lent: the C call lends it one by one, and it would be taken apart at each call.)
+// The first refusal that applies, with nothing written; or how large the row system is, which then stands in work slice and chart. Links of
+// so many numbers are lent to the call. (No struct of what is lent: the C call lends it one by one, and it would be taken apart at each call.)
 pub fn prepare(
     pieces: &Pieces,
     board: Record,

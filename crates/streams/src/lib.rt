@@ -57,7 +57,8 @@ pub fn read_text<R: Read>(input: &mut R, text: &mut [u8]) -> usize
 }
 
 // Writes what `pack` prints for a text, stretch by stretch. A write that fails ends it; after `Ok` all of it was taken.
-// (The slices stand one by one, as `step` takes them; `Room` holds them together.)
+// (The slices stand one by one, as `step` takes them: some are only read further down, and a struct of them would be taken apart at
+// each step. `Room` holds them together.)
 pub fn print<W: Write>(
     writer: &mut W,
     text: &[u8],

@@ -1,8 +1,7 @@
 -- The first stretch is a refusal's line, or the first lines of the listing. Assumes nothing.
-use Rattle.std.proofs.Common.{◌≡◌, ◌<◌, ◌≤◌, false, true, length, drop, sym, ap, ◌∙◌, arith}
+use Rattle.std.proofs.Common.{◌<◌, false, true, drop, sym, ap, ◌∙◌, arith}
 use native.Mathlib.Nat.{le_trans, le_of_eq}
 use Rattle.placements.proofs.CountingLaws.{refused_some}
-use Rattle.definitions.specs.Files.{is_file}
 use Rattle.output.proofs.StretchLaws.{scratch_same}
 use Rattle.output.proofs.StepLaws.{packed_malformed, packed_refused, packed_listed, scratch_then, refused_step, is-file, read_is, cells-behind, still_read, first_step}
 use Rattle.output.proofs.stretches.first_lines.Goals as goal

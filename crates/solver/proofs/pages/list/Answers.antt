@@ -1,8 +1,6 @@
 -- `list` meets its contract: the engine that the configuration names lists, and one that is not ported lists nothing. Assumes nothing.
 use mathlib.Core.Path.{refl, ap}
 use Rattle.definitions.specs.Refusals.{identify_of, is_knuth}
-use Rattle.definitions.specs.declared.SolverKind.TheVariants.{Fast, KnuthAlgorithm}
-use Rattle.rows.specs.RowSystems.{seen}
 use Rattle.solver.specs.Lent.{LinksAfter, answers_by}
 use Rattle.solver.proofs.CallLaws.{by_engine, unported}
 use Rattle.solver.proofs.pages.list.Goals as goal

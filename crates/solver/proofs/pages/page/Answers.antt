@@ -1,6 +1,6 @@
--- `page` meets its contract: refused, it leaves what it was lent; else the engine's answers over the row system are the call's list, so what is left is the outcome.
--- The user's sentences follow from the outcome. Assumes nothing.
-use Rattle.std.proofs.Common.{◌≡◌, ◌≤◌, ℕ, List, length, sym, ap, ◌∙◌, subst}
+-- `page` meets its contract: refused, it leaves what it was lent; else the engine's answers over the row system are the call's list, so
+-- what is left is the outcome. The user's sentences follow from the outcome. Assumes nothing.
+use Rattle.std.proofs.Common.{◌≤◌, ℕ, List, length, sym, ap, ◌∙◌, subst}
 use Rattle.std.proofs.lemmas.Result.{err_from_is_err_and}
 use Rattle.std.specs.Prelude.{Err}
 use Rattle.definitions.specs.Outcomes.{Reply, outcome_of}

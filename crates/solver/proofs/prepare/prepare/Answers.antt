@@ -1,10 +1,11 @@
--- `prepare` meets its contract: the first part of the table that refuses decides, and nothing is written then; else what was counted is built. Assumes nothing.
-use Rattle.std.proofs.Common.{◌≡◌, ◌≤◌, ℕ, length, sym, subst, arith}
+-- `prepare` meets its contract: the first part of the table that refuses decides, and nothing is written then; else what was counted is
+-- built. Assumes nothing.
+use Rattle.std.proofs.Common.{◌≡◌, ◌≤◌, length, sym, subst, arith}
 use Rattle.std.proofs.lemmas.Result.{err_from_is_err_and}
 use Rattle.definitions.specs.Placements.{compile}
 use Rattle.definitions.specs.Refusals.{placement_count, sides_of}
 use Rattle.definitions.specs.Stripping.{FitsIn}
-use Rattle.shape.specs.Coords.{as_sides, Fit}
+use Rattle.shape.specs.Coords.{Fit}
 use Rattle.placements.specs.Counting.{Counted}
 use Rattle.placements.specs.Pieces.{framed_in, records_of, tray_in}
 use Rattle.placements.specs.Trays.{lent_tray}

@@ -1,5 +1,5 @@
--- `page` meets its contract: the pieces taken of the slice go to the page call over pieces, whose outcome is that of the slice; the user's sentences follow from
--- the outcome. Assumes nothing.
+-- `page` meets its contract: the pieces taken of the slice go to the page call over pieces, whose outcome is that of the slice; the user's
+-- sentences follow from the outcome. Assumes nothing.
 use mathlib.Core.Path.{◌∙◌, ap}
 use mathlib.Core.List.{List}
 use Rattle.definitions.specs.Starts.{outcome_from}
