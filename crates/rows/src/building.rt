@@ -149,8 +149,8 @@ fn start_from(work: &[u64], rows: usize, r: usize, i: usize) -> usize
 }
 
 // Where the rows of each range begin, those of kind k at cell c being range 128·k + c; and, behind the last range, the number of rows.
-pub(crate) fn range_rows(work: &[u64], rows: usize, starts: &mut [u16])
-    requires { (8 * rows ≤ length work.now) × (rows ≤ 1024) × (length starts.old ≡ 2049)
+pub(crate) fn range_rows(work: &[u64], rows: usize, starts: &mut [u16; 2049])
+    requires { (8 * rows ≤ length work.now) × (rows ≤ 1024)
         × T (all (λ q. ltb (128 * q.kind + q.p) 2048) (rows_in work.now rows)) }
     ensures { Ranged work.now starts.new rows }
 {

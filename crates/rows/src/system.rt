@@ -21,8 +21,7 @@ use shape::maps::Map;
 use shape::{Coord, cells, grids, variants};
 
 // For each kind its copies, its mirror partner and how many cells it has.
-fn list_kinds(counted: &CountedTray, kinds: &mut [Kind])
-    requires { 16 ≤ length kinds.old }
+fn list_kinds(counted: &CountedTray, kinds: &mut [Kind; 16])
     ensures { let c = counted.now in KindsIn kinds.new c.counts.kinds (compile (lent_tray c.tray)) }
 {
     // the kinds before k stand there
@@ -47,8 +46,7 @@ fn count_pieces(tray: &LentTray) -> usize
 }
 
 // For each piece its kind and its count.
-fn list_pieces(counted: &CountedTray, pieces: &mut [Owned])
-    requires { 16 ≤ length pieces.old }
+fn list_pieces(counted: &CountedTray, pieces: &mut [Owned; 16])
     ensures { let t = counted.now.tray in owned_in pieces.new t.pieces.count ≡ owned (lent_tray t) }
 {
     // the kinds and the counts of the pieces before i stand there
@@ -72,11 +70,11 @@ struct Placed {
 fn build_lent(
     counted: &CountedTray,
     work: &mut [u64],
-    starts: &mut [u16],
-    images: &mut [u8],
+    starts: &mut [u16; 2049],
+    images: &mut [u8; 6144],
 ) -> Placed
     requires counted { let c = counted.now in (c.counts.placements ≤ 1024) × RowsFit (compile (lent_tray c.tray)) }
-    requires room { (8192 ≤ length work.old) × (length starts.old ≡ 2049) × (length images.old ≡ 6144) }
+    requires room { 8192 ≤ length work.old }
     ensures { let c = counted.now in
         BuiltLent (compile (lent_tray c.tray)) c.counts.size result work.old work.new starts.new images.new }
 {

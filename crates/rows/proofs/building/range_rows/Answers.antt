@@ -23,4 +23,4 @@ returns c =
     let a = c.args in
     let l = c.loop-i in
     let e : l.i ≡ 2049 = omega arith in
-    begun_all a.work.now a.rows l.starts c.requires.3 (subst (Begun a.work.now a.rows l.starts) e l.invariant.2)
+    begun_all a.work.now a.rows l.starts c.requires.2 (subst (Begun a.work.now a.rows l.starts) e l.invariant.2)

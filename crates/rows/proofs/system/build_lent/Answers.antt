@@ -69,7 +69,7 @@ range_rows-requires c =
     let fit = c.requires.counted.1 in
     let most = few d c.requires.counted.0 in
     let small = rows_few tray fit most a.work.now w.new.work w.result w.ensures in
-    (omega (arith, small, w.auto.work), small, c.requires.room.1, rows_in_range tray fit most a.work.now w.new.work w.result w.ensures)
+    (omega (arith, small, w.auto.work), small, rows_in_range tray fit most a.work.now w.new.work w.result w.ensures)
 
 pub returns : goal.returns
 returns c =
