@@ -1,4 +1,5 @@
--- A map takes a row to the one row with the image's kind and cells, so the images of some rows, kind by kind, are the rows whose numbers `moved_rows` has. Assumes nothing.
+-- A map takes a row to the one row with the image's kind and cells, so the images of some rows, kind by kind, are the rows whose numbers `moved_rows` has.
+-- Assumes nothing.
 use Prim.Native.Nat.{ℕ, ◌<◌}
 use mathlib.Core.Bool.{Bool, true, false}
 use mathlib.Core.List.Memᴰ

@@ -1,12 +1,10 @@
 -- Which packing is kept, by row numbers. A packing is the ascending list of its rows' numbers; within a kind, ascending numbers are ascending (p, j).
 -- Proved in proofs/NormalLaws: of a packing's rows, `normal` says what `kept` of document 01's definitions says of the packing.
-use Rattle.std.specs.Prelude.{ℕ, ◌+◌, ◌≤◌, ◌<◌, Bool, true, false, cond, not, ◌&&◌, ◌||◌, List, [], ◌∷◌, map, ◌≡◌, ltb, leb, eqb, length, get_or}
+use Rattle.std.specs.Prelude.{ℕ, ◌≤◌, Bool, true, false, cond, not, ◌&&◌, ◌||◌, List, [], ◌∷◌, map, ◌≡◌, ltb, leb, eqb, length, get_or}
 use Rattle.lists.specs.Lists.{all, keep, each, how_many, below, less}
 use Rattle.definitions.specs.Placements.{Placement}
 use Rattle.definitions.specs.Kept.{Identify}
 use Rattle.definitions.specs.Kept.Identify.{None, Turned, Mirrored}
-use Rattle.std.specs.declared.cmp.Ordering.{Ordering}
-use Rattle.std.specs.declared.cmp.Ordering.TheVariants.{Less, Equal, Greater}
 use Rattle.rows.specs.Systems.{System, kind_by, moved_by, row_with}
 use Rattle.rows.specs.Rows.{row_at}
 
@@ -70,9 +68,3 @@ KindStarts work rows kinds starts = (k : ℕ) → k ≤ kinds → get_or starts 
 -- the rows stand kind by kind. (In no type: rows of one owner, by the kinds that another's system has.)
 abbrev pub InKinds : System → List ℕ → Type 0
 InKinds s rs = each (below (length s.copies)) (λ k. of_kind s k rs) ≡ rs
-
--- the least of some images against a row: it is below it, or there is one and it is above it; or nothing is said
-abbrev pub LeastIs : Ordering → ℕ → List ℕ → Type 0
-LeastIs Less head images = 0 < how_many (λ s. ltb s head) images
-LeastIs Equal head images = Unit {0}
-LeastIs Greater head images = (0 < length images) × (how_many (λ s. ltb s (head + 1)) images ≤ 0)

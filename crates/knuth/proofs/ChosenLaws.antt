@@ -1,4 +1,5 @@
--- A row that is chosen is none of those chosen before, takes a copy of its kind, and leaves no row possible that shares a cell with a chosen one. Assumes nothing.
+-- A row that is chosen is none of those chosen before, takes a copy of its kind, and leaves no row possible that shares a cell with a chosen one. Assumes
+-- nothing.
 use Prim.Native.Nat.{ℕ, ◌+◌, ◌-◌, ◌≤◌, ◌<◌}
 use mathlib.Core.Bool.{Bool, true, false, cond}
 use mathlib.Core.List.Memᴰ

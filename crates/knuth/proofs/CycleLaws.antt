@@ -1,4 +1,5 @@
--- A column's rows, tried one after the other, leave on the page what the list of their packings leaves; nothing changes once a further packing is known. Assumes nothing.
+-- A column's rows, tried one after the other, leave on the page what the list of their packings leaves; nothing changes once a further packing is known.
+-- Assumes nothing.
 use Prim.Native.Nat.{ℕ, suc, ◌-◌, ◌≤◌, ◌<◌}
 use mathlib.Core.Bool.{Bool, true, false, cond}
 use mathlib.Core.List.{List, [], ◌∷◌, ◌++◌, map, append-nil, append_assoc}

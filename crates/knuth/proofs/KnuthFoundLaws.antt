@@ -1,4 +1,5 @@
--- What a search over a system's links finds, on the page: the rows of each list of nodes differ, since a row that is chosen leaves no node of its own possible; so they are a packing's rows, and what is emitted is document 01's list. Assumes nothing.
+-- What a search over a system's links finds, on the page: the rows of each list of nodes differ, since a row that is chosen leaves no node of its own
+-- possible; so they are a packing's rows, and what is emitted is document 01's list. Assumes nothing.
 use Prim.Native.Nat.{ℕ, zero, suc, ◌+◌, ◌-◌, ◌≤◌, ◌<◌}
 use mathlib.Core.Bool.{Bool, true, false, cond}
 use mathlib.Core.List.Memᴰ

@@ -1,4 +1,5 @@
--- The list that a search over a system's links walks is the list of document 01's Knuth: at each step the live rows are the possible ones, the column that is tried is the cell that is taken, and its rows come in the same order. Assumes nothing.
+-- The list that a search over a system's links walks is the list of document 01's Knuth: at each step the live rows are the possible ones, the column that is
+-- tried is the cell that is taken, and its rows come in the same order. Assumes nothing.
 use Prim.Native.Nat.{ℕ, zero, suc, ◌+◌, ◌-◌, ◌≤◌, ◌<◌}
 use mathlib.Core.Bool.{Bool, true, false, cond, ◌&&◌}
 use mathlib.Core.List.Memᴰ

@@ -1,4 +1,5 @@
--- The first column with the fewest rows, but at least one, is the cell that Knuth's choices take: both are the least in the order of count, then cell. Assumes nothing.
+-- The first column with the fewest rows, but at least one, is the cell that Knuth's choices take: both are the least in the order of count, then cell.
+-- Assumes nothing.
 use Prim.Native.Nat.{ℕ, zero, suc, ◌≤◌, ◌<◌}
 use mathlib.Core.Bool.{Bool, true, false, not, ◌&&◌, ◌||◌, cond}
 use mathlib.Core.List.Memᴰ

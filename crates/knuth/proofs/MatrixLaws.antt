@@ -1,4 +1,5 @@
--- The nodes of a row system stand row by row, a row's kind first, then its cells ascending: so they are a lawful matrix, and row numbers rise with nodes. Assumes nothing.
+-- The nodes of a row system stand row by row, a row's kind first, then its cells ascending: so they are a lawful matrix, and row numbers rise with nodes.
+-- Assumes nothing.
 use Prim.Native.Nat.{ℕ, suc, ◌+◌, ◌-◌, ◌≤◌, ◌<◌}
 use mathlib.Core.Bool.{not}
 use mathlib.Core.List.Memᴰ

@@ -1,5 +1,6 @@
 -- A tray's system from its parts: its cells and their numbers, its rows, its kinds and pieces, and the images under its board's maps are those that the
--- definitions give, since an accepted tray is one of a call that is not refused; and the stripped tray's cells where they lie in the lent box. Assumes nothing.
+-- definitions give, since an accepted tray is one of a call that is not refused; and the stripped tray's cells where they lie in the lent box. Assumes
+-- nothing.
 use Prim.Native.Nat.{ℕ, zero, suc, ◌+◌, ◌*◌, ◌-◌, ◌≤◌, ◌<◌}
 use mathlib.Core.Bool.{Bool, false}
 use mathlib.Core.List.Memᴰ

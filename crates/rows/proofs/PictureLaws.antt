@@ -6,12 +6,12 @@ use mathlib.Core.List.{List, [], ◌∷◌, ◌++◌, map, map-append, append_as
 use mathlib.Core.Path.{◌≡◌, refl, sym, ap, ap₂, ◌∙◌, subst}
 use native.Mathlib.Numerals.{add-one}
 use native.Mathlib.Omega.{arith}
-use lib.Dec.{T, ltb, ltb→lt}
+use lib.Dec.{ltb, ltb→lt}
 use lib.ListN.{length, get_or, take, drop, set, length-map, length-take, length-drop, get_or-append}
 use lib.Seq.{paste, paste-suc, length-paste, drop-paste, length-take-le, length_paste_head, take_all, take_at, drop_at, drop-drop, get_or-take, get_or-drop, ext_get_or}
-use Rattle.lists.specs.Lists.{cons_if, all, below, from}
+use Rattle.lists.specs.Lists.{cons_if, below, from}
 use Rattle.lists.proofs.TestLaws.{holds}
-use Rattle.lists.proofs.ListLaws.{all_at, map_same, all_get_or, get_or_map}
+use Rattle.lists.proofs.ListLaws.{all_at, map_same, get_or_map}
 use Rattle.lists.proofs.RangeLaws.{map_entries, from_at, length_below, get_or_of}
 use Rattle.definitions.specs.Grid.{Grid, Sides, Cell, InBox, volume, place_of, box, same_grid}
 use Rattle.definitions.specs.Maps.{Map, map_of, map_sides, map_cell, map_grid}
@@ -28,11 +28,6 @@ use Rattle.rows.specs.Boards.{CanMove, Numbered, Pictured, board_images, place_i
 use Rattle.rows.specs.Systems.{images_in}
 
 -- ---- a map's images, place by place
-pub place_at : (places : List ℕ) (n size : ℕ) → n ≤ length places → T (all (λ i. ltb i size) (take n places)) → (i : ℕ) → i < n → get_or places i 0 < size
-place_at places n size h t i l =
-    let e = length-take-le n places h in
-    subst (λ (j : ℕ). j < size) (get_or-take n places i 0 l) (ltb→lt (get_or (take n places) i 0) size (all_get_or (λ j. ltb j size) 0 (take n places) t i (omega arith)))
-
 module _ (s : Sides) (m : Map) (places scans : List ℕ) (n : ℕ) (h : n ≤ length places) where
   pub images_length : length (place_images s m places scans n) ≡ n
   unfolding place_images

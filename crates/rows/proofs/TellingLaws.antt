@@ -1,5 +1,5 @@
--- What the rows of a path tell of each scan number, two bytes a number, laid row by row from the last to the first, so that the first that covers a cell stays.
--- Assumes nothing.
+-- What the rows of a path tell of each scan number, two bytes a number, laid row by row from the last to the first, so that the first that covers a cell
+-- stays. Assumes nothing.
 use Prim.Native.Nat.{ℕ, zero, suc, ◌+◌, ◌-◌, ◌*◌, ◌≤◌, ◌<◌}
 use mathlib.Core.Bool.{Bool, true, false, cond}
 use mathlib.Core.List.{List, [], ◌∷◌, ◌++◌, append-nil}

@@ -1,5 +1,5 @@
--- `list_over` meets its contract: a search begins with all copies left and nothing covered, and what it emits is Fast's list, with kind 0 first or not. Assumes
--- nothing.
+-- `list_over` meets its contract: a search begins with all copies left and nothing covered, and what it emits is Fast's list, with kind 0 first or not.
+-- Assumes nothing.
 use Rattle.std.proofs.Common.{ℕ, List, [], ◌≡◌, ap, ◌∙◌}
 use Rattle.definitions.specs.Emission.{Listed, emits}
 use Rattle.masks.specs.Masks.{has, nothing}
