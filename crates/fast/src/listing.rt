@@ -46,7 +46,7 @@ fn is_kind_0_first(system: &RowSystem, turned: bool) -> bool
     system.chart.copies_of(0) == 1 && cells_of_all(system.chart, d.kinds) == d.size
 }
 
-// The answers of the list below, of what is wanted.
+// What `list` below emits, by what is wanted.
 fn list_over(wanted: &Wanted, answers: &mut [u8], e: Emission) -> Emission
     requires { let w = wanted.now in w.capacity * (2 * w.system.d.places) ≤ length answers.old }
     ensures { let w = wanted.now in

@@ -6,7 +6,7 @@ ghost use Rattle.rows.specs.Charts.{kind_copies};
 use kept::path::Path;
 use rows::chart::Chart;
 
-// The path is the rows chosen, one after the other.
+// The path is the rows chosen, one after the other. (`left` has a place for each of 16 kinds, however many there are: nothing is put on a heap.)
 #[derive(Drop)]
 pub struct State {
     path: Path,

@@ -14,6 +14,7 @@ use definitions::Start;
 
 // Where the rest of the page starts: behind the lent entry while that is waited for, else at the entry with this number among those to come; how many were
 // written, and whether a further one is known.
+// (The answers' bytes go beside it, with a clause that there is room: the caller lends them, and this is handed back by value, so no struct holds them.)
 #[derive(Clone, Copy)]
 pub struct Emission {
     pub start: Start,

@@ -20,7 +20,7 @@ pub struct Wanted<'a> {
 }
 
 impl<'a> Wanted<'a> {
-    // The same with what the entry shows.
+    // What is wanted, and with it what the entry shows.
     pub fn new(
         system: &RowSystem<'a>,
         turned: bool,

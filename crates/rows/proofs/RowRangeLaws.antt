@@ -158,7 +158,7 @@ module _ (work : List ℕ) (n : ℕ) where
 abbrev pub matches : List ℕ → Placement → Bool
 matches key q = same (q.kind ∷ q.cells) key
 
--- what `equals` tells
+-- what `==` of masks tells
 pub are_same : (r : Bool) (a b : ℕ → Bool) → r ≡ true → SameCells r a b → a ≡ b
 are_same true a b e h = h
 are_same false a b e h = absurd (true≢false (sym e))

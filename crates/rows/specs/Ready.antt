@@ -1,4 +1,4 @@
--- Slices in which a lawful row system stands: what the functions of the engines ask of what they are lent.
+-- Slices in which a lawful row system stands: what `RowSystem` says of what it holds.
 use Rattle.std.specs.Prelude.{ℕ, ◌+◌, ◌*◌, ◌≤◌, List, length}
 use Rattle.rows.specs.Systems.{system_in}
 use Rattle.rows.specs.Ranges.{Ranged}

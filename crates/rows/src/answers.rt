@@ -115,6 +115,7 @@ fn copy_at(chart: &Chart, told: &[u8; 256], place: usize) -> Copied
 }
 
 // The answer of a packing whose rows are those of an ascending path: two bytes for each place of the board's box, from a place of the slice on.
+// (The slice whole and a place in it, no subslice: the promise is one equation over the whole slice.)
 pub fn reconstruct_answer(
     d: Dims,
     work: &[u64],

@@ -6,6 +6,7 @@ ghost use Rattle.rows.specs.Boards.{Numbered};
 use placements::planned::PlannedBoard;
 
 // A board, and for each place of its box the scan number of the cell there: how many filled cells there are where it is unfilled.
+// (No Option, as in the chart: no cell has that number.)
 #[derive(Clone, Copy)]
 pub(crate) struct NumberedBoard<'a> {
     pub planned: PlannedBoard<'a>,

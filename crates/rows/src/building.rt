@@ -1,4 +1,6 @@
 // The rows of a tray, written into the work slice, by kind, then (p, j).
+// (The work slice and the number of rows in it stay two values: the C call lends the slice whole, and the caller's proof would not learn from a struct that
+// borrows it what the slice holds at the end.)
 ghost use Rattle.std.specs.Prelude.{◌≡◌, [], ◌∷◌, map, ◌+◌, ◌*◌, ◌≤◌, ◌<◌, T, ltb, length, get_or};
 ghost use Rattle.lists.specs.Lists.{all, joined, member, numbered};
 ghost use Rattle.definitions.specs.Grid.{InBox, place_of};

@@ -21,6 +21,7 @@ pub struct Owned {
 // Where the rows of each range begin, those of kind k at cell c being range 128·k + c, and behind the last range the number of rows; where each map that
 // brings the board onto itself takes each cell, number 128·m + c being that of map m and cell c; the scan number of the cell at each place of the lent
 // box (the number of filled cells where it is unfilled: an answer is written for each place, and no cell has that number); the kinds and the pieces.
+// (Arrays of fixed length, and `Dims` has how much of them is used: nothing is put on a heap.)
 #[derive(Drop)]
 pub struct Chart {
     pub starts: [u16; 2049],

@@ -21,7 +21,8 @@ use masks::Mask;
 use shape::maps::Map;
 use shape::{cells, grids};
 
-// Where a map takes each cell of the board, by scan numbers, from a place of the slice on.
+// Where a map takes each cell of the board, by scan numbers, from a place of the slice on. (The slice whole and a place in it, here and below: the promise is
+// one equation over the whole slice.)
 fn cell_images(board: &NumberedBoard, m: Map, images: &mut [u8], start: usize)
     requires { start + length board.now.planned.places.now ≤ length images.old }
     ensures { let places = board.now.planned.places.now in

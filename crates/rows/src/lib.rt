@@ -1,6 +1,8 @@
 // The row system: a tray as rows of words, with the maps that its board allows and the answers that sets of rows stand for. All that the engines see
 // (`compile` of fast.rs). Assumed: a tray that rows 2 to 9 of the table let pass, and what was counted of it. Promised: the system that is built is
 // `system_of` the tray, and every such system is `Lawful`; what the readers read of it is what the definition has there.
+// (A kind or a piece below 16, a map below the number of maps, 512 places at most, rows within the work slice: a number below a length stays a clause, as an
+// index does.)
 #![tactic(auto)]
 
 pub mod answers;

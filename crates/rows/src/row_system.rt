@@ -14,6 +14,7 @@ use super::{Dims, answers, images, shown};
 
 // How large it is, and the work slice and the chart in which it stands, ready for the engines. That it is ready is a fact told by cases (which map is the
 // inverse, which row the image), and a ghost field is a proposition: so it stands as one. Beside it stands how large it is, which the check reads as it is.
+// (The functions that the methods call take the three one by one: they are public and ask less than this type.)
 #[derive(Clone, Copy)]
 pub struct RowSystem<'a> {
     pub d: Dims,
