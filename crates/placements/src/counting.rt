@@ -35,7 +35,8 @@ fn count_cells(board: &PlannedBoard, piece: &CubicGrid, turnings: &[u8]) -> usiz
         (result ≡ fits_in (as_order b.order) (grid_of b.grid) grids) × (result ≤ length turnings.now * length b.places.now) }
 {
     let mut poses = Poses::new();
-    poses.pose_all(piece, turnings, board.order);
+    let order = board.order;
+    poses.pose_all(piece, turnings, order.first, order.second, order.third);
     let mut count = 0;
     // what is counted and what fits at the places left make all
     for &place in board.places {

@@ -9,12 +9,12 @@ ghost use Rattle.definitions.specs.Placements.{origin};
 ghost use Rattle.shape.specs.Coords.{as_sides, as_cell, Fit};
 ghost use Rattle.shape.specs.CubicGrids.{grid_of};
 ghost use Rattle.shape.specs.Grids.{as_grid};
-ghost use Rattle.shape.specs.Scans.{as_order};
+ghost use Rattle.shape.specs.Orders.{axis_list};
 ghost use Rattle.shape.specs.Variants.{turned_by};
 ghost use Rattle.placements.specs.Poses.{code_of, cell_of, origin_in, with_pose, with_poses, empty_poses, PoseOf, Posed};
 
 use shape::maps::Map;
-use shape::{AxisOrder, Coord, CubicGrid, cells, scan};
+use shape::{Axis, Coord, CubicGrid, cells, scan};
 
 // A variant of a piece: how many filled cells it has, the codes of these, x slowest, z fastest (what lies behind them says nothing), and that of its
 // origin. Of fixed length, with a count beside it, since nothing is put on a heap.
@@ -32,7 +32,7 @@ pub struct Poses {
     pub list: [Pose; 24],
 }
 
-// The cell with a code. (No type with `From`: a code asks that the coordinates are below 8, which `from` cannot ask.)
+// The cell with a code. (No type with `From`: of the bounds below, `From` promises none.)
 #[tactic(auto, unfolding(crate::specs::Poses::cell_of))]
 fn cell_of(code: u16) -> Coord
     ensures { (as_cell result ≡ cell_of code) × (result.0 ≤ 1023) × (result.1 ≤ 7) × (result.2 ≤ 7) }
@@ -41,7 +41,7 @@ fn cell_of(code: u16) -> Coord
     Coord(n / 64, n / 8 % 8, n % 8)
 }
 
-// The code of a cell whose coordinates are below 8.
+// The code of a cell whose coordinates are below 8. (No `From`: it cannot ask that they are.)
 #[tactic(auto, unfolding(crate::specs::Poses::code_of))]
 fn code_of(u: Coord) -> u16
     requires { (u.0 < 8) × (u.1 < 8) × (u.2 < 8) }
@@ -70,22 +70,23 @@ fn list_filled(cells: &[u8], s: Coord, codes: &mut [u16]) -> usize
     n
 }
 
-// The code of the first in scan order of cells whose codes are listed; 0 where there are none. (No Option: so is `origin` defined.)
-fn first_of(codes: &[u16], order: AxisOrder) -> u16
-    ensures { cell_of result ≡ origin (sort (cell_ahead (as_order order)) (map cell_of codes.now)) }
+// The code of the first of cells whose codes are listed, by their coordinates along three axes, whichever axes they are; 0 where there are none.
+// (No Option: so is `origin` defined.)
+fn first_of(codes: &[u16], first: Axis, second: Axis, third: Axis) -> u16
+    ensures { cell_of result ≡ origin (sort (cell_ahead (axis_list first second third)) (map cell_of codes.now)) }
 {
     let Some((&last, before)) = codes.split_last() else {
         return 0;
     };
-    let mut first = last;
+    let mut ahead = last;
     // the first of the cells behind cell k
     for k in (0..before.len()).rev() {
         let code = before[k];
-        if scan::compare_cells(order, cell_of(code), cell_of(first)).is_lt() {
-            first = code;
+        if scan::compare_along(first, second, third, cell_of(code), cell_of(ahead)).is_lt() {
+            ahead = code;
         }
     }
-    first
+    ahead
 }
 
 impl Pose {
@@ -106,13 +107,14 @@ impl Pose {
     }
 
     // The pose becomes that of a grid. What lies behind its codes stays.
-    fn put(&mut self, cells: &[u8], s: Coord, order: AxisOrder)
+    fn put(&mut self, cells: &[u8], s: Coord, first: Axis, second: Axis, third: Axis)
         requires { Fit (as_sides s) × (volume (as_sides s) ≤ length cells.now) }
         ensures { let g = as_grid s cells.now in
-            PoseOf (as_order order) g self.new × (self.new ≡ with_pose (as_order order) (filled_cells g) self.old) }
+            let order = axis_list first second third in
+            PoseOf order g self.new × (self.new ≡ with_pose order (filled_cells g) self.old) }
     {
         self.size = list_filled(cells, s, &mut self.codes);
-        self.origin = first_of(&self.codes[..self.size], order);
+        self.origin = first_of(&self.codes[..self.size], first, second, third);
     }
 }
 
@@ -140,20 +142,22 @@ impl Poses {
         &self.list[..self.count]
     }
 
-    // The grids that map numbers make of a grid become the poses. What lies behind their codes stays.
-    pub fn pose_all(&mut self, grid: &CubicGrid, turnings: &[u8], order: AxisOrder)
+    // The grids that map numbers make of a grid become the poses, with their first cells along three axes, whichever axes they are, as origins. What lies
+    // behind their codes stays.
+    pub fn pose_all(&mut self, grid: &CubicGrid, turnings: &[u8], first: Axis, second: Axis, third: Axis)
         requires { length turnings.now ≤ 24 }
         ensures { let g = grid_of grid.now in
             let ks = turnings.now in
-            let posed = with_poses (as_order order) (λ i. filled_cells (map_grid (map_of (get_or ks i 0)) g)) (length ks) self.old in
-            Posed (as_order order) (turned_by g ks) self.new × (self.new ≡ record posed { count = length ks }) }
+            let order = axis_list first second third in
+            let posed = with_poses order (λ i. filled_cells (map_grid (map_of (get_or ks i 0)) g)) (length ks) self.old in
+            Posed order (turned_by g ks) self.new × (self.new ≡ record posed { count = length ks }) }
     {
         let mut turned = [0u8; 512];
         // the grids of the numbers before i stand there
         for (i, &number) in turnings.iter().enumerate() {
             let m = Map(number);
             grid.turn_into(m, &mut turned, 0);
-            self.list[i].put(&turned, m.sides(grid.sides), order);
+            self.list[i].put(&turned, m.sides(grid.sides), first, second, third);
         }
         self.count = turnings.len();
     }

@@ -108,7 +108,8 @@ fn rows_by(
         Appended work.old r work.new result (map spread (joined (numbered cs (placements_at cs kind vs)))) }
 {
     let mut poses = Poses::new();
-    poses.pose_all(piece, turnings, board.planned.order);
+    let order = board.planned.order;
+    poses.pose_all(piece, turnings, order.first, order.second, order.third);
     let mut t = r;
     // the rows written and the placements at the cells from p on make all
     for (p, &place) in board.planned.places.iter().enumerate() {

@@ -2,7 +2,7 @@
 use Rattle.std.proofs.Common.{◌≡◌, length, arith}
 use Rattle.shape.specs.Coords.{as_sides}
 use Rattle.shape.specs.Grids.{as_grid}
-use Rattle.shape.specs.Scans.{as_order}
+use Rattle.shape.specs.Orders.{axis_list}
 use Rattle.shape.proofs.PlaceLaws.{volume_small}
 use Rattle.placements.proofs.PoseLaws.{pose_of, pose_written}
 use Rattle.placements.proofs.poses.Pose.put.Goals as goal
@@ -16,6 +16,6 @@ returns c =
     let g = as_grid a.s a.cells.now in
     let l = c.list_filled-self in
     let long : length a.self.now.codes ≡ 512 = omega arith in (
-      pose_of (as_order a.order) g c.requires.0 a.self.now long l.result l.ensures.0 l.new.codes l.ensures.1 c.first_of-self.result c.first_of-self.ensures,
-      pose_written (as_order a.order) g c.requires.0 a.self.now long l.result l.ensures.0 l.new.codes l.ensures.1 c.first_of-self.result c.first_of-self.ensures,
+      pose_of (axis_list a.first a.second a.third) g c.requires.0 a.self.now long l.result l.ensures.0 l.new.codes l.ensures.1 c.first_of-self.result c.first_of-self.ensures,
+      pose_written (axis_list a.first a.second a.third) g c.requires.0 a.self.now long l.result l.ensures.0 l.new.codes l.ensures.1 c.first_of-self.result c.first_of-self.ensures,
     )

@@ -6,7 +6,7 @@ use Rattle.definitions.specs.Maps.{map_of, map_grid}
 use Rattle.shape.specs.Coords.{as_sides, Fit}
 use Rattle.shape.specs.Grids.{as_grid}
 use Rattle.shape.specs.CubicGrids.{grid_of}
-use Rattle.shape.specs.Scans.{as_order}
+use Rattle.shape.specs.Orders.{axis_list}
 use Rattle.shape.proofs.PlaceLaws.{volume_small, mapped_fit, map_volume}
 use Rattle.placements.specs.declared.poses.Poses.{Poses}
 use Rattle.placements.specs.Poses.{with_poses}
@@ -22,8 +22,8 @@ loop-i-init c =
     let a = c.args in
     let g = grid_of a.grid.now in
     record {
-      posed = posed_none (as_order a.order) g a.turnings.now a.self.now.list (omega arith);
-      written = poses_none (as_order a.order) (filled g a.turnings.now) a.self.now;
+      posed = posed_none (axis_list a.first a.second a.third) g a.turnings.now a.self.now.list (omega arith);
+      written = poses_none (axis_list a.first a.second a.third) (filled g a.turnings.now) a.self.now;
     }
 
 pub turn_into-requires : goal.turn_into-requires
@@ -43,7 +43,7 @@ pub loop-i-preserved : goal.loop-i-preserved
 loop-i-preserved c =
     let a = c.args in
     let l = c.loop-i in
-    let o = as_order a.order in
+    let o = axis_list a.first a.second a.third in
     let g = grid_of a.grid.now in
     let fit = a.grid.now.whole.fit in
     let bytes = c.turn_into.new.out in
@@ -59,7 +59,7 @@ loop-i-preserved c =
 pub returns : goal.returns
 returns c =
     let a = c.args in
-    let o = as_order a.order in
+    let o = axis_list a.first a.second a.third in
     let g = grid_of a.grid.now in
     let ks = a.turnings.now in
     let l = c.loop-i in
