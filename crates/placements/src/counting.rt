@@ -52,7 +52,7 @@ fn count_piece(board: &PlannedBoard, piece: &CubicGrid) -> (Turnings, usize)
         let g = grid_of piece.now in
         AreVariants g result.0 × (result.1 ≡ placements_in (as_order b.order) (grid_of b.grid) g) × (result.1 ≤ 24 * length b.places.now) }
 {
-    let mut turned = [0u8; 12288];
+    let mut turned = [[0u8; 512]; 24];
     variants::turn_all(piece, &mut turned);
     let mut numbers = [0; 24];
     let count = variants::variants_of(piece, &turned, &mut numbers);

@@ -93,7 +93,11 @@ sides-order s t =
     ∙ ap (ordering_then (number_order s.a t.a))
     (order_cons s.b t.b (s.c ∷ []) (t.c ∷ []) ∙ ap (ordering_then (number_order s.b t.b)) (order_cons s.c t.c [] [] ∙ then_equal (number_order s.c t.c)))
 
-pub coord_cmp : (s t : Coord) → ordering_then (nat_cmp s.0 t.0) (ordering_then (nat_cmp s.1 t.1) (nat_cmp s.2 t.2)) ≡ sides_order (as_sides s) (as_sides t)
+-- as std's `cmp` derived on `Coord` answers
+abbrev pub coord_order : Coord → Coord → Ordering
+coord_order s t = ordering_then (nat_cmp s.0 t.0) (ordering_then (nat_cmp s.1 t.1) (nat_cmp s.2 t.2))
+
+pub coord_cmp : (s t : Coord) → coord_order s t ≡ sides_order (as_sides s) (as_sides t)
 coord_cmp s t = ap₂ ordering_then (number_cmp s.0 t.0) (ap₂ ordering_then (number_cmp s.1 t.1) (number_cmp s.2 t.2)) ∙ sym (sides-order (as_sides s) (as_sides t))
 
 pub grid-order : (g h : Grid) → grid_order g h ≡ ordering_then (sides_order g.sides h.sides) (list_order g.cells h.cells)

@@ -32,7 +32,7 @@ fn show_maps(rt: &impl Print, grid: &CubicGrid) -> io::Result<()> {
 }
 
 fn show_variants(rt: &impl Print, grid: &CubicGrid, order: AxisOrder) -> io::Result<()> {
-    let mut turned = [0; 12288];
+    let mut turned = [[0; 512]; 24];
     variants::turn_all(grid, &mut turned);
     let mut turnings = [0; 24];
     let n = variants::variants_of(grid, &turned, &mut turnings);
