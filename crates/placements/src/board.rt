@@ -8,7 +8,8 @@ ghost use Rattle.placements.specs.Stripping.{lent_place};
 
 use shape::{Coord, cells};
 
-// For each place of a box how many of the listed places stand before it: its scan number, and their count where its cell is not among them.
+// For each place of a box how many of the listed places stand before it: its scan number, and their count where its cell is not among them. (No Option: so
+// is a scan number defined.)
 pub fn number_places(places: &[u16], scans: &mut [u8])
     requires { (length places.now ≤ 128) × T (all (λ i. ltb i (length scans.old)) places.now) }
     ensures { scans.new ≡ map (λ i. before (eqb i) places.now) (below (length scans.old)) }
@@ -21,6 +22,7 @@ pub fn number_places(places: &[u16], scans: &mut [u8])
 }
 
 // The places of a box become those of the same cells in the lent box, in which its corner lies at a cell.
+#[tactic(auto, using(shape::proofs::PlaceLaws::volume_fits))]
 pub fn put_back(places: &mut [u16], s: Coord, at: Coord, lent: Coord)
     requires { T (all (λ i. ltb i (volume (as_sides s))) places.old)
         × Fit (as_sides lent) × FitsIn (record { lent = as_sides lent; at = as_cell at }) (as_sides s) }
@@ -30,7 +32,6 @@ pub fn put_back(places: &mut [u16], s: Coord, at: Coord, lent: Coord)
     // the places passed are put back
     for place in places.iter_mut() {
         let u = cells::cell_at(s, *place as usize);
-        let v = Coord(at.0 + u.0, at.1 + u.1, at.2 + u.2);
-        *place = cells::place(lent, v) as u16;
+        *place = cells::place(lent, at.set_down(u)) as u16;
     }
 }

@@ -2,7 +2,8 @@
 // kinds (utils.rs and shape.rs of the original). A grid is lent as its cells, a slice with one byte a cell, and its three sides.
 #![tactic(auto)]
 
-ghost use Rattle.std.specs.Prelude.{◌≡◌};
+ghost use Rattle.std.specs.Prelude.{◌≡◌, ◌+◌, ◌≤◌};
+ghost use Rattle.definitions.specs.Grid.{set_down};
 ghost use Rattle.definitions.specs.Maps.{side, coordinate};
 ghost use Rattle.shape.specs.Coords.{as_sides, as_cell, axis_number};
 
@@ -45,5 +46,14 @@ impl Coord {
             Axis::Y => self.1,
             Axis::Z => self.2,
         }
+    }
+
+    // Where a cell of a box lies whose corner lies at this cell of another box.
+    #[tactic(auto, unfolding(definitions::specs::Grid::set_down))]
+    pub fn set_down(self, u: Coord) -> Coord
+        requires { (self.0 + u.0 ≤ 8) × (self.1 + u.1 ≤ 8) × (self.2 + u.2 ≤ 8) }
+        ensures { as_cell result ≡ set_down (as_cell self) (as_cell u) }
+    {
+        Coord(self.0 + u.0, self.1 + u.1, self.2 + u.2)
     }
 }

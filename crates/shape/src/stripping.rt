@@ -98,11 +98,10 @@ fn copy_part(grid: &CubicGrid, part: Window, out: &mut [u8], start: usize)
         FitsIn (record { lent = g.sides; at = as_cell part.at }) (as_sides part.sides) × (start + volume (as_sides part.sides) ≤ length out.old) }
     ensures { out.new ≡ paste out.old start (part_of (grid_of grid.now) (as_cell part.at) (as_sides part.sides)) (volume (as_sides part.sides)) }
 {
-    let at = part.at;
     // the bytes of the part's first j cells are written
     for j in 0..cells::fit_volume(part.sides) {
         let u = cells::cell_at(part.sides, j);
-        out[start + j] = grid.get(Coord(at.0 + u.0, at.1 + u.1, at.2 + u.2));
+        out[start + j] = grid.get(part.at.set_down(u));
     }
 }
 

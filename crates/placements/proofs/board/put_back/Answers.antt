@@ -1,10 +1,10 @@
 -- `put_back` meets its contract. The loop's invariant: the places passed are put back, and the others are as they were. Assumes nothing.
 use Rattle.std.proofs.Common.{ℕ, List, ◌<◌, ◌≡◌, ◌∙◌, refl, sym, ap, subst, get_or, arith}
 use lib.ListN.{set}
-use Rattle.definitions.specs.Grid.{Cell, volume, place_of, set_down}
+use Rattle.definitions.specs.Grid.{InBox, volume, place_of, set_down}
 use Rattle.shape.specs.Coords.{as_sides, as_cell}
 use Rattle.shape.specs.Places.{cell_at}
-use Rattle.shape.proofs.StrippingLaws.{part_fit}
+use Rattle.shape.proofs.StrippingLaws.{part_fit, part_in_box}
 use Rattle.placements.specs.Stripping.{lent_place}
 use Rattle.placements.proofs.FittingLaws.{place_in}
 use Rattle.placements.proofs.StrippingLaws.{put_at, put_next, put_all}
@@ -29,16 +29,24 @@ cell_at-u-requires c =
           (place_in a.places.now (volume (as_sides a.s)) c.requires.0 i c.loop-place-test.true),
     )
 
+pub place-requires : goal.place-requires
+place-requires c =
+    let a = c.args in (
+      c.requires.1,
+      subst (InBox (as_sides a.lent)) (sym c.set_down.ensures)
+          (part_in_box (as_sides a.lent) (as_sides a.s) (as_cell a.at) (as_cell c.cell_at-u.result) c.requires.2 c.cell_at-u.ensures.1),
+    )
+
 pub loop-place-preserved : goal.loop-place-preserved
-unfolding set_down lent_place
+unfolding lent_place
 loop-place-preserved c =
     let a = c.args in
     let l = c.loop-place in
     let f = lent_place (as_sides a.s) (record { lent = as_sides a.lent; at = as_cell a.at }) in
     ap (λ (xs : List ℕ). set xs l.place-index c.place.result) l.invariant
     ∙ put_next f a.places.now l.place-index c.loop-place-test.true c.place.result
-    (c.place.ensures.0 ∙ ap (λ (u : Cell). place_of (as_sides a.lent) (set_down (as_cell a.at) u))
-    (c.cell_at-u.ensures.0 ∙ ap (cell_at (as_sides a.s)) (read (goal.at.loop-place-preserved c).In-loop-place)))
+    (c.place.ensures.0 ∙ ap (place_of (as_sides a.lent)) (c.set_down.ensures ∙ ap (set_down (as_cell a.at))
+    (c.cell_at-u.ensures.0 ∙ ap (cell_at (as_sides a.s)) (read (goal.at.loop-place-preserved c).In-loop-place))))
 
 pub returns : goal.returns
 returns c =
