@@ -54,7 +54,8 @@ pub record StripsPieces (t : Pieces) (bytes : List ℕ) (r : Pieces) (old new : 
   pub before : Before 512 old new
   pub filled : new ≡ with_grids old 512 (map (piece_of bytes) (records_of t))
 
--- the records lend, with the grids in the slice, the tray that is listed; rows 2 to 9 let them pass; and the cell on which the board's corner lies is the frame's
+-- the records lend, with the grids in the slice, the tray that is listed; rows 2 to 9 let them pass; and the cell on which the board's corner lies is the
+-- frame's
 pub record StripsTray (t : Pieces) (board : Record) (bytes : List ℕ) (r : StrippedRecords) (cells : List ℕ) : Type 0 where
   pub tray : lent_in (records_of r.pieces) r.board cells ≡ unframed (tray_in (records_of t) board bytes)
   pub accepted : Accepted9 r.pieces r.board cells

@@ -32,7 +32,7 @@ pub struct Poses {
     pub list: [Pose; 24],
 }
 
-// The cell with a code. (No type with `From`: of the bounds below, `From` promises none.)
+// The cell with a code. (No `From`: it could stand in `shape` alone, which knows no codes. No type for codes: any 16 bits are one.)
 #[tactic(auto, unfolding(crate::specs::Poses::cell_of))]
 fn cell_of(code: u16) -> Coord
     ensures { (as_cell result ≡ cell_of code) × (result.0 ≤ 1023) × (result.1 ≤ 7) × (result.2 ≤ 7) }
