@@ -1,6 +1,6 @@
 -- Counting: how many placements a kind has, how many placements and links a tray has, and what rows 2 to 9 tell of a tray that they let pass.
 -- Assumes nothing.
-use Prim.Native.Nat.{ℕ, suc, ◌+◌, ◌-◌, ◌*◌, ◌≤◌, ◌<◌}
+use Prim.Native.Nat.{ℕ, suc, ◌+◌, ◌*◌, ◌≤◌, ◌<◌}
 use mathlib.Core.Bool.{Bool, true, false, cond}
 use mathlib.Core.List.{List, [], ◌∷◌, ◌++◌, map, Memᴰ, map-map}
 use mathlib.Core.Path.{◌≡◌, refl, sym, ap, ap₂, ◌∙◌, subst}
@@ -9,13 +9,12 @@ use native.Mathlib.Numerals.{add-one}
 use native.Mathlib.Omega.{arith}
 use borrow.Author.Count.{below_more}
 use borrow.Author.Tests.{leb-true}
-use borrow.Rule.Slice.PartMut.{mid_of, post_of, put_mid, same_len_mid, mid_len}
 use lib.Dec.{T, ltb, leb, eqb, ltb→lt, lt→ltb, eqb→eq}
 use lib.ListN.{length, get_or, take, drop, set, length-replicate, length-map, length-drop, drop_of_length-le}
-use lib.Seq.{take-length, length-take-le, drop-cons, get_or-take, take-take, drop_at, take-append-le, take-set-le, drop-set-lt, get_or-set_same, get_or-set_other}
+use lib.Seq.{take-length, length-take-le, drop-cons, get_or-take, take-take, get_or-set_same, get_or-set_other}
 use Rattle.lists.specs.Lists.{all, how_many, keep, sum, joined, numbered, numbered_from}
 use Rattle.lists.proofs.TestLaws.{eqb_flip, and_left, and_right, holds, is_true, is_false}
-use Rattle.lists.proofs.ListLaws.{front_part, all_at, all_of, keep_at, map_same}
+use Rattle.lists.proofs.ListLaws.{all_at, all_of, keep_at, map_same}
 use Rattle.lists.proofs.CountLaws.{total_numbered, total_times, total_each, total_keep, total_append, total, total_one, how_many_length, sum_map}
 use Rattle.lists.proofs.NthLaws.{Nth, nth_mem, nth_get_or, nth_at}
 use Rattle.definitions.specs.Grid.{Sides, Cell, Grid, volume, box, byte_at, filled_cells}
@@ -40,7 +39,6 @@ use Rattle.shape.specs.declared.Coord.{Coord}
 use Rattle.shape.specs.Coords.{as_sides}
 use Rattle.shape.specs.Grids.{Whole}
 use Rattle.shape.specs.Places.{cell_at}
-use Rattle.shape.specs.Variants.{turned_by, Numbers}
 use Rattle.shape.proofs.PlaceLaws.{place_lt, place_of_cell, volume_small}
 use Rattle.shape.proofs.VariantLaws.{variant_filled, scan_from}
 use Rattle.placements.specs.declared.Pieces.{Pieces}

@@ -1,11 +1,10 @@
 -- Numbering the places of a box, and the fit test cell by cell. Assumes nothing.
-use Prim.Native.Nat.{ℕ, zero, suc, ◌+◌, ◌*◌, ◌-◌, ◌≤◌, ◌<◌}
+use Prim.Native.Nat.{ℕ, suc, ◌+◌, ◌-◌, ◌≤◌, ◌<◌}
 use mathlib.Core.Bool.{Bool, true, false, cond, ◌&&◌}
 use mathlib.Core.List.Memᴰ
 use mathlib.Core.List.{List, [], ◌∷◌, map, Memᴰ}
 use mathlib.Core.Path.{◌≡◌, refl, sym, ap, ap₂, ◌∙◌, subst}
 use native.Mathlib.Nat.{zero-add}
-use native.Mathlib.Numerals.{add-one}
 use native.Mathlib.Omega.{arith}
 use borrow.Author.Rules.{get_or_read}
 use borrow.Author.Tests.{eqb-true, eqb-false}
@@ -17,7 +16,7 @@ use Rattle.std.proofs.lemmas.List.{length-take}
 use Rattle.lists.specs.Lists.{all, any, how_many, sort, before, from, below}
 use Rattle.lists.proofs.TestLaws.{tests_same, and_left, and_right, is_false, eqb_of}
 use Rattle.lists.proofs.ListLaws.{how_many_map, all_at, all_of, all_map, any_at, any_of, all_get_or, get_or_map}
-use Rattle.lists.proofs.RangeLaws.{below_at, length_below, get_or_number, from_start}
+use Rattle.lists.proofs.RangeLaws.{length_below, get_or_number, from_start}
 use Rattle.lists.proofs.SortLaws.{sort_at, sort_of}
 use Rattle.definitions.specs.Grid.{Sides, Cell, Grid, InBox, place_of, byte_at, same_cell, filled_cells}
 use Rattle.definitions.specs.Scan.{cell_ahead, scan, scan_number}

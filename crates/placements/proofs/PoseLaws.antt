@@ -11,18 +11,17 @@ use borrow.Author.Count.{below_more}
 use borrow.Author.Tests.{ne_eqb}
 use lib.Dec.{eqb}
 use lib.ListN.{length, get_or, take, drop, set, length-set, length-map, length-drop, drop_of_length-le}
-use lib.Seq.{paste, paste-zero, paste-suc, length-paste, drop-cons, get_or-take, get_or-set_same, get_or-set_other, take_all, length-take-le}
+use lib.Seq.{paste, paste-zero, paste-suc, drop-cons, get_or-take, get_or-set_same, get_or-set_other, take_all, length-take-le}
 use Rattle.lists.specs.Lists.{cons_if, keep, head_or, put, sort, from, below}
 use Rattle.lists.proofs.ListLaws.{get_or_map, keep_same, keep_length, map_same, map_still}
 use Rattle.lists.proofs.RangeLaws.{below_at, length_below, map_entries}
 use Rattle.lists.proofs.PartLaws.{pasted_there}
-use Rattle.lists.proofs.SortLaws.{sort_at, first_put}
+use Rattle.lists.proofs.SortLaws.{first_put}
 use Rattle.definitions.specs.Grid.{Sides, Cell, Grid, InBox, box, volume, place_of, byte_at, filled_cells}
 use Rattle.definitions.specs.Maps.{map_of, map_grid, map_sides}
 use Rattle.definitions.specs.Scan.{cell_ahead, scan}
 use Rattle.definitions.specs.Placements.{origin}
-use Rattle.theorems.proofs.MapLaws.{box_at, filled_at, filled_length, mapped_sides}
-use Rattle.theorems.proofs.MapNumberLaws.{map_fits}
+use Rattle.theorems.proofs.MapLaws.{box_at, filled_at, mapped_sides}
 use Rattle.shape.specs.Coords.{Fit}
 use Rattle.shape.specs.Places.{cell_at}
 use Rattle.shape.specs.Grids.{order_by}
@@ -30,7 +29,7 @@ use Rattle.shape.specs.Scans.{cell_order}
 use Rattle.shape.specs.Variants.{turned_by}
 use Rattle.std.specs.declared.cmp.Ordering.{Ordering}
 use Rattle.std.specs.Ordering.{is_lt}
-use Rattle.shape.proofs.PlaceLaws.{cell_at_place, cell_in_box, place_of_cell, place_lt, volume_small, map_volume, mapped_fit}
+use Rattle.shape.proofs.PlaceLaws.{cell_at_place, cell_in_box, place_of_cell, place_lt, volume_small, map_volume}
 use Rattle.shape.proofs.GridLaws.{box_places, turned_length}
 use Rattle.placements.specs.declared.poses.Pose.{Pose}
 use Rattle.placements.specs.declared.poses.Poses.{Poses}

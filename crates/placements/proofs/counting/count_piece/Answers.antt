@@ -1,5 +1,5 @@
 -- `placements::counting::count_piece` meets its contract: the map numbers make the grid's variants, at most 24. Assumes nothing.
-use Rattle.std.proofs.Common.{ℕ, ◌≤◌, ◌∙◌, ap, take, length, arith}
+use Rattle.std.proofs.Common.{◌≤◌, ◌∙◌, ap, take, length, arith}
 use native.Mathlib.Nat.{le_trans, mul-le-mul_right}
 use Rattle.std.proofs.lemmas.List.{length-take}
 use Rattle.shape.specs.CubicGrids.{grid_of}

@@ -1,6 +1,6 @@
 -- `placements::poses::first_of` meets its contract. The loop's invariant: the first of the cells from k on. Assumes nothing.
 use Rattle.std.specs.Ordering.{is_lt}
-use Rattle.std.proofs.Common.{ℕ, [], ◌∷◌, ◌-◌, ◌<◌, ◌≡◌, ◌∙◌, Bool, true, false, cond, sym, ap, length, get_or, arith}
+use Rattle.std.proofs.Common.{ℕ, [], ◌∷◌, ◌-◌, ◌≡◌, ◌∙◌, Bool, true, false, cond, sym, ap, length, get_or, arith}
 use lib.ListN.{drop_of_length-le, get_or-append}
 use lib.Seq.{get_or-append_seam}
 use Rattle.shape.specs.Coords.{as_cell}
