@@ -144,7 +144,14 @@ impl Poses {
 
     // The grids that map numbers make of a grid become the poses, with their first cells along three axes, whichever axes they are, as origins. What lies
     // behind their codes stays.
-    pub fn pose_all(&mut self, grid: &CubicGrid, turnings: &[u8], first: Axis, second: Axis, third: Axis)
+    pub fn pose_all(
+        &mut self,
+        grid: &CubicGrid,
+        turnings: &[u8],
+        first: Axis,
+        second: Axis,
+        third: Axis,
+    )
         requires { length turnings.now ≤ 24 }
         ensures { let g = grid_of grid.now in
             let ks = turnings.now in
