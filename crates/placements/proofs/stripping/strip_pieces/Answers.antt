@@ -7,23 +7,11 @@ use Rattle.placements.proofs.stripping.strip_pieces.Goals as goal
 pub loop-i-init : goal.loop-i-init
 loop-i-init c = let t = c.args.pieces.now in stripped_none t c.args.bytes.now c.args.out.now (omega arith)
 
-pub overflow_mul-i : goal.overflow_mul-i
-overflow_mul-i c = let few = c.requires.0.few in omega arith
-
-pub overflow_add-i : goal.overflow_add-i
-overflow_add-i c = let few = c.requires.0.few in omega arith
-
 pub strip_record-s-requires : goal.strip_record-s-requires
 strip_record-s-requires c =
     let t = c.args.pieces.now in
     let fits = record_fits t c.args.bytes.now c.requires.0 (omega arith) c.loop-i.i c.loop-i-test.true in
     (fits.0, fits.1, omega (arith, c.requires.0.few))
-
-pub offset_bounds-made-i : goal.offset_bounds-made-i
-offset_bounds-made-i c = let few = c.requires.0.few in omega arith
-
-pub bounds-made-i : goal.bounds-made-i
-bounds-made-i c = let few = c.requires.0.few in omega arith
 
 pub loop-i-preserved : goal.loop-i-preserved
 loop-i-preserved c =
