@@ -10,7 +10,7 @@ use super::fields;
 use super::grids::GridText;
 use definitions::{Config, SolverKind};
 
-// What a configuration has identified.
+// What a configuration has identified. (`Config` itself has two flags, as document 01 has them: one pair of them is refused.)
 #[derive(Clone, Copy, PartialEq, Eq)]
 pub enum Identified {
     Nothing,
