@@ -14,6 +14,7 @@ typedef ferghuul_record Record;
 typedef struct { size_t a, b, c; uint32_t count; size_t start; } RecordBefore;
 typedef ferghuul_answer Answer;
 typedef struct { uint32_t number; size_t written; bool further; } AnswerBefore;
+typedef ferghuul_text_answer TextAnswer;
 
 _Static_assert(sizeof(Record) == 40 && sizeof(RecordBefore) == 40, "a record has 40 bytes");
 _Static_assert(_Alignof(Record) == _Alignof(RecordBefore), "the alignment");
@@ -29,6 +30,8 @@ _Static_assert(offsetof(Answer, number) == 0 && offsetof(AnswerBefore, number) =
 _Static_assert(offsetof(Answer, written) == 8 && offsetof(AnswerBefore, written) == 8, "written");
 _Static_assert(offsetof(Answer, further) == 16 && offsetof(AnswerBefore, further) == 16, "further");
 _Static_assert(offsetof(Answer, missing) == 17, "missing");
+_Static_assert(sizeof(TextAnswer) == 16, "what is answered of a text has 16 bytes");
+_Static_assert(offsetof(TextAnswer, number) == 0 && offsetof(TextAnswer, written) == 8, "number and written of a text");
 
 static uint64_t work[FERGHUUL_WORK];
 static uint16_t links[FERGHUUL_LINKS];

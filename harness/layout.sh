@@ -28,5 +28,5 @@ for engine in fast knuth; do
         done
     done
 done
-[ $failed = 0 ] && echo "layout: a record of 40 bytes, wood at 28, wood 0 as no wood; an answer of 24, missing at 17; $run lists as the model's"
+[ $failed = 0 ] && echo "layout: a record of 40 bytes, wood at 28, wood 0 as no wood; an answer of 24, missing at 17; of a text 16; $run lists as the model's"
 exit $failed

@@ -1,5 +1,5 @@
-/* Soma from C, page by page, each page from behind the last answer of the page before: 11,520, 480 and 240 packings by both engines. The header
-   is held to the library's layout as well. Status 1 on a difference; c.sh compiles and runs it. */
+/* Soma from C, page by page, each page from behind the last answer of the page before: 11,520, 480 and 240 packings by both engines; and its text for Knuth's
+   DLX1, which `soma text` prints alone. The header is held to the library's layout as well. Status 1 on a difference; c.sh compiles and runs it. */
 #include "ferghuul.h"
 
 #include <stdio.h>
@@ -20,6 +20,8 @@ typedef char answer_size[sizeof(ferghuul_answer) == 24 ? 1 : -1];
 typedef char answer_written[offsetof(ferghuul_answer, written) == 8 ? 1 : -1];
 typedef char answer_further[offsetof(ferghuul_answer, further) == 16 ? 1 : -1];
 typedef char answer_missing[offsetof(ferghuul_answer, missing) == 17 ? 1 : -1];
+typedef char text_size[sizeof(ferghuul_text_answer) == 16 ? 1 : -1];
+typedef char text_written[offsetof(ferghuul_text_answer, written) == 8 ? 1 : -1];
 
 static const char *const drawn[7] = {"1110", "111100", "111010", "110011", "11101000", "11100100", "11100010"};
 static const size_t sides[7][3] = {{1, 2, 2}, {1, 2, 3}, {1, 2, 3}, {1, 2, 3}, {2, 2, 2}, {2, 2, 2}, {2, 2, 2}};
@@ -29,6 +31,7 @@ static ferghuul_record pieces[7], board;
 static uint64_t work[FERGHUUL_WORK];
 static uint16_t links[FERGHUUL_LINKS];
 static uint8_t answers[ROOM * SIZE], last[SIZE];
+static uint8_t output[FERGHUUL_TEXT];
 
 static void type_in(void) {
     size_t at = CELLS, i, j;
@@ -60,10 +63,39 @@ static size_t listed(uint8_t engine, bool turned, bool mirrored) {
     }
 }
 
-int main(void) {
+/* The text with so much room. */
+static ferghuul_text_answer text(size_t room) {
+    return ferghuul_dlx1(pieces, 7, board, bytes, sizeof bytes, output, room, work, FERGHUUL_WORK);
+}
+
+/* Whether the text is whole where there is room for it and refused where a byte is wanting, and no other byte is changed. */
+static bool is_text(void) {
+    static const char first[] = "b0 b1 b2 b3 b4 b5 b6 b7 b8 b9 b10 b11 b12 b13 b14 b15 b16 b17 b18 b19 b20 b21 b22 b23 b24 b25 b26 | p0 p1 p2 p3 p4 p5 p6\n";
+    const size_t length = 11808;
+    ferghuul_text_answer whole, none;
+    size_t i;
+    memset(output, 9, sizeof output);
+    none = text(length - 1);
+    if (none.number != FERGHUUL_OUTPUT_TOO_SHORT || none.written != 0 || output[0] != 9) return false;
+    whole = text(length);
+    if (whole.number != FERGHUUL_ACCEPTED || whole.written != length || memcmp(output, first, sizeof first - 1) != 0) return false;
+    for (i = length; i < sizeof output; i++)
+        if (output[i] != 9) return false;
+    pieces[0].count = 2;
+    none = text(sizeof output);
+    pieces[0].count = 1;
+    return none.number == FERGHUUL_NO_TEXT && none.written == 0;
+}
+
+int main(int argc, char **argv) {
     static const size_t wanted[3] = {11520, 480, 240};
     int failed = 0, identified;
     type_in();
+    if (argc == 2 && strcmp(argv[1], "text") == 0) {
+        const ferghuul_text_answer whole = text(sizeof output);
+        return whole.number != FERGHUUL_ACCEPTED || fwrite(output, 1, whole.written, stdout) != whole.written;
+    }
+    if (!is_text()) failed = 1;
     for (identified = 0; identified < 3; identified++) {
         const size_t fast = listed(FERGHUUL_FAST, identified > 0, identified > 1);
         const size_t knuth = listed(FERGHUUL_KNUTH, identified > 0, identified > 1);

@@ -1,4 +1,5 @@
-/* Every packing of a tray, page by page. What the call answers is proved for every input; docs/INTERFACE.md says it in full.
+/* Every packing of a tray, page by page; and the tray as a text for Knuth's DLX1. What the calls answer is proved for every input;
+   docs/INTERFACE.md says it in full.
    C99 and C++17, x86-64. Link crates/ferghuul/out/libferghuul.a, which `rt lib` in crates/ferghuul writes. */
 #ifndef FERGHUUL_H
 #define FERGHUUL_H
@@ -13,6 +14,7 @@ extern "C" {
 
 #define FERGHUUL_WORK 8192u   /* words of `work` that a call needs */
 #define FERGHUUL_LINKS 32768u /* numbers of `links` that a call of FERGHUUL_KNUTH needs */
+#define FERGHUUL_TEXT 663552u /* bytes of `output` that hold any text for DLX1 */
 #define FERGHUUL_UNFILLED 255u /* both bytes of an answer where the board is unfilled */
 
 /* The engines. */
@@ -33,7 +35,9 @@ enum {
     FERGHUUL_WORK_TOO_SHORT = 12,       /* below FERGHUUL_WORK */
     FERGHUUL_LINKS_TOO_SHORT = 13,      /* below FERGHUUL_LINKS, with FERGHUUL_KNUTH */
     FERGHUUL_TOO_MANY_PLACEMENTS = 14,  /* more than 1,024 of all kinds together */
-    FERGHUUL_TOO_MANY_LINKS = 15        /* more than 4,096, with FERGHUUL_KNUTH */
+    FERGHUUL_TOO_MANY_LINKS = 15,       /* more than 4,096, with FERGHUUL_KNUTH */
+    FERGHUUL_NO_TEXT = 17,              /* of a text alone: a kind has more than one copy, or the board no filled cell */
+    FERGHUUL_OUTPUT_TOO_SHORT = 18      /* of a text alone: for the whole of it */
 };
 
 /* A piece, or the board: its sides; how many copies, and its wood (neither is read of the board); where its cells begin in `bytes`. */
@@ -51,6 +55,12 @@ typedef struct {
     bool further, missing;
 } ferghuul_answer;
 
+/* number: 0, or why the call was refused. written: how many bytes were written: the whole text, or 0 where it is refused. */
+typedef struct {
+    uint32_t number;
+    size_t written;
+} ferghuul_text_answer;
+
 /* A page of the list of packings: from entry `skip` on, or, where `behind` is true, from behind the entry whose bytes are `last`. An answer is
    two bytes (piece, copy) for each cell of the board's box. `answers`, `work` and `links` must not overlap each other or what is only read. */
 ferghuul_answer ferghuul_page(
@@ -61,6 +71,15 @@ ferghuul_answer ferghuul_page(
     uint8_t *answers, size_t answer_bytes,
     uint64_t *work, size_t words,
     uint16_t *links, size_t numbers);
+
+/* The text that Knuth's DLX1 reads, at the start of `output`, with no byte 0 behind it. Its first line names the filled cells, b0, b1 and so
+   on, then a bar and the kinds that have copies, p and the kind's number; each following line is one placement, its kind and its cells. Its exact
+   covers are the packings that are listed where nothing is identified. `output` and `work` must not overlap each other or what is only read. */
+ferghuul_text_answer ferghuul_dlx1(
+    const ferghuul_record *pieces, size_t piece_count, ferghuul_record board,
+    const uint8_t *bytes, size_t byte_count,
+    uint8_t *output, size_t output_bytes,
+    uint64_t *work, size_t words);
 
 #ifdef __cplusplus
 }

@@ -1,17 +1,20 @@
 #!/bin/sh
-# Runs every example of docs/TRAYS.md and compares what comes out with what the page says: by the model, and by the built pack
-# (../crates/pack/out/pack), where there is one. Exit status 1 if anything differs.
+# Runs every example of docs/TRAYS.md and compares what comes out with what the page says: by the model, and by the built programs
+# (../crates/pack/out/pack, ../crates/dlx1/out/dlx1), where they are there. Exit status 1 if anything differs.
 cd "$(dirname "$0")" || exit 1
 pack=../crates/pack/out/pack
 [ -x $pack ] || pack=
+dlx1=../crates/dlx1/out/dlx1
+[ -x $dlx1 ] || dlx1=
 parts=$(mktemp -d) || exit 1
 trap 'rm -r "$parts"' EXIT
 
-# Example N's blocks go to N.tray, and to N.all (all that is printed) or N.last (the last line of it).
+# Example N's blocks go to N.tray, and to N.all (all that is printed), N.last (the last line of it) or N.dlx1 (all that dlx1 prints).
 sed 's/⇥/\t/g' ../docs/TRAYS.md | awk -v parts="$parts" '
     /^Type:$/ { number++; part = "tray"; next }
     /^Printed:$/ { part = "all"; next }
     /^The last line:$/ { part = "last"; next }
+    /^Printed by `dlx1`:$/ { part = "dlx1"; next }
     /^    / && part != "" { print substr($0, 5) > (parts "/" number "." part); next }
     /[^ ]/ { part = "" }
 '
@@ -27,17 +30,24 @@ differs() {
 held() {
     if [ -f "$parts/$2.all" ]; then
         cmp -s "$parts/ran" "$parts/$2.all" || differs "$1" "$2"
+    elif [ -f "$parts/$2.dlx1" ]; then
+        cmp -s "$parts/ran" "$parts/$2.dlx1" || differs "$1" "$2"
     else
         tail -n 1 "$parts/ran" | cmp -s - "$parts/$2.last" || differs "$1" "$2"
     fi
 }
 for tray in "$parts"/*.tray; do
     number=$(basename "$tray" .tray)
-    python3 model.py <"$tray" >"$parts/ran"
+    if [ -f "$parts/$number.dlx1" ]; then
+        words=dlx1 program=$dlx1
+    else
+        words='' program=$pack
+    fi
+    python3 model.py $words <"$tray" >"$parts/ran"
     held model "$number"
-    if [ -n "$pack" ]; then
-        $pack <"$tray" >"$parts/ran"
-        held pack "$number"
+    if [ -n "$program" ]; then
+        $program <"$tray" >"$parts/ran"
+        held "$program" "$number"
     fi
     run=$((run + 1))
 done
@@ -47,5 +57,5 @@ if [ "$run" != "$(grep -c '^Type:$' ../docs/TRAYS.md)" ] || [ "$run" = 0 ]; then
     echo "DIFFERS: $run examples of docs/TRAYS.md"
     failed=1
 fi
-[ $failed = 0 ] && echo "examples: all $run as the page says${pack:+, pack too}"
+[ $failed = 0 ] && echo "examples: all $run as the page says${pack:+, pack too}${dlx1:+, dlx1 too}"
 exit $failed

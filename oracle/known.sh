@@ -3,12 +3,15 @@
 # trays, with the original and with the model. Exit status 1 on any difference.
 #   known.sh        about a minute
 #   known.sh long   also Conway's 5 by 5 by 5, about a minute more
-# The built pack (../crates/pack/out/pack), where there is one, is held to the same.
+# The built pack (../crates/pack/out/pack) and dlx1 (../crates/dlx1/out/dlx1), where there
+# are any, are held to the same.
 cd "$(dirname "$0")" || exit 1
 cargo build --release --offline --quiet || exit 1
 oracle=target/release/oracle
 pack=../crates/pack/out/pack
 [ -x $pack ] || pack=
+dlx1=../crates/dlx1/out/dlx1
+[ -x $dlx1 ] || dlx1=
 failed=0
 got=$(mktemp) || exit 1
 trap 'rm -f "$got"' EXIT
@@ -128,6 +131,46 @@ page() {
     lines=$(python3 model.py page "$2" "$3" <"$1")
     [ "$lines" = "$(printf "$4")" ] || differs "page $2 $3 of $1: $lines"
 }
+
+# text_of TRAY LINES BYTES COVERS: the text for DLX1, and what covers.py finds in it. The
+# original's rows are this text too, where each kind has one copy.
+text_of() {
+    tray=../trays/$1.tray
+    python3 model.py dlx1 <"$tray" >"$got"
+    numbers=$(wc -lc <"$got" | tr -s ' ' | sed 's/^ //')
+    [ "$numbers $(./covers.py <"$got")" = "$2 $3 $4" ] || differs "$1 (text): $numbers"
+    target/release/rows <"$tray" | cmp -s - "$got" || differs "$1 (the original's rows)"
+    [ -z "$dlx1" ] || $dlx1 <"$tray" | cmp -s - "$got" || differs "$1 (dlx1)"
+}
+
+text_of listing 6 53 2
+text_of soma 689 11808 11520
+
+# text TRAY EXPECTED: the text for DLX1 of a tray of these lines behind the first
+text() {
+    printf 'config\tfast\tnone\n%b' "$1" | python3 model.py dlx1 >"$got"
+    printf "$2" | cmp -s - "$got" || differs "text of $1"
+    [ -z "$dlx1" ] || printf 'config\tknuth\tturned\n%b' "$1" | $dlx1 | cmp -s - "$got" ||
+        differs "text of $1 (dlx1)"
+}
+
+text 'board\t1\t1\t2\t11\npiece\t0\t1\t1\t1\t1\npiece\t1\t1\t1\t2\t11\n' 'b0 b1 | p1\np1 b0 b1\n'
+text 'board\t1\t1\t1\t1\npiece\t0\t1\t1\t1\t1\n' 'b0\n'
+text 'board\t1\t1\t1\t1\npiece\t1\t1\t1\t2\t11\n' 'b0 | p0\n'
+text 'board\t1\t1\t2\t11\n' 'b0 b1\n'
+text 'board\t1\t2\t2\t1111\npiece\t1\t1\t2\t2\t1111\n' 'b0 b1 b2 b3 | p0\np0 b0 b2 b1 b3\n'
+text 'board\t1\t1\t2\t11\npiece\t2\t1\t1\t2\t11\n' 'refused\t17\n'
+text 'board\t1\t1\t2\t11\npiece\t1\t1\t1\t2\t11\npiece\t1\t1\t2\t1\t11\n' 'refused\t17\n'
+text 'board\t1\t1\t2\t00\n' 'refused\t17\n'
+text 'board\t1\t1\t9\t111111111\n' 'refused\t3\n'
+text 'board\t1\t1\t2\t1\n' 'refused\t16\n'
+
+# Texts at which DLX1 stops, or of which it passes an option over; covers.py stops too.
+for bad in '' 'b0' '| p0\n' 'b0 b0\n' 'b0 | b0\n' 'b0 b12345678\n' 'b0 b:1\n' 'b0 | | p0\n' \
+    'b0 | p0\np0 b1\n' 'b0 b1 | p0\np0 b1 b1\n' 'b0 | p0\np0\n' 'b0 | p0\np0 b0'; do
+    ! printf "$bad" | ./covers.py >"$got" 2>&1 || differs "covers.py takes $bad"
+done
+[ "$(printf 'b0 b2345678 | p\n\n| none\np b0\nb2345678\nb0\n' | ./covers.py)" = 2 ] || differs "covers.py"
 
 two=../trays/listing.tray
 page $two 0 0 "written\t0\nfollows\tyes"

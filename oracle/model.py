@@ -5,9 +5,11 @@ engines' orders, answers and pages. No piece lent is a list like any other
 (document 02, A1): no kinds and no placements, and no refusal 1. A piece has a
 wood (A5): kinds and mirror partners are of one wood. Empty outer layers carry no
 meaning (A4): they are taken off pieces and board behind refusals 3 to 6, answers
-are of the box that was lent, and there is no refusal 7.
+are of the box that was lent, and there is no refusal 7. The text that Knuth's own
+DLX1 reads (A2) is made of the same placements.
 
     model.py < tray                      what `pack` prints
+    model.py dlx1 < tray                 what `dlx1` prints
     model.py page SKIP CAPACITY < tray   the entries of one page, how many were
                                          written, whether a further one follows
     model.py room SKIP BYTES < tray      the same, for so many bytes lent for answers
@@ -196,13 +198,15 @@ def without_layer(grid, axis, layer):
 # ------------------------------------------------------------- a problem
 
 class Placement:
-    """One placement: its kind's number, (p, j), and its cells as a set of bits,
-    bit p for the filled board cell with scan number p."""
+    """One placement: its kind's number, (p, j), its cells as scan numbers of filled
+    board cells, in the order of the turned grid, x slowest, and the same as a set of
+    bits, bit p for scan number p."""
 
-    def __init__(self, kind, place, covers):
+    def __init__(self, kind, place, cells):
         self.kind = kind
         self.place = place
-        self.covers = covers
+        self.cells = cells
+        self.covers = sum(1 << p for p in cells)
 
 
 class Problem:
@@ -253,21 +257,16 @@ class Problem:
             for p, cell in enumerate(self.scanned):
                 j = 0
                 for cells, origin in zip(grids, origins):
-                    covers = self.covered(cells, origin, cell)
-                    if covers is not None:
-                        self.placements.append(Placement(number, (p, j), covers))
+                    covered = self.covered(cells, origin, cell)
+                    if None not in covered:
+                        self.placements.append(Placement(number, (p, j), covered))
                         j += 1
 
     def covered(self, cells, origin, target):
-        """The board cells covered with the origin on the target, None if it does not fit."""
-        shift = [t - o for t, o in zip(target, origin)]
-        covers = 0
-        for x, y, z in cells:
-            p = self.scan_number.get((x + shift[0], y + shift[1], z + shift[2]))
-            if p is None:
-                return None
-            covers |= 1 << p
-        return covers
+        """Where the cells lie with the origin on the target, one by one: a scan number,
+        or None where no filled board cell is."""
+        dx, dy, dz = (t - o for t, o in zip(target, origin))
+        return [self.scan_number.get((x + dx, y + dy, z + dz)) for x, y, z in cells]
 
     def kind_cells(self, kind):
         grid, _ = self.kinds[kind]
@@ -431,6 +430,22 @@ class Problem:
         return tuple(at + by for at, by in zip(cell, self.corner))
 
 
+# ------------------------------------------------------ the text for DLX1
+
+def dlx1_text(problem):
+    """The filled cells by scan number, then a bar and the kinds that have copies (the bar
+    is left out where none has); then a line for each placement of a kind that has copies:
+    its kind, and its cells in the order of the turned grid."""
+    kinds = ["p%d" % kind for kind, copies in enumerate(problem.copies) if copies]
+    cells = ["b%d" % p for p in range(len(problem.scanned))]
+    lines = [cells + (["|"] + kinds if kinds else [])]
+    for row in problem.rows():
+        lines.append(["p%d" % row.kind] + ["b%d" % p for p in row.cells])
+    return "".join(" ".join(items) + "\n" for items in lines)
+
+
+# --------------------------------------------------------------- a page
+
 def capacity_of(lent_sides, room):
     """How many whole answers fit in so many bytes: two for each cell of the lent box."""
     a, b, c = lent_sides
@@ -477,10 +492,7 @@ def refusal(engine, turned, mirrored, board, pieces, cells, work_words, link_num
         return 12
     if engine == "knuth" and link_numbers < LINK_NUMBERS:
         return 13
-    problem = Problem(
-        grids[0],
-        [(count, grid, wood) for (_, count, wood, _), grid in zip(pieces, grids[1:])],
-    )
+    problem = lent_problem(board, pieces, cells)
     if len(problem.placements) > 1024:
         return 14
     if engine == "knuth" and problem.links() > 4096:
@@ -488,16 +500,45 @@ def refusal(engine, turned, mirrored, board, pieces, cells, work_words, link_num
     return None
 
 
-def refusal_of_tray(engine, identified, board, pieces):
-    """The refusal of a well-formed file, whose slices are always big enough."""
+def text_refusal(board, pieces, cells, work_words, room):
+    """The refusal of a call for the text, with so many bytes of room, None if it is
+    accepted: 2 to 9, 12 and 14 as for a listing, which has no engine to ask for and
+    nothing to identify here; then 17 and 18."""
+    number = refusal("fast", False, False, board, pieces, cells, work_words, 0)
+    if number is not None:
+        return number
+    problem = lent_problem(board, pieces, cells)
+    if any(len(copies) > 1 for copies in problem.copies) or not problem.scanned:
+        return 17
+    if room < len(dlx1_text(problem)):
+        return 18
+    return None
+
+
+def lent_problem(board, pieces, cells):
+    """The problem of records whose grids can be read, and no piece of which is empty."""
+    (_, grid, _), *lent = (
+        (count, (sides, tuple(cells[start:start + sides[0] * sides[1] * sides[2]])), wood)
+        for sides, count, wood, start in [board] + pieces
+    )
+    return Problem(grid, lent)
+
+
+def records_of(board, pieces):
+    """The records and the bytes of a well-formed file, each grid's cells behind the last's."""
     cells = []
     records = []
     for count, (sides, grid_cells), wood in [(0, board, 0)] + pieces:
         records.append((sides, count, wood, len(cells)))
         cells += grid_cells
+    return records[0], records[1:], cells
+
+
+def refusal_of_tray(engine, identified, board, pieces):
+    """The refusal of a well-formed file, whose slices are always big enough."""
     return refusal(
         engine, identified != "none", identified == "mirrored",
-        records[0], records[1:], cells, WORK_WORDS, LINK_NUMBERS,
+        *records_of(board, pieces), WORK_WORDS, LINK_NUMBERS,
     )
 
 
@@ -533,6 +574,19 @@ def listing(file, problems=None):
         return "refused\t%d\n" % number
     lines = [print_entry(number, answer) for number, answer in enumerate(entries)]
     return "".join(lines) + "packings\t%d\n" % len(entries)
+
+
+def text_printed(file):
+    """What `dlx1` prints for a file: its engine and identification decide nothing, and
+    there is always room for the text."""
+    try:
+        _, _, board, pieces = parse(file)
+    except Malformed:
+        return "refused\t%d\n" % MALFORMED
+    number = text_refusal(*records_of(board, pieces), WORK_WORDS, float("inf"))
+    if number is not None:
+        return "refused\t%d\n" % number
+    return dlx1_text(Problem(board, pieces))
 
 
 def print_page(file, skip, capacity):
@@ -573,6 +627,8 @@ def main():
         text = print_room(file, int(sys.argv[2]), int(sys.argv[3]))
     elif sys.argv[1:2] == ["limits"]:
         text = print_limits(file)
+    elif sys.argv[1:2] == ["dlx1"]:
+        text = text_printed(file)
     else:
         text = listing(file)
     sys.stdout.write(text)

@@ -1,11 +1,14 @@
 #!/usr/bin/env python3
 """Has the prover compute crates/definitions on small random trays and compares
-the lists, pages and refusals with the original's.
+the lists, pages and refusals with the original's, and the texts for DLX1 with the
+model's.
 
     prover.py SEED COUNT
 
 COUNT trays, each under both engines and the three identifications, a third of
-the calls with a random page; then REFUSED calls at or beyond the limits. What
+the calls with a random page; the text of each as it is lent, and with the counts
+thinned, since two copies of a kind are refused; then REFUSED calls at or beyond the
+limits, and as many for texts. What
 is expected comes from the original (`oracle`; `raw refusal` for what only a
 call can ask for), and from model.py where the original panics (as it does where
 no piece is lent), where the order is document 01's alone (knuth, a kind without
@@ -47,6 +50,8 @@ BIGGEST = 2**64 - 1
 STEPS_A_TABLE = 12e6
 STEPS_A_CRATE = 600e6
 STEPS_A_LENT_CELL = 6e3
+STEPS_OF_A_TEXT = 5e5
+STEPS_A_BYTE = 1e3
 
 
 # ------------------------------------------------------------ random trays
@@ -535,6 +540,60 @@ def page_lines(rng, problem):
             yield line.tell(file, expected, source)
 
 
+def thinned(rng, problem):
+    """The pieces as they are lent, each kind with one copy, or now and then with none."""
+    lent = problem.lent_pieces
+    kinds = [(kind_of(own), wood) for _, own, wood in problem.pieces]
+    of_kind = [[at for at, other in enumerate(kinds) if other == kind] for kind in set(kinds)]
+    chosen = {rng.choice(own) for own in sorted(of_kind) if rng.random() < 0.85}
+    return [(int(at in chosen), grid, wood) for at, (_, grid, wood) in enumerate(lent)]
+
+
+def text_lines(rng, problem):
+    """Two calls for the text of a tray: as it is lent, and thinned, with so much room
+    that it is just enough, more than enough, or too little."""
+    for pieces in (problem.lent_pieces, thinned(rng, problem)):
+        board = problem.lent_board
+        lent, starts = layout(rng, [board] + [grid for _, grid, _ in pieces])
+        text = model.dlx1_text(model.Problem(board, pieces))
+        size = len(text)
+        room = rng.choice((
+            size, size, size, size + rng.randint(1, 40), size - 1, rng.randrange(size),
+        ))
+        words = 8192 + rng.choice((0, 0, 3))
+        spent = steps(problem, "none") + STEPS_OF_A_TEXT + STEPS_A_BYTE * size
+        yield text_line(rng, board, pieces, lent, starts, room, words, spent)
+
+
+def text_line(rng, board, pieces, lent, starts, room, words, spent):
+    """A line for a call for a text."""
+    records = [
+        (grid[0], count, wood, start)
+        for (count, grid, wood), start in zip([(0, board, rng.choice(WOODS))] + pieces, starts)
+    ]
+    # Of what is lent, which is not what was drawn where a start was moved.
+    as_lent = records[0], records[1:], lent
+    number = model.text_refusal(*as_lent, words, room) or 0
+    text = "" if number else model.dlx1_text(model.lent_problem(*as_lent))
+    call = "text_call (%s) (%s) (%s) %d %d" % (
+        record(*records[0]), listed(record(*one) for one in records[1:]), bytes_term(lent),
+        room, words,
+    )
+    held_to = '%d (text "%s")' % (number, escaped(text))
+    line = Line("texts", call, held_to, spent)
+    line.number = number
+    line.text = text
+    file = file_of("fast", "none", board, pieces) + "cells %s\nstarts %s\nroom %d, work %d\n" % (
+        "".join(map(str, lent)), starts, room, words
+    )
+    expected = "refusal %d" % number if number else "%d bytes:\n%s" % (len(text), text)
+    return line.tell(file, expected, "model")
+
+
+def escaped(text):
+    return text.replace("\n", "\\n")
+
+
 def shown_page(answers, further):
     def cells(answer):
         pairs = zip(answer[::2], answer[1::2])
@@ -550,6 +609,8 @@ def shown_page(answers, further):
 # empty outer layers, which are none.
 LAYERS = "layers"
 AIMS = (2, 3, 4, 5, 6, LAYERS, 8, 9, 10, 11, 12, 13)
+# A call for a text takes no engine, no identification and no links.
+TEXT_AIMS = (2, 3, 4, 5, 6, LAYERS, 8, 9, 12)
 
 
 def around(rng, limit):
@@ -631,22 +692,45 @@ def spoil(rng, made, number):
         made["links"] = rng.choice((32767, 32767, 0, 4096, 40000))
 
 
+def lent_in_a_row(rng, grids, spoils):
+    """The grids' cells one behind the other, and where each begins, with what is wrong."""
+    lent, starts = [], []
+    for _, cells in grids:
+        starts.append(len(lent))
+        lent += cells
+    if 5 in spoils and lent:
+        lent[rng.randrange(len(lent))] = rng.choice((2, 2, 3, 9))
+    if 4 in spoils:
+        at = rng.randrange(len(grids))
+        last = max(0, len(lent) - volume(grids[at][0]))
+        starts[at] = rng.choice((last, last + 1, last + 1, last + 2, len(lent), BIGGEST))
+    return lent, starts
+
+
+def is_large(aim, board, pieces, lent):
+    return sum(board[1]) > 8 or len(pieces) > 4 or len(lent) > (90 if aim == LAYERS else 40)
+
+
+def text_refusal_line(rng, aim):
+    """A line for a random call for a text, None where it is large and not refused before
+    its placements are counted."""
+    made = random_refusal(rng, aim)
+    board, pieces = made["board"], made["pieces"]
+    lent, starts = lent_in_a_row(rng, [board] + [grid for _, grid, _ in pieces], made["spoils"])
+    room = rng.choice((0, 8, 16, 24, 40, 64, 400))
+    spent = 1e6 + STEPS_OF_A_TEXT + 1e3 * len(lent)
+    line = text_line(rng, board, pieces, lent, starts, room, made["work"], spent)
+    if line.number in (0, 14, 17, 18) and is_large(aim, board, pieces, lent):
+        return None
+    return line
+
+
 def refusal_line(rng, aim):
     """A line for a random call, None where it is large and its placements are counted."""
     made = random_refusal(rng, aim)
     board, pieces = made["board"], made["pieces"]
     grids = [board] + [grid for _, grid, _ in pieces]
-    lent, starts = [], []
-    for sides, cells in grids:
-        starts.append(len(lent))
-        lent += cells
-    if 5 in made["spoils"] and lent:
-        lent[rng.randrange(len(lent))] = rng.choice((2, 2, 3, 9))
-    if 4 in made["spoils"]:
-        at = rng.randrange(len(grids))
-        last = max(0, len(lent) - volume(grids[at][0]))
-        starts[at] = rng.choice((last, last + 1, last + 1, last + 2, len(lent), BIGGEST))
-
+    lent, starts = lent_in_a_row(rng, grids, made["spoils"])
     identified = {
         (False, False): "none", (True, False): "turned",
         (True, True): "mirrored", (False, True): "mirrored_only",
@@ -671,8 +755,7 @@ def refusal_line(rng, aim):
             "".join(map(str, lent)), starts, made["work"], made["links"]
         )
     # Behind 13 the placements are counted.
-    is_large = sum(board[1]) > 8 or len(pieces) > 4 or len(lent) > (90 if aim == LAYERS else 40)
-    if number in (0, 14, 15) and is_large:
+    if number in (0, 14, 15) and is_large(aim, board, pieces, lent):
         return None
     call = "call %s %s %s (%s) (%s) (%s) 0 0 %d %d" % (
         ENGINE_NAMES[made["engine"]],
@@ -705,8 +788,10 @@ IDENTIFIED_TERMS = {
 SPEC = """\
 use Rattle.std.specs.Prelude.{ℕ, zero, suc, ◌/◌, ◌%◌, Bool, true, false, not, cond, ◌&&◌, List, [], ◌∷◌, ◌++◌, map, eqb, length, drop, replicate}
 use Rattle.lists.specs.Lists.{same, joined, each}
+use Rattle.definitions.specs.Texts.{text}
 use Rattle.definitions.specs.Refusals.{Call, refusal}
-use Rattle.definitions.specs.Outcomes.{Outcome, outcome}
+use Rattle.definitions.specs.Outcomes.{Outcome, cleared, outcome}
+use Rattle.definitions.specs.TextCalls.{TextCall, TextOutcome, text_outcome}
 use Rattle.definitions.specs.declared.Record.{Record}
 use Rattle.definitions.specs.declared.SolverKind.{SolverKind}
 use Rattle.definitions.specs.declared.SolverKind.TheVariants.{Auto, Naive, Fast, KnuthAlgorithm}
@@ -762,6 +847,30 @@ gives l n = record { lent = l; number = n }
 unfoldable pub is_given : Given → Bool
 is_given x = eqb (refusal x.lent) x.number
 
+abbrev pub text_call : Record → List Record → List ℕ → ℕ → ℕ → TextCall
+text_call b ps bytes room words = record { pieces = ps; board = b; bytes = bytes; output = replicate room 7; work = replicate words 7 }
+
+pub record TextCase : Type 0 where
+  pub lender : TextCall
+  pub number : ℕ
+  pub text : List ℕ
+
+abbrev pub text_case : TextCall → ℕ → List ℕ → TextCase
+text_case l n text = record { lender = l; number = n; text = text }
+
+unfoldable pub is_text_case : TextCase → Bool
+is_text_case x =
+    let o = text_outcome x.lender in
+    let n = length x.text in
+    let work = x.lender.work in
+    eqb o.number x.number && (eqb o.written n && (same o.output (x.text ++ drop n x.lender.output)
+    && same o.work (cond (eqb x.number 0) (cleared 8192 work) work)))
+
+abbrev pub alike : List ℕ → List ℕ → ℕ
+alike [] ns = 0
+alike (m ∷ ms) [] = 0
+alike (m ∷ ms) (n ∷ ns) = cond (eqb m n) (suc (alike ms ns)) 0
+
 abbrev pub bit : ℕ → ℕ → Bool
 bit n power = eqb (n / power % 2) 1
 
@@ -773,7 +882,11 @@ abbrev pub place_in : List (List ℕ) → List ℕ → ℕ
 place_in [] e = 0
 place_in (c ∷ cs) e = let n = place_in cs e in cond (same c e) 0 (suc n)
 """
-NAMES_OF_LINES = {"pages": ("page", "is_page", "Line"), "refusals": ("gives", "is_given", "Given")}
+NAMES_OF_LINES = {
+    "pages": ("page", "is_page", "Line"),
+    "refusals": ("gives", "is_given", "Given"),
+    "texts": ("text_case", "is_text_case", "TextCase"),
+}
 
 
 def record(sides, count, wood, start):
@@ -789,15 +902,16 @@ def bytes_term(lent):
 
 
 def computed_names(specs):
-    """The names that the prover has to unfold, by module: those of the modules
-    that Outcomes uses, and of theirs."""
-    names, ahead = {}, ["Outcomes"]
+    """The names that the prover has to unfold, by module: those of Outcomes and
+    TextCalls, of the modules that these use, and of theirs. Of Dlx1Covers, which says
+    what is claimed of a text, nothing is computed."""
+    names, ahead = {"Dlx1Covers": []}, ["Outcomes", "TextCalls"]
     for module in ahead:
         with open(os.path.join(specs, module + ".antt"), encoding="utf-8") as file:
             text = file.read()
         names[module] = re.findall(r"^unfoldable pub (\S+) :", text, re.M)
         used = re.findall(r"^use Rattle\.definitions\.specs\.(\w+)\.\{", text, re.M)
-        ahead += [name for name in dict.fromkeys(used) if name not in ahead]
+        ahead += [name for name in dict.fromkeys(used) if name not in ahead + list(names)]
     every = [name for own in names.values() for name in own]
     assert len(every) == len(set(every)), "two definitions share a name"
     return {module: own for module, own in names.items() if own}
@@ -843,6 +957,7 @@ class Prover:
         laws = [
             "use Rattle.std.proofs.Common.{ℕ, Bool, true, false, List, [], ◌∷◌, T, eqb, get_or, take, drop}\n",
             "use Rattle.lists.specs.Lists.{all}\n",
+            "use Rattle.definitions.specs.Texts.{text}\n",
             "use Rattle.definitions.specs.declared.SolverKind.TheVariants."
             "{Auto, Naive, Fast, KnuthAlgorithm}\n",
         ]
@@ -851,7 +966,8 @@ class Prover:
             for module, names in self.names.items()
         ]
         laws.append("use Rattle.sample.specs.Sample.{%s}\n" % ", ".join(
-            "digits at call is_page is_given bit told place_in".split() + own.split()
+            "digits at call text_call is_page is_given is_text_case alike bit told place_in".split()
+            + own.split()
         ))
         unfolded = " ".join(name for names in self.names.values() for name in names)
         for name, proposition, beside in theorems:
@@ -912,6 +1028,8 @@ class Prover:
         """What the definitions give for a line's call, in words."""
         if line.table == "refusals":
             return "refusal %d" % self.read([("refusal (%s)" % line.call, (1, 2, 4, 8))])[0]
+        if line.table == "texts":
+            return self.text_answer_to(line)
         outcome = "(outcome (%s))" % line.call
         number, written, further = self.read([
             (outcome + ".number", (1, 2, 4, 8)),
@@ -935,6 +1053,19 @@ class Prover:
             for at, place in enumerate(places)
         ]
         return shown_page(answers, further)
+
+
+    def text_answer_to(self, line):
+        outcome = "(text_outcome (%s))" % line.call
+        number, written, alike = self.read([
+            (outcome + ".number", (1, 2, 4, 8, 16)),
+            (outcome + ".written", tuple(2**power for power in range(12))),
+            ('alike %s.output (text "%s")' % (outcome, escaped(line.text)),
+             tuple(2**power for power in range(12))),
+        ])
+        if number:
+            return "refusal %d" % number
+        return "%d bytes, the first %d as expected" % (written, alike)
 
 
 def in_tables(lines):
@@ -983,13 +1114,15 @@ def compare(prover, lines):
 def main():
     seed, count = map(int, sys.argv[1:])
     started = time.time()
-    rng = random.Random(seed)
+    # Texts have random numbers of their own: a seed's trays and pages are what they were.
+    rng, text_rng = random.Random(seed), random.Random("texts %d" % seed)
     covered = collections.Counter()
-    pages = []
+    pages, texts = [], []
     for number in range(count):
         problem = random_tray(rng, THEMES[number % len(THEMES)])
         covered.update(corners(problem))
         pages += page_lines(rng, problem)
+        texts += text_lines(text_rng, problem)
     refusals = []
     while len(refusals) < REFUSED:
         aim = AIMS[len(refusals) % len(AIMS)]
@@ -1001,11 +1134,18 @@ def main():
                 covered["refusal %d, no piece" % line.number] += 1
             if line.has_layers:
                 covered["refusal %d, empty outer layers" % line.number] += 1
+    text_refusals = []
+    while len(text_refusals) < REFUSED:
+        line = text_refusal_line(text_rng, TEXT_AIMS[len(text_refusals) % len(TEXT_AIMS)])
+        if line:
+            text_refusals.append(line)
+    for line in texts + text_refusals:
+        covered["text, refusal %d" % line.number if line.number else "text"] += 1
 
     with tempfile.TemporaryDirectory() as folder:
         prover = Prover(folder)
         differ, uncomputed = [], []
-        for lines in (pages, refusals):
+        for lines in (pages, refusals, texts, text_refusals):
             wrong, unknown = compare(prover, lines)
             differ += wrong
             uncomputed += unknown
@@ -1020,10 +1160,11 @@ def main():
     print(
         "seed %d, %d trays, %d calls (expected from the original %d, from the model %d), "
         "%d calls at the limits (from the original's harness %d, from the model %d), "
+        "%d calls for texts and %d at the limits (from the model), "
         "%d seconds, %d not computed, %d differences" % (
             seed, count, len(pages), sources["pages", "original"], sources["pages", "model"],
             len(refusals), sources["refusals", "original's harness"], sources["refusals", "model"],
-            time.time() - started, len(uncomputed), len(differ),
+            len(texts), len(text_refusals), time.time() - started, len(uncomputed), len(differ),
         )
     )
     sys.exit(1 if differ or uncomputed else 0)

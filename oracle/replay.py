@@ -6,7 +6,7 @@
 
 A call is: how many pieces, the engine (0 to 3), turned, mirrored, words of the work
 slice, numbers of the links slice, what is shown (0 its row system, 1 its pages too,
-2 its pages alone); for the board, then
+2 its pages alone, 3 neither; its text for DLX1 is always shown); for the board, then
 for each of the first 16 pieces, three sides, a count, a wood and the place where its
 cells begin; the lent bytes, a digit each. The board's count and wood are not read.
 A row system is that of the tray without empty outer layers; its places, in the line
@@ -23,7 +23,8 @@ from pathlib import Path
 import model
 
 FAST, KNUTH = 2, 3
-MOST_TEXT = 65536  # what the program reads of its input
+MOST_TEXT = 65536  # bytes of the stored calls
+ROOM = 4096  # what the program lends for a text
 
 
 # ------------------------------------------------------------- the model
@@ -104,11 +105,14 @@ def problem_of(records, data):
 
 
 def show(call):
+    lines = row_system(call) if call[6] < 2 else []
+    return lines + pages(call) + dlx_text(call)
+
+
+def row_system(call):
     number = refusal(call)
-    if call[6] == 2:
-        return pages(call)
     if number:
-        return [f"refused {number}"] + pages(call)
+        return [f"refused {number}"]
     records, data = call[7], call[8]
     problem = problem_of(records, data)
     size, kinds = len(problem.scanned), len(problem.kinds)
@@ -143,13 +147,13 @@ def show(call):
     for number, row in rows[:12] + (rows[-1:] if len(rows) > 12 else []):
         cells = [cell for cell in range(128) if row.covers >> cell & 1]
         lines.append(words("row", [number, row.kind, *row.place, *cells]))
-    return lines + pages(call)
+    return lines
 
 
 def pages(call):
     """The pages of both engines' lists: three entries at a time, at most 20 times; then
     room for none, from the end on, and at the largest skip."""
-    if not call[6]:
+    if call[6] not in (1, 2):
         return []
     return engine_pages("fast", changed(call, engine=FAST)) + engine_pages("knuth", changed(call, engine=KNUTH))
 
@@ -160,16 +164,41 @@ def engine_pages(engine, call):
         return [f"{engine}: refused {number}"]
     problem = problem_of(call[7], call[8])
     entries = [answer_bytes(answer) for answer in problem.list(engine, identified(call))]
-    total = 0
-    for entry in entries[:60]:
-        for byte in entry:
-            total = (total * 257 + byte + 1) % 4294967291
+    total = sum_of(byte for entry in entries[:60] for byte in entry)
     more = " further" if len(entries) > 60 else ""
     lines = [f"{engine}: listed {min(60, len(entries))}{more} sum {total}"]
     lines.append("room for none 0" + (" further" if entries else ""))
     if len(entries) <= 60:
         lines += ["past the end 0", "at the last skip 0"]
     return lines
+
+
+def dlx_text(call):
+    """The text for DLX1, for which there is ROOM; then with room for it alone, and with a
+    byte less."""
+    number = text_refusal(call, ROOM)
+    if number:
+        return [f"text refused {number}"]
+    whole = model.dlx1_text(problem_of(call[7], call[8])).encode()
+    told = f"{len(whole)} sum {sum_of(whole)}"
+    exact, less = (text_refusal(call, room) for room in (len(whole), len(whole) - 1))
+    assert (exact, less) == (None, 18)
+    return [f"text {told}", f"room for it alone {told}", f"a byte less refused {less}"]
+
+
+def text_refusal(call, room):
+    if call[0] > 16:
+        # of the records the first 16 are stored
+        return 2
+    records = [((a, b, c), count, wood, start) for a, b, c, count, wood, start in call[7]]
+    return model.text_refusal(records[0], records[1:], call[8], call[4], room)
+
+
+def sum_of(bytes):
+    total = 0
+    for byte in bytes:
+        total = (total * 257 + byte + 1) % 4294967291
+    return total
 
 
 def answer_bytes(answer):
@@ -317,7 +346,8 @@ def at_limits():
     # 128 cells: 128 placements of M; full boxes of other sides add the rest
     board = full(2, 8, 8)
     boxes = [full(a, b, c) for a in range(1, 3) for b in range(a, 9) for c in range(b, 9)]
-    for aim, measure, copies in ((1024, placements, 1), (1025, placements, 1), (1024, placements, 0), (1025, placements, 0), (4096, links, 1), (4097, links, 1)):
+    aims = (1024, placements, 1), (1025, placements, 1), (1024, placements, 0), (1025, placements, 0), (4096, links, 1), (4097, links, 1)
+    for aim, measure, copies in aims:
         found = search(board, boxes, aim, measure, copies)
         assert found, (aim, copies)
         yield lent(found)
@@ -543,6 +573,43 @@ def layers():
     yield in_bytes(full(4, 4, 8), pieces)
 
 
+def text_calls():
+    """Calls of which the text alone is shown."""
+    for grids in text_trays():
+        yield lent(grids, paged=3)
+    # 12 before 17: a kind with two copies, no filled cell
+    for grids in ([(1, full(1, 1, 2)), (2, M)], [(1, part((1, 1, 2), 0)), (1, M)]):
+        for work in (8191, 8192):
+            yield lent(grids, KNUTH, work=work, paged=3)
+    # the longest lines, with numbers of three digits
+    board = full(4, 4, 8)
+    yield changed(shared(board, [(1, board, 0), (1, full(4, 4, 7), 0), (1, M, 0)], FAST), paged=3)
+
+
+def text_trays():
+    board = full(1, 2, 2)
+    # each kind with and without a copy, the numbers with gaps; two copies of one
+    for copies in [*product((0, 1), repeat=3), (2, 1, 1), (0, 2, 0), (1, 0, 2)]:
+        yield [(1, board), *zip(copies, (M, D, CORNER))]
+    # one kind lent twice, turned, in a longer box, in another wood
+    for copies in product((0, 1), repeat=2):
+        for grids in ((D, full(2, 1, 1)), (M, drawn(M, (0, 1, 0), (2, 0, 0)))):
+            yield [(1, full(1, 2, 3)), *zip(copies, grids)]
+    for pair in ((0, 1), (9, 9)):
+        yield [(1, board), *((1, D, wood) for wood in pair)]
+    # a kind with a copy that lies nowhere; kinds of two digits
+    yield [(1, full(1, 1, 2)), (1, full(1, 1, 3)), (1, M)]
+    yield [(1, full(1, 1, 1))] + [(1, M, wood) for wood in range(16)]
+    # cells in the order of the turned grid: gaps in the board, handed pieces, scan order along the sides' order, empty layers
+    yield [(1, row("1011001")), (1, row("1001")), (1, row("101"))]
+    yield [(1, full(2, 2, 3)), (1, HANDED), (1, PARTNER)]
+    yield [(1, ((3, 2, 2), (1,) * 5 + (0,) + (1,) * 6)), (1, CORNER), (1, HOLLOW), (1, D)]
+    yield [(1, drawn(full(2, 3, 1), (1, 0, 2), (0, 1, 0))), (1, drawn(CORNER, (0, 0, 1), (1, 0, 0))), (1, full(3, 1, 1))]
+    # no filled cell, kinds without copies
+    for copies in (0, 1):
+        yield [(1, part((1, 1, 3), 0)), (copies, M)]
+
+
 def in_bytes(board, pieces):
     """A call of Knuth without pages whose grids begin where their cells first stand."""
     data, records = list(board[1]), [(*board[0], 1, 0, 0)]
@@ -611,7 +678,7 @@ def main():
         calls = list(systems())
         for part_of in (limits, pairs):
             calls += [changed(call, paged=int(is_small(call))) for call in part_of()]
-        for part_of in (empty_boxes, woods, layers):
+        for part_of in (empty_boxes, woods, layers, text_calls):
             calls += part_of()
         calls += trays(31, 800, 220)
         lines = "".join(text(call) + "\n" for call in calls)

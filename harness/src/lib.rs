@@ -1,4 +1,4 @@
-//! The page call of the static library, and trays as it takes them.
+//! The calls of the static library, for a page and for the text that DLX1 reads, and trays as they take them.
 
 pub mod cases;
 pub mod clock;
@@ -7,7 +7,7 @@ pub mod side_by_side;
 use ferghuul::call;
 use oracle::tray::{Engine, Grid, Tray};
 
-pub use ferghuul::call::{Answer, Record};
+pub use ferghuul::call::{Answer, Record, TextAnswer};
 
 /// Where a page begins: at an entry, by its number, or behind an entry, by its bytes.
 #[derive(Clone, Copy, Debug)]
@@ -69,6 +69,11 @@ impl Lent {
         let start = call::Start { behind, skip, last };
         call::page(&self.pieces, self.board, &self.bytes, config, start, answers, work, links)
     }
+
+    /// The tray's text for DLX1, or the refusal.
+    pub fn text(&self, output: &mut [u8], work: &mut [u64]) -> TextAnswer {
+        call::dlx1(&self.pieces, self.board, &self.bytes, output, work)
+    }
 }
 
 fn record(grid: &Grid, count: u32, wood: u8, bytes: &mut Vec<u8>) -> Record {
@@ -116,6 +121,25 @@ pub fn ask(lent: &Lent, start: Start, room: usize, words: usize, numbers: usize)
         Ok((answers, answer))
     } else {
         Err("slices afterwards".to_string())
+    }
+}
+
+/// The text from stained slices of these lengths; what it must not touch is looked at.
+pub fn ask_text(lent: &Lent, room: usize, words: usize) -> Result<(Vec<u8>, TextAnswer), String> {
+    let mut output = vec![STAIN; room];
+    let mut work = vec![WORD_STAIN; words];
+    let text = lent.text(&mut output, &mut work);
+    let cleared = if text.number == 0 { 8_192 } else { 0 };
+    if text.written > room {
+        return Err("more written than fits".to_string());
+    }
+    let is_kept = output[text.written..].iter().all(|&byte| byte == STAIN)
+        && work[..cleared].iter().all(|&word| word == 0)
+        && work[cleared..].iter().all(|&word| word == WORD_STAIN);
+    if is_kept {
+        Ok((output, text))
+    } else {
+        Err("slices after a call for a text".to_string())
     }
 }
 

@@ -24,4 +24,5 @@ pub mod placements;
 pub mod random;
 pub mod refusals;
 pub mod shapes;
+pub mod texts;
 pub mod tray;

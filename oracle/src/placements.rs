@@ -80,7 +80,7 @@ fn cell_index(grid: &Grid, cell: [u32; 3]) -> usize {
 }
 
 /// For each cell of the board's box its number in scan order, unfilled cells None.
-fn scan_numbers(board: &Grid) -> Vec<Option<u32>> {
+pub fn scan_numbers(board: &Grid) -> Vec<Option<u32>> {
     // The longest side is compared first; of equal sides z before y before x.
     let mut axes = [2, 1, 0];
     axes.sort_by_key(|&axis| std::cmp::Reverse(board.sides[axis]));

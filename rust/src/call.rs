@@ -1,10 +1,12 @@
-//! The call of the static library over slices: docs/INTERFACE.md. It takes every input, so it is safe as it stands: Rust's rules for references
+//! The calls of the static library over slices: docs/INTERFACE.md. They take every input, so they are safe as they stand: Rust's rules for references
 //! see to what a caller in C has to see to.
 
 /// Words of the work slice that a call needs.
 pub const WORK: usize = 8_192;
 /// Numbers of the links slice that a call of Knuth's engine needs.
 pub const LINKS: usize = 32_768;
+/// Bytes that hold any text for DLX1.
+pub const TEXT: usize = 663_552;
 
 /// A piece, or the board: sides, copies, wood, and where its cells begin in the bytes. The board's copies and wood are not read.
 #[repr(C)]
@@ -41,6 +43,14 @@ impl Answer {
 
     /// No entry of the list equals the one that was lent, to begin behind it.
     pub const MISSING: Answer = Answer { number: 0, written: 0, further: false, missing: true };
+}
+
+/// What a call for the text answers: 0 or the number of the refusal; how many bytes were written: the whole text, or 0 where it is refused.
+#[repr(C)]
+#[derive(Clone, Copy, Debug, PartialEq, Eq)]
+pub struct TextAnswer {
+    pub number: u32,
+    pub written: usize,
 }
 
 /// Where a page begins, as the call takes it: `behind` says which of the other two is read.
@@ -81,6 +91,18 @@ extern "C" {
         links: *mut u16,
         numbers: usize,
     ) -> Answer;
+
+    fn ferghuul_dlx1(
+        pieces: *const Record,
+        piece_count: usize,
+        board: Record,
+        bytes: *const u8,
+        byte_count: usize,
+        output: *mut u8,
+        output_bytes: usize,
+        work: *mut u64,
+        words: usize,
+    ) -> TextAnswer;
 }
 
 /// A page of the list of packings, or the refusal.
@@ -116,6 +138,24 @@ pub fn page(
             work.len(),
             links.as_mut_ptr(),
             links.len(),
+        )
+    }
+}
+
+/// The text for Knuth's DLX1 at the start of the output, or the refusal.
+pub fn dlx1(pieces: &[Record], board: Record, bytes: &[u8], output: &mut [u8], work: &mut [u64]) -> TextAnswer {
+    // Sound: as above.
+    unsafe {
+        ferghuul_dlx1(
+            pieces.as_ptr(),
+            pieces.len(),
+            board,
+            bytes.as_ptr(),
+            bytes.len(),
+            output.as_mut_ptr(),
+            output.len(),
+            work.as_mut_ptr(),
+            work.len(),
         )
     }
 }

@@ -1,7 +1,7 @@
 //! Every packing of a tray, each exactly once. What the library answers is proved; this crate lends it its slices.
 //!
-//! [`Tray`] is built by value, [`Tray::packings`] goes through its packings in fixed memory, [`Refused`] says why a tray can't be taken.
-//! [`call`] has the call itself, over slices.
+//! [`Tray`] is built by value, [`Tray::packings`] goes through its packings in fixed memory, [`Tray::dlx1`] is the tray as a text for Knuth's DLX1,
+//! [`Refused`] says why a tray can't be taken. [`call`] has the calls themselves, over slices.
 
 pub mod call;
 
@@ -64,6 +64,7 @@ pub enum Refused {
     TooManyCells = 9,
     TooManyPlacements = 14,
     TooManyLinks = 15,
+    NoText = 17,
 }
 
 impl Refused {
@@ -72,7 +73,7 @@ impl Refused {
         self as u32
     }
 
-    /// The others (4, 5, 10 to 13) can't come of a tray that was built here: its cells are 0 and 1 and all there, and so are the slices.
+    /// The others (4, 5, 10 to 13, 18) can't come of a tray that was built here: its cells are 0 and 1 and all there, and so are the slices.
     fn of(number: u32) -> Refused {
         match number {
             2 => Refused::TooManyPieces,
@@ -82,6 +83,7 @@ impl Refused {
             9 => Refused::TooManyCells,
             14 => Refused::TooManyPlacements,
             15 => Refused::TooManyLinks,
+            17 => Refused::NoText,
             _ => unreachable!("refused {number}"),
         }
     }
@@ -97,6 +99,7 @@ impl fmt::Display for Refused {
             Refused::TooManyCells => "the board has more than 128 cells to fill",
             Refused::TooManyPlacements => "more than 1,024 placements",
             Refused::TooManyLinks => "more than 4,096 links",
+            Refused::NoText => "no text for DLX1: a kind has more than one copy, or the board no cell to fill",
         })
     }
 }
@@ -150,6 +153,28 @@ impl Tray {
         };
         packings.turn(false)?;
         Ok(packings)
+    }
+
+    /// The text that Knuth's DLX1 reads; or why the tray can't be taken. Its exact covers are the packings, one to one, where nothing is identified.
+    ///
+    /// ```
+    /// use ferghuul::{Grid, Refused, Tray};
+    ///
+    /// let grid = |sides, digits| Grid::new(sides, digits).unwrap();
+    /// let tray = Tray::new(grid([1, 1, 3], "111")).piece(1, grid([1, 1, 1], "1")).piece(1, grid([1, 1, 2], "11"));
+    /// assert_eq!(tray.dlx1().unwrap(), "b0 b1 b2 | p0 p1\np0 b0\np0 b1\np0 b2\np1 b0 b1\np1 b1 b2\n");
+    ///
+    /// // A second domino is one that DLX1 can't be told of.
+    /// assert_eq!(tray.piece(1, grid([1, 2, 1], "11")).dlx1(), Err(Refused::NoText));
+    /// ```
+    pub fn dlx1(&self) -> Result<String, Refused> {
+        let (mut output, mut work) = (vec![0; call::TEXT], vec![0; call::WORK]);
+        let text = call::dlx1(&self.pieces, self.board, &self.bytes, &mut output, &mut work);
+        if text.number != 0 {
+            return Err(Refused::of(text.number));
+        }
+        output.truncate(text.written);
+        Ok(String::from_utf8(output).expect("letters, digits, spaces, bars and line feeds"))
     }
 }
 
@@ -310,6 +335,17 @@ mod tests {
         let conway = blocks.piece(1, full([1, 2, 2])).piece(3, full([1, 1, 3]));
         assert_eq!(refusal(conway, Engine::Knuth), Some(Refused::TooManyLinks));
         assert_eq!(Refused::TooManyPlacements.number(), 14);
+    }
+
+    #[test]
+    fn texts() {
+        let text = soma().dlx1().unwrap();
+        assert_eq!((text.len(), text.lines().count()), (11_808, 689));
+        assert!(text.contains("\np0 b9 b1 b10\n"));
+        assert_eq!(Tray::new(grid([1, 1, 2], "11")).dlx1().unwrap(), "b0 b1\n");
+        assert_eq!(Tray::new(grid([1, 1, 1], "0")).dlx1(), Err(Refused::NoText));
+        assert_eq!(Tray::new(grid([1, 1, 9], "111111111")).dlx1(), Err(Refused::BadSide));
+        assert_eq!(Refused::NoText.number(), 17);
     }
 
     #[test]

@@ -1,3 +1,4 @@
 pub mod StepLaws
 pub mod FillingLaws
 pub mod BoundaryLaws
+pub mod Dlx1TableLaws

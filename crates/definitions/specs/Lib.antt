@@ -27,6 +27,10 @@ pub mod Texts
 pub mod Files
 pub mod Printed
 pub mod EmptyBox
+pub mod Dlx1
+pub mod Dlx1Covers
+pub mod TextCalls
 pub mod Fillings
 pub mod Boundaries
+pub mod Dlx1Tables
 pub mod Steps

@@ -168,8 +168,11 @@ table l =
     []
 
 -- whether the row with a number applies
+abbrev pub applies_in : List Row → ℕ → Bool
+applies_in rows n = any (λ r. eqb r.number n && r.applies) rows
+
 unfoldable pub applies : Call → ℕ → Bool
-applies l n = any (λ r. eqb r.number n && r.applies) (table l)
+applies l n = applies_in (table l) n
 
 -- "tested in this order": the number of the first row that applies; 0 where none does, and the call is accepted
 abbrev pub first_that_applies : List Row → ℕ

@@ -34,7 +34,8 @@ pub struct Config {
     pub solver: SolverKind,
 }
 
-// Why a call is refused: the rows 2 to 15 of document 01's table, in its order and with its numbers.
+// Why a call is refused: the rows 2 to 15 of document 01's table, in its order and with its numbers; and what document 02 adds for the call that writes the
+// text for DLX1, 17: a kind has more than one copy, or the board no filled cell, which DLX1 can't be told; 18: the output is too short for the whole text.
 #[derive(Clone, Copy, PartialEq, Eq)]
 pub enum Refusal {
     TooManyPieces = 2,
@@ -50,6 +51,8 @@ pub enum Refusal {
     LinksTooShort,
     TooManyPlacements,
     TooManyLinks,
+    NoText = 17,
+    OutputTooShort,
 }
 
 // Where a page starts: at an entry of the list, by its number, or behind the entry that is lent.

@@ -12,7 +12,7 @@ use lib.ListN.{length, get_or, take, drop, drop_of_length-le}
 use lib.Seq.{drop-cons}
 use Rattle.lists.specs.Lists.{cons_if, keep, all, any, each, member, is_empty}
 use Rattle.lists.proofs.TestLaws.{not_not, and_left, and_no, is_true, is_false, eqb_of, by_order}
-use Rattle.lists.proofs.ListLaws.{any_at, keep_at, keep_append, keep_shorter, each_same_in, take_in}
+use Rattle.lists.proofs.ListLaws.{any_at, keep_at, keep_append, keep_shorter, each_same_in, take_in, nonempty_length}
 use Rattle.lists.proofs.RangeLaws.{member_of}
 use Rattle.definitions.specs.Placements.{Placement}
 use Rattle.definitions.specs.Kept.{Identify}
@@ -25,10 +25,6 @@ use Rattle.kept.specs.Entries.{numbers_of, entries, entry_by}
 use Rattle.fast.specs.Searching.{fast_below, goes_on}
 
 -- ---- lists
-some_length : (xs : List ℕ) → is_empty xs ≡ false → 0 < length xs
-some_length [] e = absurd (subst T e tt)
-some_length (x ∷ xs) e = omega arith
-
 empty_same : {B : Type 0} (xs : List ℕ) (a b c : B) → length xs ≤ 0 → cond (is_empty xs) a b ≡ cond (is_empty xs) a c
 empty_same [] a b c h = refl
 empty_same (x ∷ xs) a b c h = absurd (omega arith)
@@ -69,7 +65,7 @@ module _ (rows : List Placement) (covers-p : (q : Placement) → Memᴰ q rows �
   below_step : (n : ℕ) (t : State) → length t.free ≤ n → is_empty t.free ≡ false
       → search (fast_choices rows) n t ≡ each (fast_choices rows t) (λ q. search (fast_choices rows) n (choose t q))
   unfolding search
-  below_step zero t h e = let k = some_length t.free e in absurd (omega arith)
+  below_step zero t h e = let k = nonempty_length t.free e in absurd (omega arith)
   below_step (suc n) t h e =
       ap (λ (b : Bool). cond b (t.chosen ∷ []) (each (fast_choices rows t) (λ q. search (fast_choices rows) n (choose t q)))) e
       ∙ each_same_in (λ q. search (fast_choices rows) n (choose t q)) (λ q. search (fast_choices rows) (suc n) (choose t q)) (fast_choices rows t)

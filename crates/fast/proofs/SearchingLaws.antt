@@ -21,6 +21,7 @@ use Rattle.definitions.specs.Orders.{possible, choose, fast_choices}
 use Rattle.masks.specs.Masks.{has, either, apart, FirstOpen}
 use Rattle.masks.specs.declared.Mask.{Mask}
 use Rattle.masks.proofs.MaskLaws.{apart_of, apart_not}
+use Rattle.rows.proofs.AnsweringLaws.{in_cells}
 use Rattle.rows.specs.Systems.{System}
 use Rattle.rows.specs.Lawful.{Lawful, LawfulRow}
 use Rattle.rows.specs.Rows.{cells_of}
@@ -95,11 +96,6 @@ module _ (mask : Mask) where
   unfolding cells_of
   cells-of {n} h e = keep_of (has mask) (below 128) (below_of 128 h) (holds (has mask n) e)
 
-  cells_member : (n : ℕ) → n < 128 → member n (cells_of mask) ≡ has mask n
-  cells_member n h =
-      tests_same (member n (cells_of mask)) (has mask n) (λ t. holds (has mask n) (cells_at (member_at n (cells_of mask) t)).1)
-      (λ t. member_of (cells_of mask) (cells-of h (is_true (has mask n) t)))
-
 pub uncovered_at : (size : ℕ) (covered : Mask) {n : ℕ} → Memᴰ n (uncovered size covered) → (n < size) × (has covered n ≡ false)
 unfolding uncovered
 uncovered_at size covered {n} m = let r = keep_at (λ k. not (has covered k)) (below size) m in (below_at size r.0, not_T (has covered n) r.1)
@@ -119,7 +115,7 @@ uncovered_more size covered mask more h e =
     sym (keep_keep (λ k. not (has covered k)) (λ n. not (member n (cells_of mask))) (below size)
     ∙ keep_same (λ k. not (has covered k) && not (member k (cells_of mask))) (λ k. not (has more k)) (below size)
     (λ k m. let l = below_at size m in
-    ap (λ (b : Bool). not (has covered k) && not b) (cells_member mask k (omega arith)) ∙ not_both (has covered k) (has mask k)
+    ap (λ (b : Bool). not (has covered k) && not b) (in_cells mask k (omega arith)) ∙ not_both (has covered k) (has mask k)
     ∙ sym (ap (λ (g : ℕ → Bool). not (g k)) e)))
 
 -- ---- a row of a search

@@ -1,12 +1,15 @@
-// The page call for C and Rust, with what it answers as numbers (docs/INTERFACE.md). Nothing is assumed of what is lent; promised is document 01's outcome.
+// The calls for C and Rust, with what they answer as numbers (docs/INTERFACE.md): a page of the listing, and the text for Knuth's DLX1. Nothing is assumed
+// of what is lent; promised are document 01's outcome and document 02's (A2).
 #![tactic(auto)]
 
 ghost use Rattle.std.specs.Prelude.{◌≡◌};
 ghost use Rattle.definitions.specs.Starts.{Meets, outcome_from};
+ghost use Rattle.definitions.specs.TextCalls.{TextDemand, text_outcome};
 ghost use Rattle.solver.specs.Lent.{call_with};
-ghost use Rattle.ferghuul.specs.Numbers.{config_of, engine_of, numbers_of, outcome_by, start_of};
+ghost use Rattle.dlx.specs.Texts.{text_call};
+ghost use Rattle.ferghuul.specs.Numbers.{config_of, engine_of, numbers_of, outcome_by, start_of, text_numbers_of, text_outcome_by};
 
-use definitions::{Config, Listing, Record, SolverKind, Start};
+use definitions::{Config, Listing, Record, Refusal, SolverKind, Start};
 use solver::records;
 
 // What a call answers: the refusal's number in document 01's table, 0 where it is accepted; how many answers were written; whether a further one follows;
@@ -46,6 +49,31 @@ impl From<Listing> for Answer {
                 further: false,
                 missing: true,
             },
+        }
+    }
+}
+
+// What the call for the text answers: the refusal's number, 0 where it is accepted; and how many bytes were written: the whole text, or 0 where it is refused.
+#[repr(C)]
+#[derive(Clone, Copy)]
+pub struct TextAnswer {
+    pub number: u32,
+    pub written: usize,
+}
+
+// What that call hands back, in numbers.
+impl From<Result<usize, Refusal>> for TextAnswer {
+    ghost from_gives = { λ r a. a ≡ text_numbers_of r };
+
+    fn from(r: Result<usize, Refusal>) -> TextAnswer
+        ensures { result ≡ text_numbers_of r }
+    {
+        match r {
+            Err(why) => TextAnswer {
+                number: u32::from(why.number()),
+                written: 0,
+            },
+            Ok(written) => TextAnswer { number: 0, written },
         }
     }
 }
@@ -113,4 +141,19 @@ pub extern "C" fn ferghuul_page(
         pieces, board, bytes, config, start, last, answers, work, links,
     )
     .into()
+}
+
+// A call for the text, whatever is lent: `dlx::records::text` in numbers.
+#[unsafe(no_mangle)]
+pub extern "C" fn ferghuul_dlx1(
+    pieces: &[Record],
+    board: Record,
+    bytes: &[u8],
+    output: &mut [u8],
+    work: &mut [u64],
+) -> TextAnswer
+    ensures outcome { text_outcome_by result output.new work.new ≡ text_outcome (text_call pieces.now board bytes.now output.old work.old) }
+    ensures demand { TextDemand (text_call pieces.now board bytes.now output.old work.old) (text_outcome_by result output.new work.new) }
+{
+    dlx::records::text(pieces, board, bytes, output, work).into()
 }

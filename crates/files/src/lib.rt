@@ -1,4 +1,4 @@
-// The texts of `pack`: the file that it reads, as records, cells and a configuration, and the lines that it prints.
+// The texts of `pack`: the file that it reads, and `dlx1` too, as records, cells and a configuration, and the lines that it prints.
 //
 // Every function here is proved, and the crate assumes nothing. `reading::read_file` takes any text and says whether it is a file; the
 // functions of `printing` ask for room in their buffer.

@@ -1,7 +1,7 @@
 -- Nodes laid behind nodes are laid as one list: each keeps what lies elsewhere. Assumes nothing.
 use Prim.Native.Nat.{ℕ, zero, suc, ◌+◌, ◌-◌, ◌≤◌, ◌<◌}
 use mathlib.Core.Bool.{Bool, true, false, not}
-use mathlib.Core.List.{List, [], ◌∷◌, ◌++◌, map, append-nil, map-append}
+use mathlib.Core.List.{List, [], ◌∷◌, ◌++◌, map, map-append}
 use mathlib.Core.Logic.{◌⊎◌, inl, inr}
 use mathlib.Core.Path.{◌≡◌, refl, sym, ap, ◌∙◌, subst}
 use native.Mathlib.Numerals.{add-one}
@@ -9,11 +9,11 @@ use native.Mathlib.Omega.{arith}
 use lib.Dec.{T, ltb, ltb→lt, nltb→le}
 use lib.ListN.{length, get_or, set, length-append, length-map, length-set}
 use lib.Seq.{get_or-set_same, get_or-set_other}
-use Rattle.lists.specs.Lists.{cons_if, keep, how_many, below, from}
+use Rattle.lists.specs.Lists.{keep, how_many, below, from}
 use Rattle.std.specs.Prelude.{count_by}
 use Rattle.std.specs.List.{range_with_len}
 use Rattle.lists.proofs.TestLaws.{decide, by_bool}
-use Rattle.lists.proofs.ListLaws.{keep_append}
+use Rattle.lists.proofs.ListLaws.{keep_with, keep_without}
 use Rattle.lists.proofs.RangeLaws.{below_next, length_below, from_append}
 use Rattle.lists.proofs.CountLaws.{how_many_length}
 use Rattle.masks.specs.Masks.{has}
@@ -29,14 +29,11 @@ use Rattle.rows.specs.declared.chart.Chart.{Chart}
 -- ---- lists
 -- the entries kept below n, and one more
 module _ (p : ℕ → Bool) (n : ℕ) where
-  keep_next : keep p (below (n + 1)) ≡ keep p (below n) ++ cons_if (p n) n []
-  keep_next = ap (keep p) (below_next n) ∙ keep_append p (below n) (n ∷ [])
-
   pub keep_hit : p n ≡ true → keep p (below (n + 1)) ≡ keep p (below n) ++ (n ∷ [])
-  keep_hit e = keep_next ∙ ap (λ (b : Bool). keep p (below n) ++ cons_if b n []) e
+  keep_hit e = ap (keep p) (below_next n) ∙ keep_with p (below n) n e
 
   pub keep_miss : p n ≡ false → keep p (below (n + 1)) ≡ keep p (below n)
-  keep_miss e = keep_next ∙ ap (λ (b : Bool). keep p (below n) ++ cons_if b n []) e ∙ append-nil (keep p (below n))
+  keep_miss e = ap (keep p) (below_next n) ∙ keep_without p (below n) n e
 
   pub count_hit : p n ≡ true → how_many p (below (n + 1)) ≡ how_many p (below n) + 1
   count_hit e =

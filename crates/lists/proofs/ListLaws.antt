@@ -2,7 +2,7 @@
 use Prim.Native.Nat.{ℕ, zero, suc, ◌+◌, ◌-◌, ◌*◌, ◌≤◌, ◌<◌}
 use mathlib.Core.Bool.{Bool, true, false, cond, not, ◌&&◌, ◌||◌}
 use mathlib.Core.List.Memᴰ
-use mathlib.Core.List.{List, [], ◌∷◌, ◌++◌, map, map-append, append_assoc, Memᴰ, nil≢cons, cons≢nil, head-eq_of_cons-eq, tail-eq_of_cons-eq}
+use mathlib.Core.List.{List, [], ◌∷◌, ◌++◌, map, map-append, append-nil, append_assoc, Memᴰ, nil≢cons, cons≢nil, head-eq_of_cons-eq, tail-eq_of_cons-eq}
 use mathlib.Core.Path.{◌≡◌, refl, sym, ap, ap₂, ◌∙◌, subst}
 use mathlib.Core.Logic.{◌⊎◌, inl, inr}
 use native.Mathlib.Nat.{zero-mul, suc-mul, zero-add}
@@ -166,9 +166,18 @@ pub how_many_map : {A B : Type 0} (p : B → Bool) (f : A → B) (xs : List A) �
 how_many_map p f [] = refl
 how_many_map p f (x ∷ xs) = ap (λ (n : ℕ). cond (p (f x)) 1 0 + n) (how_many_map p f xs)
 
+pub how_many_same_in : {A : Type 0} (p q : A → Bool) (xs : List A) → ((x : A) → Memᴰ x xs → p x ≡ q x) → how_many p xs ≡ how_many q xs
+how_many_same_in p q [] h = refl
+how_many_same_in p q (x ∷ xs) h =
+    ap₂ (λ (b : Bool) (n : ℕ). cond b 1 0 + n) (h x (Memᴰ.head refl)) (how_many_same_in p q xs (λ y m. h y (Memᴰ.tail m)))
+
 pub how_many_same : {A : Type 0} (p q : A → Bool) (xs : List A) → ((x : A) → p x ≡ q x) → how_many p xs ≡ how_many q xs
-how_many_same p q [] h = refl
-how_many_same p q (x ∷ xs) h = ap (λ (b : Bool). cond b 1 0 + how_many p xs) (h x) ∙ ap (λ (n : ℕ). cond (q x) 1 0 + n) (how_many_same p q xs h)
+how_many_same p q xs h = how_many_same_in p q xs (λ x m. h x)
+
+-- ---- a list that is not empty
+pub nonempty_length : {A : Type 0} (xs : List A) → is_empty xs ≡ false → 0 < length xs
+nonempty_length [] e = absurd (subst T e tt)
+nonempty_length (x ∷ xs) e = omega arith
 
 -- ---- keep
 module _ {A : Type 0} where
@@ -202,6 +211,13 @@ keep_append p (x ∷ xs) ys = go (p x) (keep_append p xs ys)
     go : (b : Bool) → keep p (xs ++ ys) ≡ keep p xs ++ keep p ys → cons_if b x (keep p (xs ++ ys)) ≡ cons_if b x (keep p xs) ++ keep p ys
     go true e = ap (λ (l : List _). x ∷ l) e
     go false e = e
+
+-- one entry more at the end
+pub keep_with : {A : Type 0} (p : A → Bool) (xs : List A) (x : A) → p x ≡ true → keep p (xs ++ (x ∷ [])) ≡ keep p xs ++ (x ∷ [])
+keep_with p xs x e = keep_append p xs (x ∷ []) ∙ ap (λ (b : Bool). keep p xs ++ cons_if b x []) e
+
+pub keep_without : {A : Type 0} (p : A → Bool) (xs : List A) (x : A) → p x ≡ false → keep p (xs ++ (x ∷ [])) ≡ keep p xs
+keep_without p xs x e = keep_append p xs (x ∷ []) ∙ ap (λ (b : Bool). keep p xs ++ cons_if b x []) e ∙ append-nil (keep p xs)
 
 pub keep_each : {A B : Type 0} (p : B → Bool) (f : A → List B) (xs : List A) → keep p (each xs f) ≡ each xs (λ x. keep p (f x))
 keep_each p f [] = refl

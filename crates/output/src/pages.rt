@@ -82,8 +82,8 @@ pub fn turn_page(
     }
 }
 
-// The places of a board's box; 0 where a side is out of range. (No Option: room for none is what the call is then lent. `size_of` of
-// replay, which does not stand on this crate, has room there.)
+// The places of a board's box; 0 where a side is out of range. (No Option: a call with such a board is refused whatever room it has,
+// and 0 makes it none. Not `size_of` of `replay`, which stands beside this crate and makes room for an answer there.)
 #[tactic(auto, unfolding(crate::specs::Standing::places_of))]
 fn places_of(board: Record) -> usize
     ensures { (result ≡ places_of board) × (result ≤ 512) }

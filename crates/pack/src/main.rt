@@ -6,7 +6,7 @@ use streams::Room;
 
 fn main(rt: HostRuntime) {
     let mut room = Room::new();
-    room.read(&mut rt.stdin());
+    room.text.read(&mut rt.stdin());
     // a write that fails ends it, and nobody is left to be told
     let _ = room.print(&mut rt.stdout());
 }

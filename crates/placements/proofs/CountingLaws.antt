@@ -29,11 +29,11 @@ use Rattle.definitions.specs.declared.Record.{Record}
 use Rattle.definitions.specs.declared.Config.{Config}
 use Rattle.definitions.specs.declared.Refusal.{Refusal}
 use Rattle.definitions.specs.declared.Refusal.TheVariants.{TooManyPieces, SideOutOfRange, CellsOutsideBytes, CellNotZeroOrOne, PieceWithoutFilledCell, TooManyCopies, TooManyBoardCells}
-use Rattle.definitions.specs.declared.Refusal.TheVariants.{MirroredWithoutTurned, EngineNotPorted, WorkTooShort, LinksTooShort, TooManyPlacements, TooManyLinks}
+use Rattle.definitions.specs.declared.Refusal.TheVariants.{MirroredWithoutTurned, EngineNotPorted, WorkTooShort, LinksTooShort, TooManyPlacements, TooManyLinks, NoText, OutputTooShort}
 use Rattle.theorems.proofs.MapLaws.{turn_fits, filled_at, filled_length}
 use Rattle.theorems.proofs.GroupLaws.{bytes_whole}
 use Rattle.theorems.proofs.ShapeLaws.{scan_length, smallest_at}
-use Rattle.theorems.proofs.RefusalLaws.{PassedLent, test_of, none_applies, passed_lent}
+use Rattle.theorems.proofs.RefusalLaws.{PassedLent, first_decides, first_passes, none_applies, passed_lent, test_of}
 use Rattle.theorems.proofs.PartnerLaws.{variants_turned}
 use Rattle.shape.specs.declared.Coord.{Coord}
 use Rattle.shape.specs.Coords.{as_sides}
@@ -184,25 +184,6 @@ module _ (t : Tray) where
           ∙ total_joined weight links_of (placements_of ord bd) 0 (kinds_of t) (λ n d m. links-of (n + 0) d (subst (λ (k : ℕ). Nth (kinds_of t) k d) (omega arith) m))
 
 -- ---- rows of the table of refusals
--- rows with numbers from 1 on: where none applies those behind them decide, and where one does they do not
-pub first_passes : (xs ys : List Row) → T (all (λ r. ltb 0 r.number) xs) → first_that_applies xs ≡ 0 → first_that_applies (xs ++ ys) ≡ first_that_applies ys
-first_passes [] ys p e = refl
-first_passes (r ∷ xs) ys p e = go r.applies e (λ (i : first_that_applies xs ≡ 0). first_passes xs ys (and_right (ltb 0 r.number) (all (λ q. ltb 0 q.number) xs) p) i)
-  where
-    go : (b : Bool) → cond b r.number (first_that_applies xs) ≡ 0 → (first_that_applies xs ≡ 0 → first_that_applies (xs ++ ys) ≡ first_that_applies ys)
-        → cond b r.number (first_that_applies (xs ++ ys)) ≡ first_that_applies ys
-    go true i f = let l = ltb→lt 0 r.number (and_left (ltb 0 r.number) (all (λ q. ltb 0 q.number) xs) p) in absurd (omega arith)
-    go false i f = f i
-
-pub first_decides : (xs ys : List Row) → (first_that_applies xs ≡ 0 → ⊥) → first_that_applies (xs ++ ys) ≡ first_that_applies xs
-first_decides [] ys e = absurd (e refl)
-first_decides (r ∷ xs) ys e = go r.applies e (λ (i : first_that_applies xs ≡ 0 → ⊥). first_decides xs ys i)
-  where
-    go : (b : Bool) → (cond b r.number (first_that_applies xs) ≡ 0 → ⊥) → ((first_that_applies xs ≡ 0 → ⊥) → first_that_applies (xs ++ ys) ≡ first_that_applies xs)
-        → cond b r.number (first_that_applies (xs ++ ys)) ≡ cond b r.number (first_that_applies xs)
-    go true i f = refl
-    go false i f = f i
-
 -- a refusal has a number from 1 on
 pub refused_some : (why : Refusal) → number_of why ≡ 0 → ⊥
 refused_some TooManyPieces e = omega arith
@@ -218,6 +199,8 @@ refused_some WorkTooShort e = omega arith
 refused_some LinksTooShort e = omega arith
 refused_some TooManyPlacements e = omega arith
 refused_some TooManyLinks e = omega arith
+refused_some NoText e = omega arith
+refused_some OutputTooShort e = omega arith
 
 -- the table in its four parts: the first part of which a row applies decides, among the three that are told without counting, and then the counts
 module _ (t : Pieces) (board : Record) (bytes : List ℕ) (config : Config) (work links : ℕ) where

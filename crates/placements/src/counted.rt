@@ -93,8 +93,8 @@ impl<'a> CountedTray<'a> {
         turnings[k].as_slice()
     }
 
-    // The number of the kind whose smallest turned grid a map makes of piece i; how many kinds there are where it is none of them. (No Option: definitions
-    // and chart number what is no kind so.)
+    // The number of the kind whose smallest turned grid a map makes of piece i, in that piece's wood; where there is no such kind, the number of kinds. (No
+    // Option: in the definitions and in the chart that number stands for no kind.)
     pub fn kind_of(&self, i: usize, m: Map) -> usize
         requires { i < self.now.tray.pieces.count }
         ensures { let c = self.now in

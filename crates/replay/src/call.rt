@@ -16,7 +16,8 @@ pub struct Call<'a> {
     pub links: usize,
 }
 
-// What is shown of a call: its row system, pages, or both. (Two flags: each part asks for its own, and an enum of three would be taken apart into them.)
+// What is shown of a call beside its text: its row system, pages, both, or neither. (Two flags: each part asks for its own, and an enum of four would be taken
+// apart into them.)
 #[derive(Clone, Copy)]
 pub struct Shown {
     pub system: bool,
@@ -73,7 +74,7 @@ pub(crate) fn read<'a>(reader: &mut Reader, cells: &'a mut [u8]) -> (Call<'a>, S
     let config = read_config(reader);
     let words = reader.number();
     let links = reader.number();
-    let paged = reader.number();
+    let asked = reader.number();
     let board = read_record(reader);
     let pieces = read_pieces(reader, n);
     let read = reader.digits(cells);
@@ -86,8 +87,8 @@ pub(crate) fn read<'a>(reader: &mut Reader, cells: &'a mut [u8]) -> (Call<'a>, S
         links,
     };
     let shown = Shown {
-        system: paged < 2,
-        pages: 0 < paged,
+        system: asked < 2,
+        pages: asked == 1 || asked == 2,
     };
     (call, shown)
 }

@@ -2,37 +2,11 @@
 ghost use Rattle.std.specs.Prelude.{◌≤◌};
 
 use super::call::Call;
+use super::stains::{LINK_STAIN, STAIN, WORD_STAIN, is_all, is_cleared, sum_bytes, touched};
 use definitions::{Config, Page, Record, Refusal, SolverKind, Start};
 use placements::records;
 use solver::pages;
 use std::io;
-
-// What slices hold before a call.
-const STAIN: u8 = 170;
-
-const WORD_STAIN: u64 = 12297829382473034410;
-
-const LINK_STAIN: u16 = 43690;
-
-// Whether all of a slice are one value.
-fn is_all<T: Copy + PartialEq>(slice: &[T], value: T) -> bool {
-    slice.iter().all(|&x| x == value)
-}
-
-// Whether the first n of a slice, or all where it is shorter, are 0, and those behind them as they were.
-fn is_cleared<T: Copy + PartialEq>(slice: &[T], n: usize, zero: T, stain: T) -> bool {
-    let (first, rest) = slice.split_at(n.min(slice.len()));
-    is_all(first, zero) && is_all(rest, stain)
-}
-
-// A sum over bytes, in their order, behind another sum.
-fn sum_bytes(bytes: &[u8], before: u64) -> u64 {
-    let mut sum = before % 4294967291;
-    for &byte in bytes {
-        sum = (sum * 257 + byte as u64 + 1) % 4294967291;
-    }
-    sum
-}
 
 // An answer's bytes; 2 where a side is out of range. (No Option: such a call is refused whatever room it has, and 2 makes room as any other size.
 // Not by `places_of` of output, which is private to it and says 0 there.)
@@ -144,11 +118,6 @@ impl<'a> Asked<'a> {
         }
         Ok(all)
     }
-}
-
-// How it is told whether all that must not be touched was as before.
-fn touched(kept: bool) -> &'static str {
-    if kept { "" } else { " touched" }
 }
 
 // What a page wrote, and whether a further entry follows.

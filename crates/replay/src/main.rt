@@ -1,12 +1,15 @@
 // Reads calls from standard input, each as numbers, and prints the refusal of each, or its row system: sizes, kinds, pieces, what the allowed maps do to
-// cells on smaller boards, and rows; for some calls pages of both engines' lists too. The stored output is the oracle's (oracle/replay.py).
+// cells on smaller boards, and rows; for some calls pages of both engines' lists too; and for each the text for DLX1, or why there is none. The stored output
+// is the oracle's (oracle/replay.py).
 #![tactic(auto)]
 
 ghost use Rattle.std.specs.Prelude.{◌≤◌, length};
 
 mod call;
+mod dlx_text;
 mod listings;
 mod reader;
+mod stains;
 mod systems;
 
 use reader::Reader;
@@ -24,7 +27,7 @@ fn show_call(rt: &impl Print, reader: &mut Reader, cells: &mut [u8]) -> io::Resu
     if shown.pages {
         listings::show(rt, &call)?;
     }
-    Ok(())
+    dlx_text::show(rt, &call)
 }
 
 // The calls of a text, one behind the other, up to the end, or one of which nothing can be read.

@@ -93,6 +93,7 @@ pub(crate) fn show(rt: &impl Print, call: &Call) -> io::Result<()> {
         call.board,
         call.bytes,
         call.config,
+        work.len(),
         call.links,
         work,
         &mut chart,

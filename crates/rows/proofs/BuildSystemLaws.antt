@@ -44,7 +44,9 @@ use Rattle.placements.specs.declared.counting.Counts.{Counts}
 use Rattle.placements.specs.declared.stripping.StrippedRecords.{StrippedRecords}
 use Rattle.placements.specs.Stripping.{lent_place, StripsTray}
 use Rattle.placements.proofs.FittingLaws.{scan_number_place}
-use Rattle.placements.proofs.CountingLaws.{first_passes, cells_many, counts_stripped}
+use Rattle.theorems.proofs.RefusalLaws.{first_passes}
+use Rattle.theorems.proofs.FewLaws.{few_cells, few_kinds}
+use Rattle.placements.proofs.CountingLaws.{cells_many, counts_stripped}
 use Rattle.placements.proofs.StageLaws.{refusal_stages}
 use Rattle.rows.specs.Rows.{rows_in, spread, RowsFit, Appended}
 use Rattle.rows.specs.Boards.{Numbered, Pictured, board_images}
@@ -54,7 +56,7 @@ use Rattle.rows.specs.declared.chart.Owned.{Owned}
 use Rattle.rows.specs.Ranges.{Ranged}
 use Rattle.rows.specs.Built.{BuiltLent}
 use Rattle.rows.specs.Systems.{KindsIn, owned, owned_in, images_in, cell_images, system_over, system_of}
-use Rattle.rows.proofs.SystemLaws.{few-cells, few-kinds, spread_placements}
+use Rattle.rows.proofs.SystemLaws.{spread_placements}
 use Rattle.rows.proofs.RowLaws.{append_first}
 
 -- ---- a call that lends an accepted tray
@@ -227,9 +229,9 @@ rows_fit t board bytes work ok few long = record { spreads = spread_placements c
     few_ranges : (q : Placement) → Memᴰ q (compile (tray_in (records_of t) board bytes)).placements → 128 * q.kind + q.p < 2048
     few_ranges q m =
         let a = (W (fast_call t board bytes work) passes).on_board q m q.p ((W (fast_call t board bytes work) passes).covers_p q m) in
-        let b = few-cells (fast_call t board bytes work) passes in
+        let b = few_cells (fast_call t board bytes work) passes in
         let d = (W (fast_call t board bytes work) passes).of_kinds q m in
-        let e = few-kinds (fast_call t board bytes work) passes in
+        let e = few_kinds (fast_call t board bytes work) passes in
         omega arith
 
 -- (the frame decides no placement)

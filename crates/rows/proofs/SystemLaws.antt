@@ -10,23 +10,21 @@ use lib.Dec.{T}
 use lib.ListN.{length, get_or, length-map, length-append}
 use Rattle.lists.specs.Lists.{cons_if, all, keep, each, below, numbered_from, ascending, sum}
 use Rattle.lists.proofs.TestLaws.{and_right, is_false}
-use Rattle.lists.proofs.ListLaws.{length_numbered, apart_length, map_still}
-use Rattle.lists.proofs.SortLaws.{not_again, apart_ascending, sort_at}
+use Rattle.lists.proofs.ListLaws.{map_still}
+use Rattle.lists.proofs.SortLaws.{not_again}
 use Rattle.lists.proofs.RangeLaws.{length_below, members_below}
 use Rattle.lists.proofs.CountLaws.{total, total_add, total_zero, total_same, sum_map}
 use Rattle.definitions.specs.Grid.{Cell, set_down, box}
 use Rattle.definitions.specs.Scan.{scan_number}
-use Rattle.definitions.specs.Stripping.{strip}
 use Rattle.definitions.specs.Answers.{lent_cells}
 use Rattle.definitions.specs.Kinds.{Piece, Form, same_form, form_ahead, Sorted, sort_piece, Copy, Kind, sorted, forms, copies_of, kinds_of}
 use Rattle.definitions.specs.Placements.{Placement, Compiled, compile}
 use Rattle.definitions.specs.Packing.{limits}
 use Rattle.definitions.specs.Kept.{kind_after}
-use Rattle.definitions.specs.Refusals.{Call, lent_of, strip_tray, tray_of, copy_count, board_cell_count, placement_count, refusal}
+use Rattle.definitions.specs.Refusals.{Call, lent_of, tray_of, copy_count, placement_count, refusal}
+use Rattle.theorems.proofs.FewLaws.{few_cells, few_kinds}
 use Rattle.theorems.proofs.MapLaws.{box_of}
 use Rattle.theorems.proofs.RefusalLaws.{PassedLent, passed}
-use Rattle.theorems.proofs.ShapeLaws.{scan_length, lent_board_whole}
-use Rattle.theorems.proofs.StrippingLaws.{strip_count, sum_bits}
 use Rattle.theorems.proofs.AnswerLaws.{set_number, in_lent}
 use Rattle.theorems.proofs.DemandLaws.{copies-lent}
 use Rattle.theorems.proofs.PartnerLaws.{same_form→eq, form_trans, form_irrefl, fs, fs_up}
@@ -95,32 +93,9 @@ module _ (l : Call) (ok : refusal l ≡ 0) where
   abbrev tested : PassedLent l.pieces l.board l.bytes (lent_of l)
   tested = (passed l ok).lent
 
-  pub few-cells : length (compile (tray_of l)).cells ≤ 128
-  unfolding compile board_cell_count strip_tray tray_of
-  few-cells =
-      let g = (lent_of l).board in
-      let a = tested.few_cells in
-      let b = sum_bits g tested.board_bits (lent_board_whole l ok) in
-      let c = strip_count g in
-      let d = scan_length (strip g).sides (strip g) in
-      omega arith
-
   pub few-rows : length (compile (tray_of l)).placements ≤ 1024
   unfolding placement_count
   few-rows = (passed l ok).few_placements
-
-  pub few-kinds : length (compile (tray_of l)).kinds ≤ 16
-  unfolding compile kinds_of lent_of strip_tray tray_of fs forms sorted
-  few-kinds =
-      let a = tested.few_pieces in
-      let qs = sorted (tray_of l) in
-      let b = apart_length (forms qs) (map (λ q. q.form) qs) (apart_ascending form_ahead form_irrefl (forms qs) (fs_up (tray_of l) (piece_whole l ok)))
-      (λ g m. sort_at form_ahead (map (λ (q : Sorted). q.form) qs) m) in
-      let c = length-map qs (λ (q : Sorted). q.form) in
-      let d = length_numbered {B = Sorted} sort_piece 0 (tray_of l).pieces in
-      let e : length (tray_of l).pieces ≡ length l.pieces = length-map (lent_of l).pieces _ ∙ length-map l.pieces _ in
-      let f : length C.kinds ≡ length (forms qs) = length-map (forms qs) _ in
-      omega arith
 
   pub few-copies : sum (limits (compile (tray_of l))) ≤ 128
   unfolding compile limits kinds_of copy_count fs sorted
@@ -141,7 +116,7 @@ module _ (l : Call) (ok : refusal l ≡ 0) where
     where
       back : (q : Placement) → Memᴰ q C.placements → spread q ≡ q
       back q m =
-          let e = members_below 128 q.cells ((W l ok).cells_ascend q m) (λ n k. let a = (W l ok).on_board q m n k in let b = few-cells in omega arith) in
+          let e = members_below 128 q.cells ((W l ok).cells_ascend q m) (λ n k. let a = (W l ok).on_board q m n k in let b = few_cells l ok in omega arith) in
           (λ i. record { kind = q.kind; p = q.p; j = q.j; cells = e i })
 
   -- ---- each cell has a place in the box that was lent
@@ -157,9 +132,9 @@ module _ (l : Call) (ok : refusal l ≡ 0) where
   unfolding system_of limits
   lawful copies =
       record {
-        few_cells = few-cells;
+        few_cells = few_cells l ok;
         few_rows = few-rows;
-        few_kinds = (let e = many in let h = few-kinds in omega arith);
+        few_kinds = (let e = many in let h = few_kinds l ok in omega arith);
         a_partner_each = length-map C.kinds (λ (d : Kind). d.partner) ∙ sym many;
         few_copies = few-copies;
         scanned = scanned_cell;

@@ -1,6 +1,6 @@
-// The rows of a tray, written into the work slice, by kind, then (p, j).
-// (The work slice and the number of rows in it stay two values: the C call lends the slice whole, and the caller's proof would not learn from a struct that
-// borrows it what the slice holds at the end.)
+// The rows of a tray, written into a slice of words (a call's work slice, or memory in its place), by kind, then (p, j).
+// (The slice and the number of rows in it stay two values: the page call for C lends its work slice whole, and the caller's proof would not learn from a
+// struct that borrows it what the slice holds at the end.)
 ghost use Rattle.std.specs.Prelude.{◌≡◌, [], ◌∷◌, map, ◌+◌, ◌*◌, ◌≤◌, ◌<◌, T, ltb, length, get_or};
 ghost use Rattle.lists.specs.Lists.{all, joined, member, numbered};
 ghost use Rattle.definitions.specs.Grid.{InBox, place_of};

@@ -1,4 +1,5 @@
-// A row of the work slice: eight words, read one by one. (Words and no struct: the work slice is lent as words by the C call.)
+// A row: eight words of a slice, read one by one. (Words and no struct: the slice is a work slice, which the page call for C lends as words, or memory in its
+// place.)
 ghost use Rattle.std.specs.Prelude.{◌≡◌, ◌+◌, ◌*◌, ◌≤◌, length};
 ghost use Rattle.rows.specs.Rows.{mask_at, row_at};
 

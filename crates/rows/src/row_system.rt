@@ -12,9 +12,9 @@ ghost use Rattle.rows.specs.Ready.{Ready, Sized};
 use super::chart::Chart;
 use super::{Dims, answers, images, shown};
 
-// How large it is, and the work slice and the chart in which it stands, ready for the engines. That it is ready is a fact told by cases (which map is the
+// How large it is, and the words and the chart in which it stands, ready for the engines. That it is ready is a fact told by cases (which map is the
 // inverse, which row the image), and a ghost field is a proposition: so it stands as one. Beside it stands how large it is, which the check reads as it is.
-// (The functions that the methods call take the three one by one: they are public and ask less than this type.)
+// (The functions that the methods call take what they need of the three, one by one: they are public and ask less than this type.)
 #[derive(Clone, Copy)]
 pub struct RowSystem<'a> {
     pub d: Dims,

@@ -1,11 +1,11 @@
-// Runs of `pack`: what it prints for each of these files, one after the other, held to the stored output. A file that is missing and a
-// folder in place of a file make reads that fail.
+// Runs of `pack` and `dlx1`: what `pack` prints for each file of a list, one after the other, and then what `dlx1` prints for each file of another, held to
+// the stored output. A file that is missing and a folder in place of a file make reads that fail.
 #![tactic(auto)]
 
 use std::fs;
-use streams::Room;
+use streams::{Dlx1Room, Room, Text};
 
-const NAMES: [&str; 19] = [
+const LISTED: [&str; 19] = [
     "listing.tray",
     "listing_knuth.tray",
     "no_packing.tray",
@@ -27,18 +27,42 @@ const NAMES: [&str; 19] = [
     ".",
 ];
 
-// What `pack` prints for a file; one that cannot be opened counts as one whose first read fails.
-fn list(rt: &HostRuntime, room: &mut Room, name: &str) {
+const TEXTS: [&str; 16] = [
+    "listing.tray",
+    "listing_knuth.tray",
+    "no_packing.tray",
+    "unfilled_cell.tray",
+    "empty_box_unfilled.tray",
+    "empty_box_filled.tray",
+    "no_copies.tray",
+    "woods.tray",
+    "empty_layers.tray",
+    "layers_text.tray",
+    "side_9.tray",
+    "malformed.tray",
+    "16385_bytes.tray",
+    "soma_knuth.tray",
+    "missing.tray",
+    ".",
+];
+
+// Reads a file; one that cannot be opened counts as one whose first read fails.
+fn read(rt: &HostRuntime, text: &mut Text, name: &str) {
     match fs::open(rt, name) {
-        Ok(mut file) => room.read(&mut file),
-        Err(_) => room.mark_unreadable(),
+        Ok(mut file) => text.read(&mut file),
+        Err(_) => text.mark_unreadable(),
     }
-    let _ = room.print(&mut rt.stdout());
 }
 
 fn main(rt: HostRuntime) {
     let mut room = Room::new();
-    for name in NAMES {
-        list(&rt, &mut room, name);
+    for name in LISTED {
+        read(&rt, &mut room.text, name);
+        let _ = room.print(&mut rt.stdout());
+    }
+    let mut dlx1_room = Dlx1Room::new();
+    for name in TEXTS {
+        read(&rt, &mut dlx1_room.text, name);
+        let _ = dlx1_room.print(&mut rt.stdout());
     }
 }

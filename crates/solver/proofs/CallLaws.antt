@@ -70,7 +70,7 @@ module _ (rs : List Record) (board : Record) (bytes : List ℕ) (config : Config
   abbrev call : Call
   call = call_with rs board bytes config answers work links
 
-  refusal_is : refusal (call_with rs board bytes config answers work links) ≡ refusal_by rs board bytes config (length work) (length links)
+  pub refusal_is : refusal (call_with rs board bytes config answers work links) ≡ refusal_by rs board bytes config (length work) (length links)
   unfolding call_with refusal_by
   refusal_is = refusal_stages (call_with rs board bytes config answers work links)
 
@@ -81,7 +81,7 @@ module _ (rs : List Record) (board : Record) (bytes : List ℕ) (config : Config
       ap (λ (n : ℕ). refused n call) (e ∙ sym refusal_is) ∙ sym (from_refused start last call (λ z. refused_some why (e ∙ sym refusal_is ∙ z)))
 
   -- ---- a call that is not refused
-  module _ (d : Dims) (after : List ℕ) (chart : Chart) (s : Stands d rs board bytes config (length links) work after chart) where
+  module _ (d : Dims) (after : List ℕ) (chart : Chart) (s : Stands d rs board bytes config (length work) (length links) work after chart) where
     ok : refusal (call_with rs board bytes config answers work links) ≡ 0
     ok = refusal_is ∙ s.accepted
 

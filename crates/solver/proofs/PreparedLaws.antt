@@ -167,12 +167,12 @@ unfolding unframed strip_tray frame_of grid_of
 framed_tray t board bytes s lent e = λ i. record { board = (s.tray i).board; pieces = (s.tray i).pieces; frame = record { lent = e i; at = s.at i } }
 
 -- what was built of it is the row system of the tray, ready for the engines
-pub system_stands : (t : Pieces) (board : Record) (bytes : List ℕ) {r : StrippedRecords} {cells : List ℕ} (s : StripsTray t board bytes r cells) (config : Config) (links : ℕ) (lent : Coord)
+pub system_stands : (t : Pieces) (board : Record) (bytes : List ℕ) {r : StrippedRecords} {cells : List ℕ} (s : StripsTray t board bytes r cells) (config : Config) (words links : ℕ) (lent : Coord)
     → as_sides lent ≡ sides_of board → (work after : List ℕ) (chart : Chart) (d : Dims) → Accepted9 t board bytes → length after ≡ length work → 8192 ≤ length work
-    → refusal_by (records_of t) board bytes config (length work) links ≡ 0 → placement_count (compile (tray_in (records_of t) board bytes)) ≤ 1024
+    → refusal_by (records_of t) board bytes config words links ≡ 0 → placement_count (compile (tray_in (records_of t) board bytes)) ≤ 1024
     → BuiltSystem (framed_in (records_of r.pieces) r.board cells (frame_at lent r.at)) d work after chart
-    → Stands d (records_of t) board bytes config links work after chart
-system_stands t board bytes s config links lent e work after chart d ok same long accepted few b =
+    → Stands d (records_of t) board bytes config words links work after chart
+system_stands t board bytes s config words links lent e work after chart d ok same long accepted few b =
     let is = b.system ∙ ap system_of (framed_tray t board bytes s lent e) in
     let v : d.places ≡ volume (sides_of board) = b.places ∙ ap volume e in
     record {
@@ -193,17 +193,17 @@ module _ (d : Dims) (work : List ℕ) (chart : Chart) (rs : List Record) (board 
       let b = length-take d.places chart.scans in
       omega arith
 
-  pub stands_sized : (config : Config) (links : ℕ) (before : List ℕ) → Stands d rs board bytes config links before work chart → Sized d work chart
-  stands_sized config links before s = sized_by d work chart s.ready (scans_fit s.system s.places)
+  pub stands_sized : (config : Config) (words links : ℕ) (before : List ℕ) → Stands d rs board bytes config words links before work chart → Sized d work chart
+  stands_sized config words links before s = sized_by d work chart s.ready (scans_fit s.system s.places)
 
 -- ---- refusals
 -- a call that is refused finds nothing written
-pub refuses : {r : Result Dims Refusal} {why : Refusal} (rs : List Record) (board : Record) (bytes : List ℕ) (config : Config) (links : ℕ) (work : List ℕ) (chart : Chart)
-    → (x : Refusal) × (r ≡ Err x) × (x ≡ why) → number_of why ≡ refusal_by rs board bytes config (length work) links
-    → Prepares r rs board bytes config links work chart work chart
+pub refuses : {r : Result Dims Refusal} {why : Refusal} (rs : List Record) (board : Record) (bytes : List ℕ) (config : Config) (words links : ℕ) (work : List ℕ) (chart : Chart)
+    → (x : Refusal) × (r ≡ Err x) × (x ≡ why) → number_of why ≡ refusal_by rs board bytes config words links
+    → Prepares r rs board bytes config words links work chart work chart
 unfolding Prepares
-refuses rs board bytes config links work chart is first =
-    subst (λ (r : Result Dims Refusal). Prepares r rs board bytes config links work chart work chart) (sym (is.1 ∙ ap (λ (x : Refusal). Err x) is.2))
+refuses rs board bytes config words links work chart is first =
+    subst (λ (r : Result Dims Refusal). Prepares r rs board bytes config words links work chart work chart) (sym (is.1 ∙ ap (λ (x : Refusal). Err x) is.2))
     (record { first = first; untouched = refl; uncharted = refl })
 
 -- the part of the table that refuses, where those before it do not, decides

@@ -88,7 +88,7 @@ module _ (ps : List Record) where
   records_more = records_count (pieces_of ps) rows_many
 
 -- a definition that says the same of all lists of more than 16 records says the same of the pieces' list
-same_of : {A : Type 0} (d : List Record → A) → ((ps qs : List Record) → 16 < length ps → 16 < length qs → d ps ≡ d qs) → (ps : List Record) → d (records_of (pieces_of ps)) ≡ d ps
+pub same_of : {A : Type 0} (d : List Record → A) → ((ps qs : List Record) → 16 < length ps → 16 < length qs → d ps ≡ d qs) → (ps : List Record) → d (records_of (pieces_of ps)) ≡ d ps
 same_of d big ps = go (leb (length ps) 16) refl
   where
     go : (b : Bool) → leb (length ps) 16 ≡ b → d (records_of (pieces_of ps)) ≡ d ps

@@ -1,5 +1,5 @@
 -- What preparation answers, and leaves in the slices.
-use Rattle.std.specs.Prelude.{ℕ, List, ◌++◌, ◌≡◌, length, drop, Result, Ok, Err}
+use Rattle.std.specs.Prelude.{ℕ, List, ◌++◌, ◌≡◌, drop, Result, Ok, Err}
 use Rattle.definitions.specs.Grid.{volume}
 use Rattle.definitions.specs.Placements.{compile}
 use Rattle.definitions.specs.Refusals.{first_that_applies, sides_of}
@@ -19,22 +19,22 @@ unfoldable pub refusal_by : List Record → Record → List ℕ → Config → �
 refusal_by rs board bytes config work links =
     first_that_applies (lent_rows rs board bytes ++ config_rows config ++ slice_rows config work links ++ count_rows (compile (tray_in rs board bytes)) config)
 
--- why a call is refused, with work slice and chart untouched
-pub record RefusedBy (why : Refusal) (rs : List Record) (board : Record) (bytes : List ℕ) (config : Config) (links : ℕ) (work : List ℕ) (chart : Chart)
+-- Why a call is refused to which so many words and links are lent, with the slice in which its rows would stand, and the chart, untouched.
+pub record RefusedBy (why : Refusal) (rs : List Record) (board : Record) (bytes : List ℕ) (config : Config) (words links : ℕ) (work : List ℕ) (chart : Chart)
     (after : List ℕ) (charted : Chart) : Type 0 where
-  pub first : number_of why ≡ refusal_by rs board bytes config (length work) links
+  pub first : number_of why ≡ refusal_by rs board bytes config words links
   pub untouched : after ≡ work
   pub uncharted : charted ≡ chart
 
 -- or the row system of its tray, ready for the engines
-pub record Stands (d : Dims) (rs : List Record) (board : Record) (bytes : List ℕ) (config : Config) (links : ℕ) (work after : List ℕ) (charted : Chart)
+pub record Stands (d : Dims) (rs : List Record) (board : Record) (bytes : List ℕ) (config : Config) (words links : ℕ) (work after : List ℕ) (charted : Chart)
     : Type 0 where
-  pub accepted : refusal_by rs board bytes config (length work) links ≡ 0
+  pub accepted : refusal_by rs board bytes config words links ≡ 0
   pub ready : Ready d after charted
   pub system : system_in d after charted ≡ system_of (tray_in rs board bytes)
   pub places : d.places ≡ volume (sides_of board)
   pub behind : drop 8192 after ≡ drop 8192 work
 
-unfoldable pub Prepares : Result Dims Refusal → List Record → Record → List ℕ → Config → ℕ → List ℕ → Chart → List ℕ → Chart → Type 0
-Prepares (Err why) rs board bytes config links work chart after charted = RefusedBy why rs board bytes config links work chart after charted
-Prepares (Ok d) rs board bytes config links work chart after charted = Stands d rs board bytes config links work after charted
+unfoldable pub Prepares : Result Dims Refusal → List Record → Record → List ℕ → Config → ℕ → ℕ → List ℕ → Chart → List ℕ → Chart → Type 0
+Prepares (Err why) rs board bytes config words links work chart after charted = RefusedBy why rs board bytes config words links work chart after charted
+Prepares (Ok d) rs board bytes config words links work chart after charted = Stands d rs board bytes config words links work after charted

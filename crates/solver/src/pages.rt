@@ -76,7 +76,16 @@ pub fn page(
         Meets start last.now call (outcome_of result answers.new work.new links.new) }
 {
     let mut chart = Chart::empty();
-    let d = prepare::prepare(pieces, board, bytes, config, links.len(), work, &mut chart)?;
+    let d = prepare::prepare(
+        pieces,
+        board,
+        bytes,
+        config,
+        work.len(),
+        links.len(),
+        work,
+        &mut chart,
+    )?;
     let begun = Emission {
         start,
         written: 0,

@@ -1,4 +1,5 @@
 // Refusal and preparation, once for every call: the table's tests in their order, and where none applies the row system, into a work slice and a chart.
+ghost use Rattle.std.specs.Prelude.{◌≤◌, length, min};
 ghost use Rattle.solver.specs.Preparing.{Prepares};
 ghost use Rattle.placements.specs.Pieces.{records_of};
 
@@ -8,22 +9,25 @@ use placements::{Pieces, counting, records, refusals, stripping};
 use rows::chart::Chart;
 use rows::{Dims, system};
 
-// The first refusal that applies, with nothing written; or how large the row system is, which then stands in work slice and chart. Links of
-// so many numbers are lent to the call. (No struct of what is lent: the C call lends it one by one, and it would be taken apart at each call.)
+// The first refusal that applies to a call to which so many words and links are lent, with nothing written; or how large the row system is, which then stands
+// in a slice and a chart. The slice is the call's work slice, or memory in its place. (No struct of what is lent: the calls for C lend it one by one, and it
+// would be taken apart at each call.)
 pub fn prepare(
     pieces: &Pieces,
     board: Record,
     bytes: &[u8],
     config: Config,
+    words: usize,
     links: usize,
     work: &mut [u64],
     chart: &mut Chart,
 ) -> Result<Dims, Refusal>
-    ensures { Prepares result (records_of pieces.now) board bytes.now config links work.old chart.old work.new chart.new }
+    requires { min words 8192 ≤ length work.old }
+    ensures { Prepares result (records_of pieces.now) board bytes.now config words links work.old chart.old work.new chart.new }
 {
     refusals::check_lent(pieces, board, bytes)?;
     refusals::check_config(config)?;
-    refusals::check_slices(config, work.len(), links)?;
+    refusals::check_slices(config, words, links)?;
     let lent = LentTray {
         pieces: *pieces,
         board,

@@ -11,7 +11,7 @@ use placements::Pieces;
 use placements::records::NO_RECORD;
 
 // The first 16 records by value, and how many records were lent.
-fn taken(pieces: &[Record]) -> Pieces
+pub fn taken(pieces: &[Record]) -> Pieces
     ensures { result ≡ pieces_of pieces.now }
 {
     let count = pieces.len();

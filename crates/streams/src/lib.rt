@@ -1,21 +1,25 @@
-// A text read from a reader, and what `pack` prints for it written to a writer.
+// A text read from a reader, and what `pack` or `dlx1` prints for it written to a writer.
 //
 // Every function here is proved. No contract can say which bytes are read or written: that `read_text` puts the input's bytes one
-// after the other into its slice, and that `print` has each stretch written that a step makes, is for the eye, and for the stored runs
-// of the programs above.
+// after the other into its slice, that `print` has each stretch written that a step makes, and `Dlx1Room::print` all that is made, is
+// for the eye, and for the stored runs of the programs above.
 #![tactic(auto)]
 
+mod dlx1_room;
 mod room;
+mod text;
 
 ghost use Rattle.std.specs.Prelude.{◌≤◌, ◌<◌, ◌≡◌, length, take, OnOk};
 ghost use Rattle.definitions.specs.Files.{packed};
 ghost use Rattle.streams.specs.Printing.{Ends, Lent};
 ghost use Rattle.streams.specs.Reading.{read_after};
 
+pub use dlx1_room::Dlx1Room;
 use output::{Progress, Stretch};
 pub use room::Room;
 use std::io;
 use std::io::{Read, Write};
+pub use text::Text;
 
 // How many bytes of a text are read once a read behind the first n of them has answered. A read that fails is not the input's end: it
 // counts as a full slice.

@@ -1,20 +1,17 @@
 -- A number's digits are those of its tenth and the last one: at most 20 for 64 bits, of which the tenth has at most 19, and at most three for a byte.
 -- Assumes nothing.
 use Prim.Native.Nat.{ℕ, zero, suc, ◌+◌, ◌/◌, ◌%◌, ◌^◌, ◌≤◌, ◌<◌}
-use mathlib.Core.Bool.{Bool, true, false, cond}
+use mathlib.Core.Bool.{Bool, cond}
 use mathlib.Core.List.{List, [], ◌∷◌, ◌++◌}
 use mathlib.Core.Path.{◌≡◌, sym, ap, ◌∙◌, subst}
-use native.Mathlib.Nat.{pow-suc}
 use native.Mathlib.Omega.{arith}
 use borrow.Author.Tests.{lt-ltb, le-ltb}
 use lib.Dec.{ltb}
-use lib.ListN.{length, set, length-append}
+use lib.ListN.{length, set}
 use Rattle.definitions.specs.Files.{decimal, decimal_with}
+use Rattle.theorems.proofs.DigitLaws.{few_with, tenth}
 use Rattle.texts.specs.Put.{Put}
 use Rattle.texts.proofs.PutLaws.{put_one, put_byte}
-
-tenth : (n k : ℕ) → n < 10 ^ suc k → n / 10 < 10 ^ k
-tenth n k h = let e = pow-suc 10 k in omega arith
 
 -- where the digits are enough, one more makes no difference
 enough : (k n : ℕ) → n < 10 ^ suc k → decimal_with (suc k) n ≡ decimal_with (suc (suc k)) n
@@ -31,22 +28,13 @@ decimal_more n h k =
     ap (λ (t : Bool). cond t ((n + 48) ∷ []) (decimal_with 19 (n / 10) ++ ((n % 10 + 48) ∷ []))) (le-ltb n 10 h)
     ∙ ap (λ (l : List ℕ). l ++ ((n % 10 + 48) ∷ [])) (enough 18 (n / 10) (omega arith))
 
-few_digits : (k fuel n : ℕ) → n < 10 ^ suc k → length (decimal_with fuel n) ≤ suc k
-few_digits k zero n h = omega arith
-few_digits zero (suc fuel) n h = rw (lt-ltb n 10 (omega arith)) (omega arith)
-few_digits (suc k) (suc fuel) n h = go (ltb n 10) (few_digits k fuel (n / 10) (tenth n (suc k) h))
-  where
-    go : (t : Bool) → length (decimal_with fuel (n / 10)) ≤ suc k → length (cond t ((n + 48) ∷ []) (decimal_with fuel (n / 10) ++ ((n % 10 + 48) ∷ []))) ≤ suc (suc k)
-    go true i = omega arith
-    go false i = simp length-append (omega arith)
-
 pub digits_of_byte : (n : ℕ) → n < 256 → length (decimal n) ≤ 3
 unfolding decimal
-digits_of_byte n h = few_digits 2 20 n (omega arith)
+digits_of_byte n h = few_with 2 20 n (omega arith)
 
 pub digits_of_tenth : (n : ℕ) → n < 2 ^ 64 → length (decimal (n / 10)) ≤ 19
 unfolding decimal
-digits_of_tenth n h = few_digits 18 20 (n / 10) (omega arith)
+digits_of_tenth n h = few_with 18 20 (n / 10) (omega arith)
 
 -- ---- digits put
 pub put_digit : (old : List ℕ) (at n : ℕ) → n < 10 → at < length old → Put old at (decimal n) (set old at (48 + n)) (at + 1)

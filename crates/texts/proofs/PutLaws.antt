@@ -1,14 +1,14 @@
 -- A text put behind a text puts both, and one byte stored puts that byte; a line is put part by part. The buffer keeps its length. Assumes nothing.
 use Prim.Native.Nat.{ℕ, suc, ◌+◌, ◌≤◌, ◌<◌}
 use mathlib.Core.List.{List, [], ◌∷◌, ◌++◌, append_assoc}
-use mathlib.Core.Path.{◌≡◌, refl, sym, ap, ap₂, ◌∙◌, subst}
+use mathlib.Core.Path.{◌≡◌, refl, sym, ap, ap₂, ◌∙◌, subst, subst₂}
 use native.Mathlib.Numerals.{add-one}
 use native.Mathlib.Omega.{arith}
 use lib.ListN.{length, take, drop, set, length-append}
 use lib.Seq.{paste, take-paste, drop-paste, length-paste, take-length, drop-drop, set_split, append_snoc}
 use Rattle.texts.specs.Put.{Put}
 
-put_over : (old xs : List ℕ) (at : ℕ) → paste old at xs (length xs) ≡ take at old ++ xs ++ drop (at + length xs) old
+pub put_over : (old xs : List ℕ) (at : ℕ) → paste old at xs (length xs) ≡ take at old ++ xs ++ drop (at + length xs) old
 put_over old xs at = ap (λ (l : List ℕ). take at old ++ l ++ drop (at + length xs) old) (take-length xs)
 
 pub put_length : {old xs new : List ℕ} {at r : ℕ} → Put old at xs new r → r ≤ length old → length new ≡ length old
@@ -46,9 +46,13 @@ put_byte {old} {xs} {mid} {at} {m} b p h =
     let e = put_length p (omega arith) in
     put_then p (put_one mid m b (omega arith)) (omega arith)
 
--- the same buffer and place by other names
+-- the same buffer and place by other names, at the beginning; and at the end, with the text
 pub put_from : {mid xs new other : List ℕ} {m r k : ℕ} → other ≡ mid → k ≡ m → Put other k xs new r → Put mid m xs new r
 put_from {mid} {xs} {new} {other} {m} {r} {k} e f q = subst (λ (j : ℕ). Put mid j xs new r) f (subst (λ (l : List ℕ). Put l k xs new r) e q)
+
+pub put_by : {old xs ys new other : List ℕ} {at r k : ℕ} → other ≡ new → k ≡ r → xs ≡ ys → Put old at xs new r → Put old at ys other k
+put_by {old} {xs} {ys} {new} {other} {at} {r} {k} e f g q =
+    subst (λ (t : List ℕ). Put old at t other k) g (subst₂ (λ (l : List ℕ) (j : ℕ). Put old at xs l j) (sym e) (sym f) q)
 
 -- two texts with a byte between them
 pub put_parted : {old xs mid ys new : List ℕ} {at m r : ℕ} (b : ℕ) → Put old at xs mid m → Put (set mid m b) (m + 1) ys new r → r ≤ length old → Put old at (xs ++ b ∷ ys) new r

@@ -1,4 +1,4 @@
-// Bytes put into a buffer: numbers in decimal, words, and lines of both. Each function puts its bytes from a place on, leaves every
+// Bytes put into a buffer: numbers in decimal, bytes as they stand, and lines of both. Each function puts its bytes from a place on, leaves every
 // other byte as it was, and hands back the place behind them.
 //
 // The buffer and the place in it stay two: a struct of both would hold the slice lent on, and what the slice holds once it is given back is then not known
@@ -27,13 +27,13 @@ pub fn put_decimal(out: &mut [u8], at: usize, n: u64) -> usize
     end + 1
 }
 
-// A word.
-fn put_word(out: &mut [u8], at: usize, word: &[u8]) -> usize
-    requires { at + length word.now ≤ length out.old }
-    ensures { Put out.old at word.now out.new result }
+// Bytes as they stand.
+pub fn put_bytes(out: &mut [u8], at: usize, bytes: &[u8]) -> usize
+    requires { at + length bytes.now ≤ length out.old }
+    ensures { Put out.old at bytes.now out.new result }
 {
-    let end = at + word.len();
-    out[at..end].copy_from_slice(word);
+    let end = at + bytes.len();
+    out[at..end].copy_from_slice(bytes);
     end
 }
 
@@ -43,7 +43,7 @@ pub fn put_labelled(out: &mut [u8], at: usize, word: &[u8], n: u64) -> usize
     ensures { Put out.old at (word.now ++ 9 ∷ decimal n ++ 10 ∷ []) out.new result
         × (result ≤ at + length word.now + 22) }
 {
-    let tab = put_word(out, at, word);
+    let tab = put_bytes(out, at, word);
     out[tab] = b'\t';
     let end = put_decimal(out, tab + 1, n);
     out[end] = b'\n';

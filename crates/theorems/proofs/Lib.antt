@@ -36,3 +36,13 @@ pub mod StartLaws
 pub mod CarryLaws
 pub mod PruningLaws
 pub mod TrayLaws
+pub mod BoxOrderLaws
+pub mod TextCallLaws
+pub mod BuiltOrderLaws
+pub mod DigitLaws
+pub mod Dlx1ReadingLaws
+pub mod TextLengthLaws
+pub mod Dlx1TakenLaws
+pub mod Dlx1CoverLaws
+pub mod TextRightLaws
+pub mod FewLaws

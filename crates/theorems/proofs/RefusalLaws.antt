@@ -2,7 +2,7 @@
 use Prim.Native.Nat.{ℕ, ◌*◌, ◌<◌, ◌≤◌}
 use mathlib.Core.Bool.{Bool, true, false, cond, not, ◌&&◌, ◌||◌}
 use mathlib.Core.List.Memᴰ
-use mathlib.Core.List.{List, [], ◌∷◌}
+use mathlib.Core.List.{List, [], ◌∷◌, ◌++◌}
 use mathlib.Core.Path.{◌≡◌, refl, sym, ap, ◌∙◌, subst}
 use mathlib.Core.Logic.{◌⊎◌, inl, inr, ◌≢◌}
 use native.Mathlib.Nat.{mul-le-mul}
@@ -10,27 +10,24 @@ use native.Mathlib.Omega.{arith}
 use borrow.Author.Tests.{ltb-false, not-false}
 use lib.Dec.{T, ltb, leb, eqb, eqb→eq, ltb→lt, leb→le, eqb_refl}
 use lib.ListN.{length}
-use Rattle.lists.specs.Lists.{all, any}
+use Rattle.lists.specs.Lists.{all}
 use Rattle.lists.proofs.TestLaws.{and_left, and_right, and_both, or_left, or_right, or_cases, eqb_of, is_true, is_false, holds}
 use Rattle.lists.proofs.ListLaws.{all_at}
 use Rattle.definitions.specs.Grid.{volume}
 use Rattle.definitions.specs.Kinds.{Tray}
 use Rattle.definitions.specs.Placements.{compile}
-use Rattle.definitions.specs.Refusals.{Call, Row, table, applies, first_that_applies, refusal, sides_of, lent_of, tray_of, is_side, sides_fit, cells_lie, are_bits, some_filled, copy_count, board_cell_count, is_ported, is_knuth, placement_count, link_count}
+use Rattle.definitions.specs.Refusals.{Call, Row, table, applies_in, applies, first_that_applies, refusal, sides_of, lent_of, tray_of, is_side, sides_fit, cells_lie, are_bits, some_filled, copy_count, board_cell_count, is_ported, is_knuth, placement_count, link_count}
 use Rattle.definitions.specs.declared.Record.{Record}
 use Rattle.definitions.specs.Outcomes.{Outcome, accepted, refused, outcome}
 use Rattle.definitions.specs.Demands.{Demand1, MeetsDemand1}
 
 -- ---- rows with numbers from 1 on, ascending
-abbrev numbered : List Row → Bool
+abbrev pub numbered : List Row → Bool
 numbered rs = all (λ r. ltb 0 r.number) rs
 
-abbrev rising : List Row → Bool
+abbrev pub rising : List Row → Bool
 rising [] = true
 rising (r ∷ rs) = all (λ s. ltb r.number s.number) rs && rising rs
-
-abbrev has_row : List Row → ℕ → Bool
-has_row rs n = any (λ r. eqb r.number n && r.applies) rs
 
 -- the test of the row with number n, wherever it stands in the table; false where no row has it
 abbrev pub test_of : List Row → ℕ → Bool
@@ -56,46 +53,65 @@ none_applies (r ∷ rs) t e n =
     go true i f = i
     go false i f = f
 
+-- rows with numbers from 1 on: where none applies those behind them decide, and where one does they do not
+pub first_passes : (xs ys : List Row) → T (all (λ r. ltb 0 r.number) xs) → first_that_applies xs ≡ 0 → first_that_applies (xs ++ ys) ≡ first_that_applies ys
+first_passes [] ys p e = refl
+first_passes (r ∷ xs) ys p e = go r.applies e (λ (i : first_that_applies xs ≡ 0). first_passes xs ys (and_right (ltb 0 r.number) (all (λ q. ltb 0 q.number) xs) p) i)
+  where
+    go : (b : Bool) → cond b r.number (first_that_applies xs) ≡ 0 → (first_that_applies xs ≡ 0 → first_that_applies (xs ++ ys) ≡ first_that_applies ys)
+        → cond b r.number (first_that_applies (xs ++ ys)) ≡ first_that_applies ys
+    go true i f = let l = ltb→lt 0 r.number (and_left (ltb 0 r.number) (all (λ q. ltb 0 q.number) xs) p) in absurd (omega arith)
+    go false i f = f i
+
+pub first_decides : (xs ys : List Row) → (first_that_applies xs ≡ 0 → ⊥) → first_that_applies (xs ++ ys) ≡ first_that_applies xs
+first_decides [] ys e = absurd (e refl)
+first_decides (r ∷ xs) ys e = go r.applies e (λ (i : first_that_applies xs ≡ 0 → ⊥). first_decides xs ys i)
+  where
+    go : (b : Bool) → (cond b r.number (first_that_applies xs) ≡ 0 → ⊥) → ((first_that_applies xs ≡ 0 → ⊥) → first_that_applies (xs ++ ys) ≡ first_that_applies xs)
+        → cond b r.number (first_that_applies (xs ++ ys)) ≡ cond b r.number (first_that_applies xs)
+    go true i f = refl
+    go false i f = f i
+
 -- the row returned applies, and none with a smaller number does
-first_applies : (rs : List Row) → T (numbered rs) → (first_that_applies rs ≡ 0 → ⊥) → T (has_row rs (first_that_applies rs))
+pub first_applies : (rs : List Row) → T (numbered rs) → (first_that_applies rs ≡ 0 → ⊥) → T (applies_in rs (first_that_applies rs))
 first_applies [] t d = absurd (d refl)
 first_applies (r ∷ rs) t d = go r.applies d (λ (i : first_that_applies rs ≡ 0 → ⊥). first_applies rs (and_right (ltb 0 r.number) (numbered rs) t) i)
   where
-    go : (b : Bool) → (cond b r.number (first_that_applies rs) ≡ 0 → ⊥) → ((first_that_applies rs ≡ 0 → ⊥) → T (has_row rs (first_that_applies rs)))
-        → T ((eqb r.number (cond b r.number (first_that_applies rs)) && b) || has_row rs (cond b r.number (first_that_applies rs)))
-    go true i f = or_left (eqb r.number r.number && true) (has_row rs r.number) (and_both (eqb r.number r.number) true (eqb_refl r.number) tt)
-    go false i f = or_right (eqb r.number (first_that_applies rs) && false) (has_row rs (first_that_applies rs)) (f i)
+    go : (b : Bool) → (cond b r.number (first_that_applies rs) ≡ 0 → ⊥) → ((first_that_applies rs ≡ 0 → ⊥) → T (applies_in rs (first_that_applies rs)))
+        → T ((eqb r.number (cond b r.number (first_that_applies rs)) && b) || applies_in rs (cond b r.number (first_that_applies rs)))
+    go true i f = or_left (eqb r.number r.number && true) (applies_in rs r.number) (and_both (eqb r.number r.number) true (eqb_refl r.number) tt)
+    go false i f = or_right (eqb r.number (first_that_applies rs) && false) (applies_in rs (first_that_applies rs)) (f i)
 
 -- numbers of later rows are larger
-none_later : (m n : ℕ) (rs : List Row) → T (all (λ s. ltb m s.number) rs) → T (has_row rs n) → m < n
+none_later : (m n : ℕ) (rs : List Row) → T (all (λ s. ltb m s.number) rs) → T (applies_in rs n) → m < n
 none_later m n [] t h = absurd h
 none_later m n (r ∷ rs) t h =
-    go (or_cases (eqb r.number n && r.applies) (has_row rs n) h)
-    (λ (i : T (has_row rs n)). none_later m n rs (and_right (ltb m r.number) (all (λ s. ltb m s.number) rs) t) i)
+    go (or_cases (eqb r.number n && r.applies) (applies_in rs n) h)
+    (λ (i : T (applies_in rs n)). none_later m n rs (and_right (ltb m r.number) (all (λ s. ltb m s.number) rs) t) i)
   where
-    go : T (eqb r.number n && r.applies) ⊎ T (has_row rs n) → (T (has_row rs n) → m < n) → m < n
+    go : T (eqb r.number n && r.applies) ⊎ T (applies_in rs n) → (T (applies_in rs n) → m < n) → m < n
     go (inl i) f =
         let a = ltb→lt m r.number (and_left (ltb m r.number) (all (λ s. ltb m s.number) rs) t) in
         let b : r.number ≡ n = eqb→eq r.number n (and_left (eqb r.number n) r.applies i) in
         omega arith
     go (inr i) f = f i
 
-first_smallest : (rs : List Row) → T (numbered rs) → T (rising rs) → (n : ℕ) → T (has_row rs n) → (first_that_applies rs ≡ 0 → ⊥) × (n < first_that_applies rs → ⊥)
+pub first_smallest : (rs : List Row) → T (numbered rs) → T (rising rs) → (n : ℕ) → T (applies_in rs n) → (first_that_applies rs ≡ 0 → ⊥) × (n < first_that_applies rs → ⊥)
 first_smallest [] p t n h = absurd h
 first_smallest (r ∷ rs) p t n h =
-    go r.applies (or_cases (eqb r.number n && r.applies) (has_row rs n) h)
-    (λ (i : T (has_row rs n)). first_smallest rs (and_right (ltb 0 r.number) (numbered rs) p) (and_right (all (λ s. ltb r.number s.number) rs) (rising rs) t) n i)
+    go r.applies (or_cases (eqb r.number n && r.applies) (applies_in rs n) h)
+    (λ (i : T (applies_in rs n)). first_smallest rs (and_right (ltb 0 r.number) (numbered rs) p) (and_right (all (λ s. ltb r.number s.number) rs) (rising rs) t) n i)
   where
     positive : 0 < r.number
     positive = ltb→lt 0 r.number (and_left (ltb 0 r.number) (numbered rs) p)
 
-    later : T (has_row rs n) → r.number < n
+    later : T (applies_in rs n) → r.number < n
     later i = none_later r.number n rs (and_left (all (λ s. ltb r.number s.number) rs) (rising rs) t) i
 
     is_it : (b : Bool) → T (eqb r.number n && b) → r.number ≡ n
     is_it b i = eqb→eq r.number n (and_left (eqb r.number n) b i)
 
-    go : (b : Bool) → T (eqb r.number n && b) ⊎ T (has_row rs n) → (T (has_row rs n) → (first_that_applies rs ≡ 0 → ⊥) × (n < first_that_applies rs → ⊥))
+    go : (b : Bool) → T (eqb r.number n && b) ⊎ T (applies_in rs n) → (T (applies_in rs n) → (first_that_applies rs ≡ 0 → ⊥) × (n < first_that_applies rs → ⊥))
         → (cond b r.number (first_that_applies rs) ≡ 0 → ⊥) × (n < cond b r.number (first_that_applies rs) → ⊥)
     go true (inl i) f = (λ e. omega (arith, positive), λ k. omega (arith, is_it true i))
     go true (inr i) f = (λ e. omega (arith, positive), λ k. omega (arith, later i))

@@ -12,7 +12,7 @@ use lib.ListN.{length, get_or, set}
 use lib.Seq.{get_or-set_same, get_or-set_other}
 use Rattle.lists.specs.Lists.{all, any, keep, each, below, member, ascending, put, is_empty, Apart}
 use Rattle.lists.proofs.TestLaws.{and_no, and_left, and_right, and_both, decide, clash, eqb_of, is_true, is_false, not_T, holds}
-use Rattle.lists.proofs.ListLaws.{get_or_pos, all_at, all_of, any_at, any_of, keep_at, keep_of, keep_same, keep_keep, each_at, each_of, how_many_pos, how_many_any, keep_shorter, apart_each}
+use Rattle.lists.proofs.ListLaws.{get_or_pos, all_at, all_of, any_at, any_of, keep_at, keep_of, keep_same, keep_keep, each_at, each_of, how_many_pos, how_many_any, keep_shorter, apart_each, nonempty_length}
 use Rattle.lists.proofs.SortLaws.{how_many_mono, put_at, put_tail, put_head, put_how_many, put_ascending, ascending_apart, ascending_unique, Fresh, apart_ascending}
 use Rattle.lists.proofs.RangeLaws.{below_at, below_of, member_of, member_at, length_below}
 use Rattle.definitions.specs.Placements.{Placement, Compiled}
@@ -299,10 +299,6 @@ module _ (c : Compiled) (w : WellMade c) (choices : State → List Placement) (f
           let x = f r.0 r.1 r.2 in
           (x.0, λ q a. x.1 q (chosen_more s r.0 q a))
 
-  some_free : (xs : List ℕ) → is_empty xs ≡ false → 0 < length xs
-  some_free [] e = absurd (subst T e tt)
-  some_free (x ∷ xs) e = omega arith
-
   shorter : (s : State) → Sound c s → (q : Placement) → Memᴰ q (choices s) → length (choose s q).free < length s.free
   unfolding choose
   shorter s h q a =
@@ -340,7 +336,7 @@ module _ (c : Compiled) (w : WellMade c) (choices : State → List Placement) (f
     where
       go : (b : Bool) → is_empty s.free ≡ b → Memᴰ P (cond b (s.chosen ∷ []) [])
       go true e = Memᴰ.head (sym (packing_whole c w s h P x.0 x.1 (holds (is_empty s.free) e)))
-      go false e = let o = some_free s.free e in absurd (omega arith)
+      go false e = let o = nonempty_length s.free e in absurd (omega arith)
   search_complete (suc fuel) s h l P x = go (is_empty s.free) refl (λ (q : Placement) (a : Memᴰ q (choices s)) (y : Extends (choose s q) P) (z : length (choose s q).free ≤ fuel). search_complete fuel (choose s q) (step s h q a) z P y)
     where
       go : (b : Bool) → is_empty s.free ≡ b

@@ -7,29 +7,38 @@
 //! all others: it is the model's there. So are those with empty outer layers, by the box that
 //! was lent: what fits is counted by its size, and an entry with a byte changed round the
 //! stripped board is no entry. The board's record has a wood of its own, which is not to be
-//! read. Status 1 on a difference.
+//! read. The call for DLX1's text is held to that of the oracle, of each tray as it is and,
+//! where it is refused since a kind has several copies, of the tray with one copy of each.
+//! Status 1 on a difference.
 
 use std::io::{self, Read};
 use std::process::ExitCode;
 
 use harness::cases::Cases;
-use harness::{box_cells, Answer, Lent, Start, STAIN};
+use harness::{box_cells, Answer, Lent, Start, TextAnswer, STAIN};
 use oracle::layers;
 use oracle::listing::refused;
 use oracle::random::Random;
-use oracle::tray::{self, Engine};
+use oracle::texts;
+use oracle::tray::{self, Engine, Tray};
 
 const WORDS: usize = 8_200;
 const NUMBERS: usize = 32_776;
 const IDENTIFIED: [(bool, bool); 3] = [(false, false), (true, false), (true, true)];
 
 /// How many pages were asked for; of these how many behind what is no entry, and how many of these
-/// behind an entry of another identification.
+/// behind an entry of another identification. How many texts were asked for and written, of how
+/// many trays and how many bytes, and how often there was too little room or work.
 #[derive(Default)]
 struct Asked {
     pages: usize,
     missing: usize,
     strange: usize,
+    texts: usize,
+    written: usize,
+    with_text: usize,
+    bytes: usize,
+    too_short: usize,
 }
 
 fn main() -> io::Result<ExitCode> {
@@ -48,13 +57,19 @@ fn main() -> io::Result<ExitCode> {
         let mut random = Random::new(held[0], held[1]);
         let mut lent = Lent::new(&tray);
         lent.board.wood = random.between(1, 255) as u8;
-        if let Err(what) = hold(&mut lent, case.expected, &mut random, &mut asked) {
+        let by_page = hold(&mut lent, case.expected, &mut random, &mut asked);
+        let by_text = hold_texts(&tray, &mut random, &mut asked);
+        for what in [by_page, by_text].into_iter().filter_map(Result::err) {
             differences += 1;
             println!("{}: {what}", case.name);
         }
     }
     let [fast, knuth] = held;
-    let Asked { pages, missing, strange } = asked;
+    let Asked { pages, missing, strange, texts, written, with_text, bytes, too_short } = asked;
+    println!(
+        "{texts} calls for a text: {with_text} trays have one ({bytes} bytes); it was written {written} times, and {too_short} times there \
+         was too little room or work"
+    );
     println!(
         "{fast} trays of fast and {knuth} of knuth, {bare} of these without a piece, {mixed} of several woods and {boxed} with empty \
          outer layers, {pages} pages, {missing} of these behind what is no entry ({strange} behind one of another identification), \
@@ -80,6 +95,56 @@ fn hold(lent: &mut Lent, expected: &str, random: &mut Random, asked: &mut Asked)
     at_the_ends(lent, &entries, random, asked)?;
     behind(lent, &entries, random, asked)?;
     behind_others(lent, &entries, random, asked)
+}
+
+/// The text of the tray as it is; and with one copy of each kind, where a kind has more.
+fn hold_texts(tray: &Tray, random: &mut Random, asked: &mut Asked) -> Result<(), String> {
+    let expected = texts::of_tray(tray);
+    hold_text(tray, &expected, random, asked)?;
+    if expected == Err(texts::NO_TEXT) {
+        let thinned = texts::thinned(tray);
+        hold_text(&thinned, &texts::of_tray(&thinned), random, asked)?;
+    }
+    Ok(())
+}
+
+/// With just the room that the text needs, with more, and with less, down to none; with too few work words, which comes
+/// behind 2 to 9. A refusal is the same whatever the room.
+fn hold_text(tray: &Tray, expected: &Result<String, u8>, random: &mut Random, asked: &mut Asked) -> Result<(), String> {
+    let mut lent = Lent::new(tray);
+    lent.board.wood = random.between(1, 255) as u8;
+    let text = expected.as_deref().unwrap_or("");
+    let size = text.len();
+    let more = size + 1 + random.below(2_000);
+    let number = expected.as_ref().map_or_else(|&number| number, |_| 0);
+    for (room, words) in [(size, 8_192), (more, 8_193 + random.below(20))] {
+        is_text(&lent, room, words, number, text, asked)?;
+    }
+    if number == 0 {
+        asked.with_text += 1;
+        asked.bytes += size;
+        for room in [size - 1, random.below(size), 0] {
+            is_text(&lent, room, 8_192, texts::OUTPUT_TOO_SHORT, "", asked)?;
+        }
+    }
+    let number = if (2..=9).contains(&number) { number } else { 12 };
+    for (room, words) in [(0, 8_191), (more, random.below(8_192))] {
+        is_text(&lent, room, words, number, "", asked)?;
+    }
+    Ok(())
+}
+
+/// The call writes this text, or is refused with this number.
+fn is_text(lent: &Lent, room: usize, words: usize, number: u8, text: &str, asked: &mut Asked) -> Result<(), String> {
+    let (output, found) = harness::ask_text(lent, room, words)?;
+    asked.texts += 1;
+    asked.written += usize::from(number == 0);
+    asked.too_short += usize::from(number == 12 || number == texts::OUTPUT_TOO_SHORT);
+    let written = text.len();
+    if found != (TextAnswer { number: u32::from(number), written }) || output[..written] != *text.as_bytes() {
+        return Err(format!("text with room for {room} and {words} words, {number} and {written} bytes expected: {found:?}"));
+    }
+    Ok(())
 }
 
 /// The entries of the list, page by page, by skips or from behind the last entry so far; or the refusal.

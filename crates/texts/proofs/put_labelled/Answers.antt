@@ -5,6 +5,6 @@ use Rattle.texts.proofs.put_labelled.Goals as goal
 
 pub returns : goal.returns
 returns c =
-    let w = c.put_word-tab in
+    let w = c.put_bytes-tab in
     let z = c.put_decimal-end in
     (put_line w.ensures z.ensures.0 (omega arith), omega arith)

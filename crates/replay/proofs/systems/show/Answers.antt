@@ -7,4 +7,4 @@ pub invariant_of-system : goal.invariant_of-system
 unfolding Prepares
 invariant_of-system g c =
     let s = c.in-Ok.ensures in
-    record { sized = stands_sized _ _ _ _ _ _ _ _ _ s; ready = ∣ s.ready ∣₁ }
+    record { sized = stands_sized _ _ _ _ _ _ _ _ _ _ s; ready = ∣ s.ready ∣₁ }

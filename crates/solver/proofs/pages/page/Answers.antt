@@ -17,7 +17,7 @@ pub invariant_of-system : goal.invariant_of-system
 unfolding Prepares
 invariant_of-system c =
     let s = c.in_ok-d.ensures in
-    record { sized = stands_sized _ _ _ _ _ _ _ _ _ s; ready = ∣ s.ready ∣₁ }
+    record { sized = stands_sized _ _ _ _ _ _ _ _ _ _ s; ready = ∣ s.ready ∣₁ }
 
 pub list-e-requires : goal.list-e-requires
 unfolding Prepares

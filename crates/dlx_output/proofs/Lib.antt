@@ -1,0 +1,2 @@
+pub mod RoomLaws
+pub mod PrintedLaws
