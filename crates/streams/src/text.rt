@@ -26,8 +26,10 @@ impl Text {
         }
     }
 
-    // Reads a text in place of the one before. (No contract can say which bytes are read, and how many: its bytes are those that the input gives.)
-    pub fn read<R: Read>(&mut self, input: &mut R) {
+    // Reads a text in place of the one before: no more than there is room for. (Which bytes these are, and how many, no contract can say: the input's.)
+    pub fn read<R: Read>(&mut self, input: &mut R)
+        ensures within { self.new.read ≤ 16385 }
+    {
         self.read = read_text(input, &mut self.bytes);
     }
 
