@@ -1,7 +1,7 @@
 // The lines of the text, each put at the start of a buffer. (A buffer for a line, and no place in the lent output: the text is measured by the same lines
 // before a byte of the output is written.)
 ghost use Rattle.std.specs.Prelude.{◌≡◌, ◌∷◌, map, ◌+◌, ◌*◌, ◌≤◌, ◌<◌, length};
-ghost use Rattle.lists.specs.Lists.{below, joined, keep, member};
+ghost use Rattle.lists.specs.Lists.{below, keep};
 ghost use Rattle.definitions.specs.Dlx1.{barred, cell_item, item_line, kind_item, option_line, parted, spaced, stocked};
 ghost use Rattle.definitions.specs.Files.{decimal};
 ghost use Rattle.masks.specs.Masks.{has};

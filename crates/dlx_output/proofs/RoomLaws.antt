@@ -2,7 +2,7 @@
 -- meets 12 or 18. Assumes nothing.
 use Prim.Native.Nat.{ℕ, ◌≤◌}
 use mathlib.Core.Bool.{Bool, cond, ◌||◌}
-use mathlib.Core.List.{List, [], ◌∷◌, ◌++◌}
+use mathlib.Core.List.{List, ◌++◌}
 use mathlib.Core.Path.{◌≡◌, refl, sym, ap, ◌∙◌}
 use borrow.Author.Tests.{le-ltb}
 use lib.Dec.{ltb, eqb}
@@ -12,13 +12,13 @@ use Rattle.lists.proofs.TestLaws.{by_eq, cond_same, cond_other}
 use Rattle.definitions.specs.Dlx1.{dlx1_text}
 use Rattle.definitions.specs.Packing.{limits}
 use Rattle.definitions.specs.Placements.{compile}
-use Rattle.definitions.specs.Refusals.{Row, first_that_applies, lent_of, refusal, row, table, tray_of}
-use Rattle.definitions.specs.TextCalls.{TextCall, as_listing, plain_fast, text_of, text_refusal, text_table, text_tray}
+use Rattle.definitions.specs.Refusals.{Row, first_that_applies, lent_of, refusal, tray_of}
+use Rattle.definitions.specs.TextCalls.{TextCall, as_listing, plain_fast, text_of, text_refusal, text_tray}
 use Rattle.definitions.specs.declared.Record.{Record}
 use Rattle.placements.specs.Pieces.{tray_in}
 use Rattle.placements.specs.Stages.{count_rows, config_rows, lent_rows, slice_rows}
 use Rattle.placements.proofs.StageLaws.{refusal_stages}
-use Rattle.theorems.proofs.RefusalLaws.{first_decides, first_passes}
+use Rattle.theorems.proofs.TextCallLaws.{listing_refuses, text_refuses}
 use Rattle.theorems.proofs.TextLengthLaws.{text_fits}
 use Rattle.dlx.specs.Texts.{text_call}
 
@@ -54,12 +54,10 @@ module _ (pieces : List Record) (board : Record) (bytes : List ℕ) where
   abbrev no_text : Bool
   no_text = any (ltb 1) (limits (compile (tray_in pieces board bytes))) || is_empty (compile (tray_in pieces board bytes)).cells
 
-  abbrev text_rows : List ℕ → List Row
-  text_rows output = row 17 no_text ∷ row 18 (ltb (length output) (length text)) ∷ []
-
-  rows_are : (output work : List ℕ) → text_refusal (lent output work) ≡ first_that_applies (table (as_listing (lent output work)) ++ text_rows output)
-  unfolding text_refusal text_table text_of text_tray as_listing tray_of lent_of text_call
-  rows_are output work = refl
+  refused_late : (output work : List ℕ) → refusal (as_listing (lent output work)) ≡ 0
+      → text_refusal (lent output work) ≡ cond no_text 17 (cond (ltb (length output) (length text)) 18 0)
+  unfolding text_of text_tray as_listing tray_of lent_of text_call
+  refused_late output work e = text_refuses (lent output work) e
 
   fits : (output work : List ℕ) → refusal (as_listing (lent output work)) ≡ 0 → length text ≤ 663552
   unfolding text_of text_tray as_listing tray_of lent_of text_call
@@ -70,14 +68,11 @@ module _ (pieces : List Record) (board : Record) (bytes : List ℕ) where
   said = cond (eqb listing_number 0) (cond no_text 17 0) listing_number
 
   pub text_refused_with : (output work : List ℕ) → 8192 ≤ length work → (length text ≤ 663552 → length text ≤ length output) → text_refusal (lent output work) ≡ said
-  unfolding refusal table
   text_refused_with output work h room =
       let z = listing_with output work h in
-      rows_are output work ∙ by_eq (refusal (as_listing (lent output work))) 0
+      by_eq (refusal (as_listing (lent output work))) 0
       (λ e.
-      first_passes (table (as_listing (lent output work))) (text_rows output) tt e
+      refused_late output work e
       ∙ ap (λ (b : Bool). cond no_text 17 (cond b 18 0)) (le-ltb (length output) (length text) (room (fits output work e)))
       ∙ sym (cond_same listing_number 0 (cond no_text 17 0) listing_number (sym z ∙ e)))
-      (λ d.
-      first_decides (table (as_listing (lent output work))) (text_rows output) d ∙ z
-      ∙ sym (cond_other listing_number 0 (cond no_text 17 0) listing_number (λ e. d (z ∙ e))))
+      (λ d. listing_refuses (lent output work) d ∙ z ∙ sym (cond_other listing_number 0 (cond no_text 17 0) listing_number (λ e. d (z ∙ e))))
