@@ -1,6 +1,7 @@
 #!/bin/sh
 # The header as C99 and as C++17, without a warning; then Soma from C (soma.c), linked with the static library (`rt lib` in crates/ferghuul at the
-# root), its text for DLX1 held to the model's (oracle/model.py). `c.sh compile` stops before the library. Status 1 on a difference.
+# root), its text for DLX1 held to the model's (oracle/model.py), and its pieces once more from the catalogue. `c.sh compile` stops before the library.
+# Status 1 on a difference.
 cd "$(dirname "$0")" || exit 1
 library=../crates/ferghuul/out/libferghuul.a
 folder=$(mktemp -d) || exit 1

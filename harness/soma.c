@@ -1,5 +1,6 @@
-/* Soma from C, page by page, each page from behind the last answer of the page before: 11,520, 480 and 240 packings by both engines; and its text for Knuth's
-   DLX1, which `soma text` prints alone. The header is held to the library's layout as well. Status 1 on a difference; c.sh compiles and runs it. */
+/* Soma from C, page by page, each page from behind the last answer of the page before: 11,520, 480 and 240 packings by both engines; its text for Knuth's
+   DLX1, which `soma text` prints alone; and its pieces once more, from the catalogue. The header is held to the library's layout as well. Status 1 on a
+   difference; c.sh compiles and runs it. */
 #include "ferghuul.h"
 
 #include <stdio.h>
@@ -26,7 +27,7 @@ typedef char text_written[offsetof(ferghuul_text_answer, written) == 8 ? 1 : -1]
 static const char *const drawn[7] = {"1110", "111100", "111010", "110011", "11101000", "11100100", "11100010"};
 static const size_t sides[7][3] = {{1, 2, 2}, {1, 2, 3}, {1, 2, 3}, {1, 2, 3}, {2, 2, 2}, {2, 2, 2}, {2, 2, 2}};
 
-static uint8_t bytes[128];
+static uint8_t bytes[7 * FERGHUUL_ENTRY + CELLS];
 static ferghuul_record pieces[7], board;
 static uint64_t work[FERGHUUL_WORK];
 static uint16_t links[FERGHUUL_LINKS];
@@ -87,6 +88,39 @@ static bool is_text(void) {
     return none.number == FERGHUUL_NO_TEXT && none.written == 0;
 }
 
+/* Whether the catalogues have 1, 1, 2, 8, 29 and 166 entries, and none of another number; and whether Soma's pieces are among them: the last of three cells,
+   and all of four but the first two, which are boxes. They are lent where the entries stand, with the board's cells behind them. */
+static bool is_catalogue(void) {
+    static const size_t wanted[8] = {0, 1, 1, 2, 8, 29, 166, 0};
+    static uint8_t entries[167 * FERGHUUL_ENTRY];
+    ferghuul_answer page;
+    uint32_t n;
+    size_t i;
+    for (n = 0; n < 8; n++) {
+        const bool is_number = wanted[n] > 0;
+        memset(entries, 9, sizeof entries);
+        page = ferghuul_catalogue(n, 0, entries, sizeof entries);
+        if (page.number != (is_number ? FERGHUUL_ACCEPTED : FERGHUUL_BAD_CELL_COUNT) || page.written != wanted[n]) return false;
+        if (page.further || page.missing) return false;
+        for (i = wanted[n] * FERGHUUL_ENTRY; i < sizeof entries; i++)
+            if (entries[i] != 9) return false;
+        page = ferghuul_catalogue(n, 0, NULL, 0);
+        if (page.written != 0 || page.further != is_number) return false;
+    }
+    memset(bytes, 1, sizeof bytes);
+    board.start = 7 * FERGHUUL_ENTRY;
+    if (ferghuul_catalogue(3, 1, bytes, FERGHUUL_ENTRY).written != 1) return false;
+    if (ferghuul_catalogue(4, 2, bytes + FERGHUUL_ENTRY, 6 * FERGHUUL_ENTRY).written != 6) return false;
+    for (i = 0; i < 7; i++) {
+        const size_t at = i * FERGHUUL_ENTRY;
+        pieces[i].a = bytes[at];
+        pieces[i].b = bytes[at + 1];
+        pieces[i].c = bytes[at + 2];
+        pieces[i].start = at + 3;
+    }
+    return listed(FERGHUUL_FAST, true, false) == 480;
+}
+
 int main(int argc, char **argv) {
     static const size_t wanted[3] = {11520, 480, 240};
     int failed = 0, identified;
@@ -107,6 +141,7 @@ int main(int argc, char **argv) {
                        answers, sizeof answers, work, FERGHUUL_WORK, NULL, 0).missing) failed = 1;
     if (ferghuul_page(pieces, 7, board, bytes, sizeof bytes, FERGHUUL_KNUTH, false, false, false, 0, NULL, 0,
                       answers, sizeof answers, work, FERGHUUL_WORK, NULL, 0).number != FERGHUUL_LINKS_TOO_SHORT) failed = 1;
+    if (!is_catalogue()) failed = 1;
     puts(failed ? "soma: DIFFERS" : "soma: as it should be");
     return failed;
 }

@@ -1,5 +1,5 @@
-/* Every packing of a tray, page by page; and the tray as a text for Knuth's DLX1. What the calls answer is proved for every input;
-   docs/INTERFACE.md says it in full.
+/* Every packing of a tray, page by page; the tray as a text for Knuth's DLX1; and all pieces of up to six cells. What the calls answer is
+   proved for every input; docs/INTERFACE.md says it in full.
    C99 and C++17, x86-64. Link crates/ferghuul/out/libferghuul.a, which `rt lib` in crates/ferghuul writes. */
 #ifndef FERGHUUL_H
 #define FERGHUUL_H
@@ -12,9 +12,10 @@
 extern "C" {
 #endif
 
-#define FERGHUUL_WORK 8192u   /* words of `work` that a call needs */
+#define FERGHUUL_WORK 8192u   /* words of `work` that a page or a text needs */
 #define FERGHUUL_LINKS 32768u /* numbers of `links` that a call of FERGHUUL_KNUTH needs */
 #define FERGHUUL_TEXT 663552u /* bytes of `output` that hold any text for DLX1 */
+#define FERGHUUL_ENTRY 21u    /* bytes of an entry of the catalogue: three sides, the cells, then zeros */
 #define FERGHUUL_UNFILLED 255u /* both bytes of an answer where the board is unfilled */
 
 /* The engines. */
@@ -37,7 +38,8 @@ enum {
     FERGHUUL_TOO_MANY_PLACEMENTS = 14,  /* more than 1,024 of all kinds together */
     FERGHUUL_TOO_MANY_LINKS = 15,       /* more than 4,096, with FERGHUUL_KNUTH */
     FERGHUUL_NO_TEXT = 17,              /* of a text alone: a kind has more than one copy, or the board no filled cell */
-    FERGHUUL_OUTPUT_TOO_SHORT = 18      /* of a text alone: for the whole of it */
+    FERGHUUL_OUTPUT_TOO_SHORT = 18,     /* of a text alone: for the whole of it */
+    FERGHUUL_BAD_CELL_COUNT = 21        /* of the catalogue alone: not 1 to 6 */
 };
 
 /* A piece, or the board: its sides; how many copies, and its wood (neither is read of the board); where its cells begin in `bytes`. */
@@ -80,6 +82,11 @@ ferghuul_text_answer ferghuul_dlx1(
     const uint8_t *bytes, size_t byte_count,
     uint8_t *output, size_t output_bytes,
     uint64_t *work, size_t words);
+
+/* A page of the catalogue of all pieces of `n` cells, 1 to 6, that hang together by faces, from entry `skip` on: each piece once under turns, mirror
+   pairs as two, as its smallest turned grid, ascending; 1, 1, 2, 8, 29 and 166 of them. As many entries as fit are written, FERGHUUL_ENTRY bytes
+   each; `missing` is false. */
+ferghuul_answer ferghuul_catalogue(uint32_t n, uint64_t skip, uint8_t *entries, size_t entry_bytes);
 
 #ifdef __cplusplus
 }

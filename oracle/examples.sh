@@ -1,20 +1,23 @@
 #!/bin/sh
 # Runs every example of docs/TRAYS.md and compares what comes out with what the page says: by the model, and by the built programs
-# (../crates/pack/out/pack, ../crates/dlx1/out/dlx1), where they are there. Exit status 1 if anything differs.
+# (../crates/pack/out/pack, dlx1 and catalogue in the same way), where they are there. Exit status 1 if anything differs.
 cd "$(dirname "$0")" || exit 1
 pack=../crates/pack/out/pack
 [ -x $pack ] || pack=
 dlx1=../crates/dlx1/out/dlx1
 [ -x $dlx1 ] || dlx1=
+catalogue=../crates/catalogue/out/catalogue
+[ -x $catalogue ] || catalogue=
 parts=$(mktemp -d) || exit 1
 trap 'rm -r "$parts"' EXIT
 
-# Example N's blocks go to N.tray, and to N.all (all that is printed), N.last (the last line of it) or N.dlx1 (all that dlx1 prints).
+# Example N's blocks go to N.typed, and to N.all (all that is printed), N.last (the last line of it), N.dlx1 or N.catalogue (all that these print).
 sed 's/⇥/\t/g' ../docs/TRAYS.md | awk -v parts="$parts" '
-    /^Type:$/ { number++; part = "tray"; next }
+    /^Type:$/ { number++; part = "typed"; next }
     /^Printed:$/ { part = "all"; next }
     /^The last line:$/ { part = "last"; next }
     /^Printed by `dlx1`:$/ { part = "dlx1"; next }
+    /^Printed by `catalogue`:$/ { part = "catalogue"; next }
     /^    / && part != "" { print substr($0, 5) > (parts "/" number "." part); next }
     /[^ ]/ { part = "" }
 '
@@ -23,30 +26,32 @@ failed=0
 run=0
 differs() {
     echo "DIFFERS ($1): example $2"
-    cat "$parts/$2.tray"
+    cat "$parts/$2.typed"
     failed=1
 }
-# What is printed for a tray, held to the page.
+# What is printed for what is typed, held to the page.
 held() {
-    if [ -f "$parts/$2.all" ]; then
-        cmp -s "$parts/ran" "$parts/$2.all" || differs "$1" "$2"
-    elif [ -f "$parts/$2.dlx1" ]; then
-        cmp -s "$parts/ran" "$parts/$2.dlx1" || differs "$1" "$2"
-    else
-        tail -n 1 "$parts/ran" | cmp -s - "$parts/$2.last" || differs "$1" "$2"
-    fi
+    for part in all dlx1 catalogue; do
+        if [ -f "$parts/$2.$part" ]; then
+            cmp -s "$parts/ran" "$parts/$2.$part" || differs "$1" "$2"
+            return
+        fi
+    done
+    tail -n 1 "$parts/ran" | cmp -s - "$parts/$2.last" || differs "$1" "$2"
 }
-for tray in "$parts"/*.tray; do
-    number=$(basename "$tray" .tray)
+for typed in "$parts"/*.typed; do
+    number=$(basename "$typed" .typed)
     if [ -f "$parts/$number.dlx1" ]; then
         words=dlx1 program=$dlx1
+    elif [ -f "$parts/$number.catalogue" ]; then
+        words=catalogue program=$catalogue
     else
         words='' program=$pack
     fi
-    python3 model.py $words <"$tray" >"$parts/ran"
+    python3 model.py $words <"$typed" >"$parts/ran"
     held model "$number"
     if [ -n "$program" ]; then
-        $program <"$tray" >"$parts/ran"
+        $program <"$typed" >"$parts/ran"
         held "$program" "$number"
     fi
     run=$((run + 1))
@@ -57,5 +62,5 @@ if [ "$run" != "$(grep -c '^Type:$' ../docs/TRAYS.md)" ] || [ "$run" = 0 ]; then
     echo "DIFFERS: $run examples of docs/TRAYS.md"
     failed=1
 fi
-[ $failed = 0 ] && echo "examples: all $run as the page says${pack:+, pack too}${dlx1:+, dlx1 too}"
+[ $failed = 0 ] && echo "examples: all $run as the page says${pack:+, pack too}${dlx1:+, dlx1 too}${catalogue:+, catalogue too}"
 exit $failed

@@ -3,8 +3,8 @@
 # trays, with the original and with the model. Exit status 1 on any difference.
 #   known.sh        about a minute
 #   known.sh long   also Conway's 5 by 5 by 5, about a minute more
-# The built pack (../crates/pack/out/pack) and dlx1 (../crates/dlx1/out/dlx1), where there
-# are any, are held to the same.
+# The built pack (../crates/pack/out/pack), dlx1 and catalogue (in the same way), where
+# there are any, are held to the same.
 cd "$(dirname "$0")" || exit 1
 cargo build --release --offline --quiet || exit 1
 oracle=target/release/oracle
@@ -12,6 +12,8 @@ pack=../crates/pack/out/pack
 [ -x $pack ] || pack=
 dlx1=../crates/dlx1/out/dlx1
 [ -x $dlx1 ] || dlx1=
+catalogue=../crates/catalogue/out/catalogue
+[ -x $catalogue ] || catalogue=
 failed=0
 got=$(mktemp) || exit 1
 trap 'rm -f "$got"' EXIT
@@ -171,6 +173,48 @@ for bad in '' 'b0' '| p0\n' 'b0 b0\n' 'b0 | b0\n' 'b0 b12345678\n' 'b0 b:1\n' 'b
     ! printf "$bad" | ./covers.py >"$got" 2>&1 || differs "covers.py takes $bad"
 done
 [ "$(printf 'b0 b2345678 | p\n\n| none\np b0\nb2345678\nb0\n' | ./covers.py)" = 2 ] || differs "covers.py"
+
+# grown N NUMBER: how many pieces of N cells hang together by faces, mirror pairs as two
+grown() {
+    ./grow.py "$1" >"$got"
+    [ "$(tail -n 1 "$got")" = "$(printf 'pieces\t%s' "$2")" ] || differs "pieces of $1 cells"
+}
+
+# pieces N NUMBER: the same, and the catalogue as they are grown
+pieces() {
+    grown "$1" "$2"
+    for program in "python3 model.py catalogue" $catalogue; do
+        printf 'cells\t%s\n' "$1" | $program | cmp -s - "$got" || differs "catalogue of $1 ($program)"
+    done
+}
+
+pieces 1 1
+pieces 2 1
+pieces 3 2
+pieces 4 8
+pieces 5 29
+pieces 6 166
+grown 7 1023
+
+# entries N SKIP BYTES EXPECTED: a page of the catalogue, by the model
+entries() {
+    lines=$(printf 'cells\t%s\n' "$1" | python3 model.py entries "$2" "$3")
+    [ "$lines" = "$(printf "$4")" ] || differs "entries of $1 cells, $3 bytes at $2: $lines"
+}
+
+straight="0\t1 1 3 1 1 1 0 0 0 0 0 0 0 0 0 0 0 0 0 0 0\n"
+bent="1\t1 2 2 0 1 1 1 0 0 0 0 0 0 0 0 0 0 0 0 0 0\n"
+entries 3 0 0 "written\t0\nfollows\tyes"
+entries 3 0 20 "written\t0\nfollows\tyes"
+entries 3 0 21 "${straight}written\t1\nfollows\tyes"
+entries 3 0 41 "${straight}written\t1\nfollows\tyes"
+entries 3 0 42 "${straight}${bent}written\t2\nfollows\tno"
+entries 3 1 63 "${bent}written\t1\nfollows\tno"
+entries 3 2 21 "written\t0\nfollows\tno"
+entries 5 28 20 "written\t0\nfollows\tyes"
+entries 5 29 20 "written\t0\nfollows\tno"
+entries 5 18446744073709551615 21 "written\t0\nfollows\tno"
+for number in 0 7 4294967295; do entries $number 0 42 "refused\t21"; done
 
 two=../trays/listing.tray
 page $two 0 0 "written\t0\nfollows\tyes"

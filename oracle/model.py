@@ -6,17 +6,21 @@ engines' orders, answers and pages. No piece lent is a list like any other
 wood (A5): kinds and mirror partners are of one wood. Empty outer layers carry no
 meaning (A4): they are taken off pieces and board behind refusals 3 to 6, answers
 are of the box that was lent, and there is no refusal 7. The text that Knuth's own
-DLX1 reads (A2) is made of the same placements.
+DLX1 reads (A2) is made of the same placements. The catalogue (A11) is found as it is
+defined: every filling of every box, and three tests.
 
-    model.py < tray                      what `pack` prints
-    model.py dlx1 < tray                 what `dlx1` prints
-    model.py page SKIP CAPACITY < tray   the entries of one page, how many were
-                                         written, whether a further one follows
-    model.py room SKIP BYTES < tray      the same, for so many bytes lent for answers
-    model.py limits < tray               how many placements and links it has
-    model.py serve                       many trays, see `serve` below
+    model.py < tray                        what `pack` prints
+    model.py dlx1 < tray                   what `dlx1` prints
+    model.py catalogue < request           what `catalogue` prints
+    model.py page SKIP CAPACITY < tray     the entries of one page, how many were
+                                           written, whether a further one follows
+    model.py room SKIP BYTES < tray        the same, for so many bytes lent for answers
+    model.py entries SKIP BYTES < request  the same of the catalogue
+    model.py limits < tray                 how many placements and links it has
+    model.py serve                         many trays, see `serve` below
 """
 
+import functools
 import sys
 
 MALFORMED = 16
@@ -24,6 +28,9 @@ LONGEST_FILE = 16384
 WORK_WORDS = 8192
 LINK_NUMBERS = 32768
 LAST_WOOD = 255
+LAST_NUMBER = 2**32 - 1
+MOST_CELLS = 6
+ENTRY_BYTES = 21
 
 
 # ---------------------------------------------------------------- the file
@@ -444,6 +451,74 @@ def dlx1_text(problem):
     return "".join(" ".join(items) + "\n" for items in lines)
 
 
+# --------------------------------------------------------- the catalogue
+
+def boxes(n):
+    """The sides, ascending, that a smallest turned grid of n cells can have: no side is
+    shorter than the one before it, and all cells hang together."""
+    return [
+        (a, b, c)
+        for a in range(1, n + 1)
+        for b in range(a, n + 1)
+        for c in range(b, n + 1)
+        if a + b + c <= n + 2
+    ]
+
+
+def fillings(cells, filled):
+    """The lists of so many bits with so many ones, ascending."""
+    if filled > cells:
+        return
+    if cells == 0:
+        yield ()
+        return
+    for rest in fillings(cells - 1, filled):
+        yield (0,) + rest
+    if filled > 0:
+        for rest in fillings(cells - 1, filled - 1):
+            yield (1,) + rest
+
+
+def touch(one, other):
+    """Whether two cells share a face."""
+    return sum(abs(a - b) for a, b in zip(one, other)) == 1
+
+
+def hang_together(cells):
+    """Whether all are reached from the first, from one to the next by a face."""
+    reached = cells[:1]
+    for _ in cells:
+        reached = [
+            cell for cell in cells
+            if cell in reached or any(touch(cell, other) for other in reached)
+        ]
+    return len(reached) == len(cells)
+
+
+def is_entry(grid):
+    return (
+        not has_empty_outer_layer(grid)
+        and hang_together(filled_cells(grid))
+        and variants(grid)[0] == grid
+    )
+
+
+@functools.lru_cache(maxsize=None)
+def catalogue(n):
+    """The pieces of n cells, as grids, ascending."""
+    grids = [((a, b, c), cells) for a, b, c in boxes(n) for cells in fillings(a * b * c, n)]
+    return [grid for grid in grids if is_entry(grid)]
+
+
+def catalogue_refusal(n):
+    return None if 1 <= n <= MOST_CELLS else 21
+
+
+def entry_bytes(grid):
+    sides, cells = grid
+    return sides + cells + (0,) * (ENTRY_BYTES - 3 - len(cells))
+
+
 # --------------------------------------------------------------- a page
 
 def capacity_of(lent_sides, room):
@@ -589,10 +664,62 @@ def text_printed(file):
     return dlx1_text(Problem(board, pieces))
 
 
+def asked_of(file):
+    """How many cells a request for the catalogue asks for: its one line."""
+    lines = file.split(b"\n")
+    if len(lines) != 2 or lines[1] != b"":
+        raise Malformed
+    fields = lines[0].split(b"\t")
+    if len(fields) != 2 or fields[0] != b"cells":
+        raise Malformed
+    number = parse_number(fields[1], 10)
+    if number > LAST_NUMBER:
+        raise Malformed
+    return number
+
+
+def pieces_of(file):
+    """The refusal of a request (None if it is accepted) and the pieces it asks for."""
+    try:
+        n = asked_of(file)
+    except Malformed:
+        return MALFORMED, []
+    number = catalogue_refusal(n)
+    return number, [] if number is not None else catalogue(n)
+
+
+def pieces_printed(file):
+    """What `catalogue` prints for a request."""
+    number, grids = pieces_of(file)
+    if number is not None:
+        return "refused\t%d\n" % number
+    lines = [
+        "piece\t1\t%d\t%d\t%d\t%s\n" % (*sides, "".join(map(str, cells)))
+        for sides, cells in grids
+    ]
+    return "".join(lines) + "pieces\t%d\n" % len(grids)
+
+
 def print_page(file, skip, capacity):
     _, entries = entries_of(file)
-    written, follows = page(entries, skip, capacity)
-    lines = [print_entry(number, answer) for number, answer in enumerate(written, skip)]
+    return shown_page(page(entries, skip, capacity), skip, print_entry)
+
+
+def print_entries(file, skip, room):
+    """A page of the catalogue, the entries as bytes."""
+    number, grids = pieces_of(file)
+    if number is not None:
+        return "refused\t%d\n" % number
+    return shown_page(page(grids, skip, room // ENTRY_BYTES), skip, print_grid)
+
+
+def print_grid(number, grid):
+    return "%d\t%s\n" % (number, " ".join(map(str, entry_bytes(grid))))
+
+
+def shown_page(entries, skip, print_one):
+    written, follows = entries
+    lines = [print_one(number, entry) for number, entry in enumerate(written, skip)]
     follows = "yes" if follows else "no"
     return "".join(lines) + "written\t%d\nfollows\t%s\n" % (len(written), follows)
 
@@ -629,6 +756,10 @@ def main():
         text = print_limits(file)
     elif sys.argv[1:2] == ["dlx1"]:
         text = text_printed(file)
+    elif sys.argv[1:2] == ["catalogue"]:
+        text = pieces_printed(file)
+    elif sys.argv[1:2] == ["entries"]:
+        text = print_entries(file, int(sys.argv[2]), int(sys.argv[3]))
     else:
         text = listing(file)
     sys.stdout.write(text)

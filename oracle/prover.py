@@ -1,29 +1,31 @@
 #!/usr/bin/env python3
 """Has the prover compute crates/definitions on small random trays and compares
-the lists, pages and refusals with the original's, and the texts for DLX1 with the
-model's.
+the lists, pages and refusals with the original's, the texts for DLX1 with the
+model's, and the catalogue with the lists of grow.py.
 
     prover.py SEED COUNT
 
 COUNT trays, each under both engines and the three identifications, a third of
 the calls with a random page; the text of each as it is lent, and with the counts
 thinned, since two copies of a kind are refused; then REFUSED calls at or beyond the
-limits, and as many for texts. What
-is expected comes from the original (`oracle`; `raw refusal` for what only a
-call can ask for), and from model.py where the original panics (as it does where
-no piece is lent), where the order is document 01's alone (knuth, a kind without
-copies), where woods are mixed, or where no file can express a refused call. The
-original is run on the grids without their empty outer layers, which a third of the
-trays have round board and pieces (document 02, A4), and its answers are put back. The
-board's record has any wood, which is not to be read. Each call is a line of a
-table in a crate `sample`, in a temporary repository beside a copy of
-crates/definitions, and each table has a theorem that is proved by computing.
+limits, and as many for texts; then LEAVES pages of the catalogue, of up to five cells
+or refused, and REQUESTS requests for its program (those of catalogue.py). What is
+expected of trays comes from the original (`oracle`; `raw refusal` for what only a call
+can ask for), and from model.py where the original panics (as it does where no piece is
+lent), where the order is document 01's alone (knuth, a kind without copies), where
+woods are mixed, or where no file can express a refused call. The original is run on the
+grids without their empty outer layers, which a third of the trays have round board and
+pieces (document 02, A4), and its answers are put back. The board's record has any wood,
+which is not to be read. Each call is a line of a table in a crate `sample`, in a
+temporary repository beside a copy of crates/definitions, and each table has a theorem
+that is proved by computing.
 Needs `rt`, and `cargo build --release` here before. Prints what differs, the
 corners that the trays have, and a last line. Exit status 1 if anything differs
 or could not be computed.
 """
 
 import collections
+import itertools
 import os
 import random
 import re
@@ -35,6 +37,8 @@ import time
 
 sys.dont_write_bytecode = True  # nothing is to appear beside the sources
 
+import catalogue
+import grow
 import model
 
 HERE = os.path.dirname(os.path.abspath(__file__))
@@ -43,6 +47,8 @@ RELEASE = os.path.join(os.environ.get("CARGO_TARGET_DIR", os.path.join(HERE, "ta
 ENGINES = ("fast", "knuth")
 IDENTIFIED = ("none", "turned", "mirrored")
 REFUSED = 60
+LEAVES = 100
+REQUESTS = 200
 BIGGEST = 2**64 - 1
 
 # The prover takes at most 50 million steps for a theorem. A table ends before
@@ -52,6 +58,9 @@ STEPS_A_CRATE = 600e6
 STEPS_A_LENT_CELL = 6e3
 STEPS_OF_A_TEXT = 5e5
 STEPS_A_BYTE = 1e3
+# A theorem computes the list of pieces once for all its lines.
+STEPS_OF_A_LEAF = 3e5
+STEPS_OF_A_REQUEST = 1e5
 
 
 # ------------------------------------------------------------ random trays
@@ -112,10 +121,6 @@ def set_down(grid, sides, low):
     """The grid in a larger box, its first cell at `low`."""
     filled = {tuple(c + at for c, at in zip(cell, low)) for cell in model.filled_cells(grid)}
     return sides, tuple(int(cell in filled) for cell in model.cells_of(sides))
-
-
-def touch(one, other):
-    return sum(abs(a - b) for a, b in zip(one, other)) == 1
 
 
 def box(rng, least, most, longest=8):
@@ -198,7 +203,9 @@ def cut(rng, cells, apart):
         size = rng.choice((1, 2, 2, 3, 3, 4))
         anywhere = rng.random() < apart
         while len(part) < size:
-            near = [cell for cell in left if anywhere or any(touch(cell, own) for own in part)]
+            near = [
+                cell for cell in left if anywhere or any(model.touch(cell, own) for own in part)
+            ]
             if not near:
                 break
             part.append(rng.choice(near))
@@ -365,7 +372,7 @@ def corners(problem):
             ("deep", ones == 0),
             ("equal sides", len(set(sides)) < 3),
             ("unequal sides", len(set(sides)) == 3),
-            ("apart", any(is_apart(grid) for grid, _ in lent)),
+            ("apart", not all(model.hang_together(model.filled_cells(grid)) for grid, _ in lent)),
             ("lent twice", len(lent) > len(problem.kinds)),
             ("lent twice, turned", len(set(lent)) > len(problem.kinds)),
             ("no piece", not lent),
@@ -404,16 +411,6 @@ def turns_of(grid):
 
 def scan_axes(sides):
     return sorted((2, 1, 0), key=lambda axis: -sides[axis])
-
-
-def is_apart(grid):
-    left = model.filled_cells(grid)
-    reached = [left.pop()]
-    for cell in reached:
-        near = [other for other in left if touch(cell, other)]
-        reached += near
-        left = [other for other in left if other not in near]
-    return bool(left)
 
 
 # ------------------------------------------------------- what is expected
@@ -591,7 +588,7 @@ def text_line(rng, board, pieces, lent, starts, room, words, spent):
 
 
 def escaped(text):
-    return text.replace("\n", "\\n")
+    return text.replace("\n", "\\n").replace("\t", "\\t")
 
 
 def shown_page(answers, further):
@@ -601,6 +598,48 @@ def shown_page(answers, further):
 
     rows = "".join("\n    " + cells(answer) for answer in answers)
     return "%d written, %s%s" % (len(answers), "one follows" if further else "none follows", rows)
+
+
+# --------------------------------------------------------- the catalogue
+
+def leaf_line(rng):
+    """A line for a page of the catalogue, somewhere or at the list's ends, or refused."""
+    n = rng.choice((0, 1, 2, 3, 3, 4, 4, 4, 5, 5, rng.choice((7, 8, 255, 2**32 - 1))))
+    number = 0 if 1 <= n <= 6 else 21
+    entries = [] if number else [
+        "%d%d%d%s" % (*sides, digits.ljust(18, "0")) for sides, digits in grow.pieces(n)
+    ]
+    total = len(entries)
+    skip = rng.choice((0, rng.randint(0, total), rng.randint(0, total + 2), max(0, total - 1), BIGGEST))
+    capacity = rng.choice((0, 1, rng.randint(0, 3), rng.randint(0, total), total, total + 1))
+    room = capacity * 21 + rng.choice((0, 1, 20, rng.randrange(21)))
+    written = entries[skip:skip + capacity]
+    further = skip + len(written) < total
+    call = "catalogue_call %d %d %d" % (n, skip, room)
+    held_to = "%d %s (%s)" % (
+        number, str(further).lower(), listed("(digits 21 %s [])" % entry for entry in written)
+    )
+    line = Line("leaves", call, held_to, STEPS_OF_A_LEAF)
+    line.number = number
+    line.n = n
+    line.bytes = list(map(int, "".join(written)))
+    expected = "refusal %d" % number if number else shown_leaf(len(written), further)
+    return line.tell("catalogue of %d, skip %d, room %d\n" % (n, skip, room), expected, "grow.py")
+
+
+def shown_leaf(written, further):
+    return "%d written, %s" % (written, "one follows" if further else "none follows")
+
+
+def request_lines(seed):
+    """Lines for requests that are short, and not for many cells."""
+    for _, file in catalogue.requests(seed, 20 * REQUESTS):
+        printed = catalogue.expected(file)
+        if len(file) <= 60 and len(printed) <= 200:
+            held_to = '(text "%s")' % escaped(printed)
+            line = Line("requests", listed(map(str, file)), held_to, STEPS_OF_A_REQUEST)
+            line.printed = printed
+            yield line.tell("request %r\n" % file, repr(printed), "grow.py")
 
 
 # ----------------------------------------------------- calls to be refused
@@ -792,6 +831,7 @@ use Rattle.definitions.specs.Texts.{text}
 use Rattle.definitions.specs.Refusals.{Call, refusal}
 use Rattle.definitions.specs.Outcomes.{Outcome, cleared, outcome}
 use Rattle.definitions.specs.TextCalls.{TextCall, TextOutcome, text_outcome}
+use Rattle.definitions.specs.CatalogueCalls.{CatalogueCall, CatalogueOutcome, catalogue_outcome, catalogue_printed}
 use Rattle.definitions.specs.declared.Record.{Record}
 use Rattle.definitions.specs.declared.SolverKind.{SolverKind}
 use Rattle.definitions.specs.declared.SolverKind.TheVariants.{Auto, Naive, Fast, KnuthAlgorithm}
@@ -866,6 +906,35 @@ is_text_case x =
     eqb o.number x.number && (eqb o.written n && (same o.output (x.text ++ drop n x.lender.output)
     && same o.work (cond (eqb x.number 0) (cleared 8192 work) work)))
 
+abbrev pub catalogue_call : ℕ → ℕ → ℕ → CatalogueCall
+catalogue_call n skip room = record { n = n; skip = skip; entries = replicate room 7 }
+
+pub record Leaf : Type 0 where
+  pub turned_to : CatalogueCall
+  pub number : ℕ
+  pub further : Bool
+  pub entries : List (List ℕ)
+
+abbrev pub leaf : CatalogueCall → ℕ → Bool → List (List ℕ) → Leaf
+leaf l n further entries = record { turned_to = l; number = n; further = further; entries = entries }
+
+unfoldable pub is_leaf : Leaf → Bool
+is_leaf x =
+    let o = catalogue_outcome x.turned_to in
+    let bytes = joined x.entries in
+    eqb o.number x.number && (eqb o.written (length x.entries) && (same_test o.further x.further
+    && same o.entries (bytes ++ drop (length bytes) x.turned_to.entries)))
+
+pub record Request : Type 0 where
+  pub read : List ℕ
+  pub printed : List ℕ
+
+abbrev pub request : List ℕ → List ℕ → Request
+request read printed = record { read = read; printed = printed }
+
+unfoldable pub is_answered : Request → Bool
+is_answered x = same (catalogue_printed x.read) x.printed
+
 abbrev pub alike : List ℕ → List ℕ → ℕ
 alike [] ns = 0
 alike (m ∷ ms) [] = 0
@@ -886,7 +955,12 @@ NAMES_OF_LINES = {
     "pages": ("page", "is_page", "Line"),
     "refusals": ("gives", "is_given", "Given"),
     "texts": ("text_case", "is_text_case", "TextCase"),
+    "leaves": ("leaf", "is_leaf", "Leaf"),
+    "requests": ("request", "is_answered", "Request"),
 }
+
+
+POWERS_OF_A_BYTE = tuple(2**power for power in range(8))
 
 
 def record(sides, count, wood, start):
@@ -902,10 +976,11 @@ def bytes_term(lent):
 
 
 def computed_names(specs):
-    """The names that the prover has to unfold, by module: those of Outcomes and
-    TextCalls, of the modules that these use, and of theirs. Of Dlx1Covers, which says
-    what is claimed of a text, nothing is computed."""
-    names, ahead = {"Dlx1Covers": []}, ["Outcomes", "TextCalls"]
+    """The names that the prover has to unfold, by module: those of Outcomes, TextCalls
+    and CatalogueCalls, of the modules that these use, and of theirs. Of Dlx1Covers and
+    PlacementsRight, which say what is claimed, nothing is computed."""
+    names = {"Dlx1Covers": [], "PlacementsRight": []}
+    ahead = ["Outcomes", "TextCalls", "CatalogueCalls"]
     for module in ahead:
         with open(os.path.join(specs, module + ".antt"), encoding="utf-8") as file:
             text = file.read()
@@ -966,8 +1041,8 @@ class Prover:
             for module, names in self.names.items()
         ]
         laws.append("use Rattle.sample.specs.Sample.{%s}\n" % ", ".join(
-            "digits at call text_call is_page is_given is_text_case alike bit told place_in".split()
-            + own.split()
+            "digits at call text_call catalogue_call is_page is_given is_text_case is_leaf "
+            "is_answered alike bit told place_in".split() + own.split()
         ))
         unfolded = " ".join(name for names in self.names.values() for name in names)
         for name, proposition, beside in theorems:
@@ -1030,6 +1105,11 @@ class Prover:
             return "refusal %d" % self.read([("refusal (%s)" % line.call, (1, 2, 4, 8))])[0]
         if line.table == "texts":
             return self.text_answer_to(line)
+        if line.table == "leaves":
+            return self.leaf_answer_to(line)
+        if line.table == "requests":
+            alike = "alike (catalogue_printed (%s)) %s" % (line.call, line.held_to)
+            return "the first %d bytes as expected" % self.read([(alike, POWERS_OF_A_BYTE)])[0]
         outcome = "(outcome (%s))" % line.call
         number, written, further = self.read([
             (outcome + ".number", (1, 2, 4, 8)),
@@ -1054,6 +1134,18 @@ class Prover:
         ]
         return shown_page(answers, further)
 
+    def leaf_answer_to(self, line):
+        outcome = "(catalogue_outcome (%s))" % line.call
+        number, written, further, alike = self.read([
+            (outcome + ".number", (1, 2, 4, 8, 16)),
+            (outcome + ".written", POWERS_OF_A_BYTE),
+            ("told %s.further" % outcome, (1,)),
+            ("alike %s.entries (%s)" % (outcome, listed(map(str, line.bytes))),
+             tuple(2**power for power in range(12))),
+        ])
+        if number:
+            return "refusal %d" % number
+        return "%s, the first %d bytes as expected" % (shown_leaf(written, further), alike)
 
     def text_answer_to(self, line):
         outcome = "(text_outcome (%s))" % line.call
@@ -1141,11 +1233,18 @@ def main():
             text_refusals.append(line)
     for line in texts + text_refusals:
         covered["text, refusal %d" % line.number if line.number else "text"] += 1
+    leaf_rng = random.Random("catalogue %d" % seed)
+    leaves = [leaf_line(leaf_rng) for _ in range(LEAVES)]
+    for line in leaves:
+        covered["catalogue of %s" % ("another number" if line.number else line.n)] += 1
+    requests = list(itertools.islice(request_lines(seed), REQUESTS))
+    for line in requests:
+        covered["request, " + ("refused" if line.printed.startswith("refused") else "listed")] += 1
 
     with tempfile.TemporaryDirectory() as folder:
         prover = Prover(folder)
         differ, uncomputed = [], []
-        for lines in (pages, refusals, texts, text_refusals):
+        for lines in (pages, refusals, texts, text_refusals, leaves, requests):
             wrong, unknown = compare(prover, lines)
             differ += wrong
             uncomputed += unknown
@@ -1161,10 +1260,11 @@ def main():
         "seed %d, %d trays, %d calls (expected from the original %d, from the model %d), "
         "%d calls at the limits (from the original's harness %d, from the model %d), "
         "%d calls for texts and %d at the limits (from the model), "
+        "%d pages of the catalogue and %d requests (from grow.py), "
         "%d seconds, %d not computed, %d differences" % (
             seed, count, len(pages), sources["pages", "original"], sources["pages", "model"],
             len(refusals), sources["refusals", "original's harness"], sources["refusals", "model"],
-            len(texts), len(text_refusals), time.time() - started, len(uncomputed), len(differ),
+            len(texts), len(text_refusals), len(leaves), len(requests), time.time() - started, len(uncomputed), len(differ),
         )
     )
     sys.exit(1 if differ or uncomputed else 0)

@@ -1,12 +1,16 @@
 //! The calls of the static library over slices: docs/INTERFACE.md. They take every input, so they are safe as they stand: Rust's rules for references
 //! see to what a caller in C has to see to.
 
-/// Words of the work slice that a call needs.
+/// Words of the work slice that a page or a text needs.
 pub const WORK: usize = 8_192;
 /// Numbers of the links slice that a call of Knuth's engine needs.
 pub const LINKS: usize = 32_768;
 /// Bytes that hold any text for DLX1.
 pub const TEXT: usize = 663_552;
+/// Bytes of an entry of the catalogue: three sides, the cells, then zeros.
+pub const ENTRY: usize = 21;
+/// Bytes that hold the catalogue of any number of cells: 166 entries.
+pub const CATALOGUE: usize = 166 * ENTRY;
 
 /// A piece, or the board: sides, copies, wood, and where its cells begin in the bytes. The board's copies and wood are not read.
 #[repr(C)]
@@ -20,8 +24,8 @@ pub struct Record {
     pub start: usize,
 }
 
-/// What a call answers: 0 or the number of the refusal; how many answers were written; whether a further one follows; whether no entry equals
-/// the one that was lent, to begin behind it.
+/// What a call answers: 0 or the number of the refusal; how many answers, or entries of the catalogue, were written; whether a further one follows;
+/// whether no entry equals the one that was lent, to begin behind it.
 #[repr(C)]
 #[derive(Clone, Copy, Debug, PartialEq, Eq)]
 pub struct Answer {
@@ -103,6 +107,8 @@ extern "C" {
         work: *mut u64,
         words: usize,
     ) -> TextAnswer;
+
+    fn ferghuul_catalogue(n: u32, skip: u64, entries: *mut u8, entry_bytes: usize) -> Answer;
 }
 
 /// A page of the list of packings, or the refusal.
@@ -158,4 +164,10 @@ pub fn dlx1(pieces: &[Record], board: Record, bytes: &[u8], output: &mut [u8], w
             work.len(),
         )
     }
+}
+
+/// A page of the catalogue of the pieces of n cells, from entry `skip` on, or the refusal. No entry is waited for, so that none is missing.
+pub fn catalogue(n: u32, skip: u64, entries: &mut [u8]) -> Answer {
+    // Sound: as above.
+    unsafe { ferghuul_catalogue(n, skip, entries.as_mut_ptr(), entries.len()) }
 }

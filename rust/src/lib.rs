@@ -1,7 +1,7 @@
 //! Every packing of a tray, each exactly once. What the library answers is proved; this crate lends it its slices.
 //!
 //! [`Tray`] is built by value, [`Tray::packings`] goes through its packings in fixed memory, [`Tray::dlx1`] is the tray as a text for Knuth's DLX1,
-//! [`Refused`] says why a tray can't be taken. [`call`] has the calls themselves, over slices.
+//! [`pieces`] are all pieces of so many cells, [`Refused`] says why a tray or a number can't be taken. [`call`] has the calls themselves, over slices.
 
 pub mod call;
 
@@ -37,6 +37,55 @@ impl Grid {
         let volume = a.checked_mul(b).and_then(|layers| layers.checked_mul(c));
         if volume == Some(cells.len()) { Ok(Grid { sides, cells }) } else { Err(NoGrid) }
     }
+
+    pub fn sides(&self) -> [usize; 3] {
+        self.sides
+    }
+
+    /// Whether a cell of the box is filled; false outside.
+    pub fn is_filled(&self, x: usize, y: usize, z: usize) -> bool {
+        let [a, b, c] = self.sides;
+        x < a && y < b && z < c && self.cells[(x * b + y) * c + z] == 1
+    }
+}
+
+/// The cells as they are typed in a tray file, without the sides.
+impl fmt::Display for Grid {
+    fn fmt(&self, f: &mut fmt::Formatter) -> fmt::Result {
+        self.cells.iter().try_for_each(|cell| write!(f, "{cell}"))
+    }
+}
+
+/// All pieces of n cells, 1 to 6, that hang together by faces: each once under turns, mirror pairs as two, as its smallest turned grid, ascending.
+///
+/// ```
+/// use ferghuul::{pieces, Engine, Grid, Identify, Refused, Tray};
+///
+/// let drawn: Vec<String> = pieces(3).unwrap().iter().map(Grid::to_string).collect();
+/// assert_eq!(drawn, ["111", "0111"]);
+///
+/// // The eight pieces of four cells, in a box of two by four by four.
+/// let board = Tray::new(Grid::new([2, 4, 4], &"1".repeat(32)).unwrap());
+/// let tray = pieces(4).unwrap().into_iter().fold(board, |tray, piece| tray.piece(1, piece));
+/// assert_eq!(tray.packings(Engine::Fast, Identify::Turned).unwrap().count(), 1_390);
+///
+/// assert_eq!(pieces(7), Err(Refused::CellCount));
+/// ```
+pub fn pieces(n: u32) -> Result<Vec<Grid>, Refused> {
+    let mut entries = [0; call::CATALOGUE];
+    let page = call::catalogue(n, 0, &mut entries);
+    if page.number != 0 {
+        return Err(Refused::of(page.number));
+    }
+    // Proved of the list: it has at most 166 entries.
+    assert!(!page.further);
+    Ok(entries.chunks(call::ENTRY).take(page.written).map(grid_of).collect())
+}
+
+fn grid_of(entry: &[u8]) -> Grid {
+    let sides = [entry[0], entry[1], entry[2]].map(usize::from);
+    let cells = entry[3..][..sides.iter().product()].to_vec();
+    Grid { sides, cells }
 }
 
 /// Both engines list the same packings, in different orders.
@@ -54,7 +103,7 @@ pub enum Identify {
     Mirrored,
 }
 
-/// Why a tray is refused: the first of these that applies (docs/TRAYS.md).
+/// Why a tray is refused, or a number of cells: the first of these that applies (docs/TRAYS.md).
 #[derive(Clone, Copy, Debug, PartialEq, Eq)]
 pub enum Refused {
     TooManyPieces = 2,
@@ -65,6 +114,7 @@ pub enum Refused {
     TooManyPlacements = 14,
     TooManyLinks = 15,
     NoText = 17,
+    CellCount = 21,
 }
 
 impl Refused {
@@ -84,6 +134,7 @@ impl Refused {
             14 => Refused::TooManyPlacements,
             15 => Refused::TooManyLinks,
             17 => Refused::NoText,
+            21 => Refused::CellCount,
             _ => unreachable!("refused {number}"),
         }
     }
@@ -100,6 +151,7 @@ impl fmt::Display for Refused {
             Refused::TooManyPlacements => "more than 1,024 placements",
             Refused::TooManyLinks => "more than 4,096 links",
             Refused::NoText => "no text for DLX1: a kind has more than one copy, or the board no cell to fill",
+            Refused::CellCount => "the number of cells is not 1 to 6",
         })
     }
 }
@@ -346,6 +398,31 @@ mod tests {
         assert_eq!(Tray::new(grid([1, 1, 1], "0")).dlx1(), Err(Refused::NoText));
         assert_eq!(Tray::new(grid([1, 1, 9], "111111111")).dlx1(), Err(Refused::BadSide));
         assert_eq!(Refused::NoText.number(), 17);
+    }
+
+    #[test]
+    fn catalogue() {
+        let lengths = [1, 2, 3, 4, 5, 6].map(|n| pieces(n).unwrap().len());
+        assert_eq!(lengths, [1, 1, 2, 8, 29, 166]);
+        let corner = &pieces(3).unwrap()[1];
+        assert_eq!(*corner, grid([1, 2, 2], "0111"));
+        assert_eq!(corner.sides(), [1, 2, 2]);
+        assert_eq!([(0, 0, 0), (0, 0, 1), (0, 1, 1), (1, 0, 1), (0, 0, 2)].map(|(x, y, z)| corner.is_filled(x, y, z)), [
+            false, true, true, false, false
+        ]);
+        let largest = pieces(6).unwrap().pop().unwrap();
+        assert_eq!(Grid::new(largest.sides(), &largest.to_string()), Ok(largest));
+        assert!([0, 7, u32::MAX].iter().all(|&n| pieces(n) == Err(Refused::CellCount)));
+        assert_eq!(Refused::CellCount.number(), 21);
+    }
+
+    /// Soma's pieces are the last of three cells, and all of four that are no boxes.
+    #[test]
+    fn soma_of_the_catalogue() {
+        let cube = Tray::new(grid([3, 3, 3], &"1".repeat(27)));
+        let lent = pieces(3).unwrap().into_iter().skip(1).chain(pieces(4).unwrap().into_iter().skip(2));
+        let tray = lent.fold(cube, |tray, piece| tray.piece(1, piece));
+        assert_eq!(tray.packings(Engine::Fast, Identify::Mirrored).unwrap().count(), 240);
     }
 
     #[test]

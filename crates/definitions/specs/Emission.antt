@@ -1,14 +1,14 @@
--- A page written entry by entry, as a search finds them: what a contract of a search says. Nothing here is of document 01; EmissionLaws (theorems) shows that
--- from the start the entries of a list leave exactly document 01's page of their answers, from any split of the list, and that once a further entry is known
--- the rest changes nothing. A page may also begin behind a given entry, so that a listing in pages does not search anew what it has passed: until that entry is
--- met, entries only pass by.
+-- A page written entry by entry, as a search, or the catalogue's walk, finds them: what its contract says. Nothing here is of document 01; EmissionLaws
+-- (theorems) shows that from the start the entries of a list leave exactly document 01's page of their answers, from any split of the list, and that once a
+-- further entry is known the rest changes nothing. A page may also begin behind a given entry, so that a listing in pages does not search anew what it has
+-- passed: until that entry is met, entries only pass by.
 use Rattle.std.specs.Prelude.{ℕ, ◌+◌, ◌-◌, ◌*◌, Bool, false, true, cond, not, List, [], ◌∷◌, map, ltb, length, ◌≡◌}
 use Rattle.std.proofs.Math.Seq.{paste}
 use Rattle.lists.specs.Lists.{joined, same}
 use Rattle.definitions.specs.Page.{page}
 use Rattle.definitions.specs.Outcomes.{over_start}
 
--- an entry of a list: its answer (what is listed beside the answer is a further field); and the answers of a list's entries
+-- an entry of a list: its answer, or its bytes (what is listed beside these is a further field); and the answers of a list's entries
 pub record Listed : Type 0 where
   pub answer : List ℕ
 

@@ -30,7 +30,10 @@ pub mod EmptyBox
 pub mod Dlx1
 pub mod Dlx1Covers
 pub mod TextCalls
+pub mod Catalogue
+pub mod CatalogueCalls
 pub mod Fillings
 pub mod Boundaries
 pub mod Dlx1Tables
+pub mod CatalogueTables
 pub mod Steps

@@ -13,7 +13,7 @@ use Rattle.definitions.specs.declared.SolverKind.{SolverKind}
 use Rattle.definitions.specs.declared.Refusal.{Refusal}
 use Rattle.definitions.specs.declared.Refusal.TheVariants.{TooManyPieces, SideOutOfRange, CellsOutsideBytes, CellNotZeroOrOne, PieceWithoutFilledCell}
 use Rattle.definitions.specs.declared.Refusal.TheVariants.{TooManyCopies, TooManyBoardCells, MirroredWithoutTurned, EngineNotPorted, WorkTooShort}
-use Rattle.definitions.specs.declared.Refusal.TheVariants.{LinksTooShort, TooManyPlacements, TooManyLinks, NoText, OutputTooShort}
+use Rattle.definitions.specs.declared.Refusal.TheVariants.{LinksTooShort, TooManyPlacements, TooManyLinks, NoText, OutputTooShort, CellCountOutOfRange}
 use Rattle.definitions.specs.declared.Page.{Page as WrittenPage}
 
 -- "The list is the answers of the listed packings in the engine's order, each once": one list for a tray, an identification and an engine.
@@ -85,7 +85,7 @@ outcome l =
     cond (eqb n 0) yes no
 
 -- ---- the types of the code
--- the number of a refusal in document 01's table
+-- the number of a refusal in the documents
 abbrev pub number_of : Refusal → ℕ
 number_of TooManyPieces = 2
 number_of SideOutOfRange = 3
@@ -102,6 +102,7 @@ number_of TooManyPlacements = 14
 number_of TooManyLinks = 15
 number_of NoText = 17
 number_of OutputTooShort = 18
+number_of CellCountOutOfRange = 21
 
 -- what the code of a page call hands back (`Listing`), and what it says, with the slices that it leaves
 abbrev pub Reply : Type 0

@@ -35,7 +35,8 @@ pub struct Config {
 }
 
 // Why a call is refused: the rows 2 to 15 of document 01's table, in its order and with its numbers; and what document 02 adds for the call that writes the
-// text for DLX1, 17: a kind has more than one copy, or the board no filled cell, which DLX1 can't be told; 18: the output is too short for the whole text.
+// text for DLX1, 17: a kind has more than one copy, or the board no filled cell, which DLX1 can't be told; 18: the output is too short for the whole text;
+// and for the catalogue, 21: the number of cells is not 1 to 6.
 #[derive(Clone, Copy, PartialEq, Eq)]
 pub enum Refusal {
     TooManyPieces = 2,
@@ -53,6 +54,7 @@ pub enum Refusal {
     TooManyLinks,
     NoText = 17,
     OutputTooShort,
+    CellCountOutOfRange = 21,
 }
 
 // Where a page starts: at an entry of the list, by its number, or behind the entry that is lent.
@@ -62,7 +64,7 @@ pub enum Start {
     Behind,
 }
 
-// What an accepted call wrote: how many answers, and whether a further one follows.
+// What an accepted call wrote: how many answers, or entries of the catalogue, and whether a further one follows.
 #[derive(Clone, Copy, PartialEq, Eq)]
 pub struct Page {
     pub written: usize,
@@ -74,7 +76,7 @@ pub struct Page {
 pub type Listing = Result<Option<Page>, Refusal>;
 
 impl Refusal {
-    // The number that document 01's table gives a refusal.
+    // The number that documents 01 and 02 give a refusal.
     pub fn number(self) -> u8
         ensures { result ≡ number_of self }
     {

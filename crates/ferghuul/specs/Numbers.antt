@@ -1,7 +1,8 @@
--- A call's answer as numbers, of a page and of a text.
+-- A call's answer as numbers: of a page of packings, of a text, and of a page of the catalogue.
 use Rattle.std.specs.Prelude.{ℕ, Bool, true, false, cond, eqb, List, Some, None, Ok, Err}
 use Rattle.definitions.specs.Outcomes.{Outcome, Reply, number_of}
 use Rattle.definitions.specs.TextCalls.{TextOutcome, TextReply}
+use Rattle.definitions.specs.CatalogueCalls.{CatalogueOutcome}
 use Rattle.definitions.specs.declared.Config.{Config}
 use Rattle.definitions.specs.declared.SolverKind.{SolverKind}
 use Rattle.definitions.specs.declared.SolverKind.TheVariants.{Auto, Naive, Fast, KnuthAlgorithm}
@@ -27,6 +28,10 @@ text_numbers_of (Err why) = record { number = number_of why; written = 0 }
 
 abbrev pub text_outcome_by : TextAnswer → List ℕ → List ℕ → TextOutcome
 text_outcome_by t output work = record { number = t.number; written = t.written; output = output; work = work }
+
+-- what an answer says of a call for the catalogue
+abbrev pub catalogue_outcome_by : Answer → List ℕ → CatalogueOutcome
+catalogue_outcome_by a entries = record { number = a.number; written = a.written; further = a.further; entries = entries }
 
 -- the engine that a number stands for, and the configuration
 abbrev pub engine_of : ℕ → SolverKind

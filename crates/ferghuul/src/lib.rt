@@ -1,19 +1,21 @@
-// The calls for C and Rust, with what they answer as numbers (docs/INTERFACE.md): a page of the listing, and the text for Knuth's DLX1. Nothing is assumed
-// of what is lent; promised are document 01's outcome and document 02's (A2).
+// The calls for C and Rust, with what they answer as numbers (docs/INTERFACE.md): a page of the listing, the text for Knuth's DLX1, and a page of the
+// catalogue of pieces. Nothing is assumed of what is lent; promised are document 01's outcome and document 02's (A2, A11).
 #![tactic(auto)]
 
-ghost use Rattle.std.specs.Prelude.{◌≡◌};
+ghost use Rattle.std.specs.Prelude.{◌≡◌, false};
 ghost use Rattle.definitions.specs.Starts.{Meets, outcome_from};
 ghost use Rattle.definitions.specs.TextCalls.{TextDemand, text_outcome};
+ghost use Rattle.definitions.specs.CatalogueCalls.{CatalogueDemand, catalogue_outcome};
 ghost use Rattle.solver.specs.Lent.{call_with};
 ghost use Rattle.dlx.specs.Texts.{text_call};
-ghost use Rattle.ferghuul.specs.Numbers.{config_of, engine_of, numbers_of, outcome_by, start_of, text_numbers_of, text_outcome_by};
+ghost use Rattle.ferghuul.specs.Numbers.{catalogue_outcome_by, config_of, engine_of, numbers_of, outcome_by};
+ghost use Rattle.ferghuul.specs.Numbers.{start_of, text_numbers_of, text_outcome_by};
 
 use definitions::{Config, Listing, Record, Refusal, SolverKind, Start};
 use solver::records;
 
-// What a call answers: the refusal's number in document 01's table, 0 where it is accepted; how many answers were written; whether a further one follows;
-// and whether no entry of the list equals the one that was lent, to begin behind it. (Numbers and flags: the C interface has no enums with fields.)
+// What a call answers: the refusal's number, 0 where it is accepted; how many answers, or entries of the catalogue, were written; whether a further one
+// follows; and whether no entry of the list equals the one that was lent, to begin behind it. (Numbers and flags: the C interface has no enums with fields.)
 #[repr(C)]
 #[derive(Clone, Copy)]
 pub struct Answer {
@@ -23,7 +25,7 @@ pub struct Answer {
     pub missing: bool,
 }
 
-// What the page call hands back, in numbers.
+// What a page call hands back, in numbers.
 impl From<Listing> for Answer {
     ghost from_gives = { λ r a. a ≡ numbers_of r };
 
@@ -156,4 +158,14 @@ pub extern "C" fn ferghuul_dlx1(
     ensures demand { TextDemand (text_call pieces.now board bytes.now output.old work.old) (text_outcome_by result output.new work.new) }
 {
     dlx::records::text(pieces, board, bytes, output, work).into()
+}
+
+// A call for the catalogue, whatever is lent: `polycubes::page` in numbers. (It waits for no entry, so that none is missing.)
+#[unsafe(no_mangle)]
+pub extern "C" fn ferghuul_catalogue(n: u32, skip: u64, entries: &mut [u8]) -> Answer
+    ensures outcome { catalogue_outcome_by result entries.new ≡ catalogue_outcome (record { n = n; skip = skip; entries = entries.old }) }
+    ensures demand { CatalogueDemand (record { n = n; skip = skip; entries = entries.old }) (catalogue_outcome_by result entries.new) }
+    ensures none_waited { result.missing ≡ false }
+{
+    polycubes::page(n, skip, entries).map(Some).into()
 }

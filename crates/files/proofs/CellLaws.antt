@@ -1,13 +1,12 @@
--- Cells as bytes 0 and 1, put into a slice one by one. Assumes nothing.
-use Rattle.std.proofs.Common.{◌≡◌, ℕ, ◌+◌, ◌-◌, ◌<◌, List, map, length, get_or, set, sym, ap, ap₂, ◌∙◌, arith, add-one}
+-- Cells put into a slice one by one, each as a function of it: as bytes 0 and 1, or as digits. Assumes nothing.
+use Rattle.std.proofs.Common.{◌≡◌, ℕ, ◌+◌, ◌<◌, List, map, length, get_or, set, sym, ap, ap₂, ◌∙◌, arith, add-one}
 use Rattle.std.proofs.Math.ListN.{length-map, get_or-map}
 use Rattle.std.proofs.Math.Seq.{paste, paste-suc}
 
 -- one cell more
-pub cell_put : (old xs : List ℕ) (at i : ℕ) {new : List ℕ} → at + i < length old → i < length xs → new ≡ paste old at (map (λ x. x - 48) xs) i
-    → set new (at + i) (get_or xs i 0 - 48) ≡ paste old at (map (λ x. x - 48) xs) (i + 1)
-cell_put old xs at i {new} h k e =
-    let cells = map (λ x. x - 48) xs in
-    let m = length-map xs (λ x. x - 48) in
-    ap₂ (λ (l : List ℕ) (x : ℕ). set l (at + i) x) e (sym (get_or-map (λ x. x - 48) xs i 0))
-    ∙ paste-suc old at cells i (0 - 48) h (omega arith) ∙ ap (paste old at cells) (sym (add-one i))
+pub cell_put : (f : ℕ → ℕ) (old xs : List ℕ) (at i : ℕ) {new : List ℕ} → at + i < length old → i < length xs → new ≡ paste old at (map f xs) i
+    → set new (at + i) (f (get_or xs i 0)) ≡ paste old at (map f xs) (i + 1)
+cell_put f old xs at i {new} h k e =
+    let m = length-map xs f in
+    ap₂ (λ (l : List ℕ) (x : ℕ). set l (at + i) x) e (sym (get_or-map f xs i 0))
+    ∙ paste-suc old at (map f xs) i (f 0) h (omega arith) ∙ ap (paste old at (map f xs)) (sym (add-one i))

@@ -21,7 +21,7 @@ pub fn field(line: &[u8], n: usize) -> &[u8]
 
 // The number that decimal digits stand for; none where there is no digit, where there are more than `most`, or where a byte is no digit.
 pub fn number_in(digits: &[u8], most: usize) -> Option<usize>
-    requires { most ≤ 9 }
+    requires { most ≤ 10 }
     ensures { Read result (is_number most digits.now) (λ n. (n ≡ number_in digits.now) × (n < 10 ^ most)) }
 {
     if digits.is_empty() || most < digits.len() {
@@ -39,7 +39,7 @@ pub fn number_in(digits: &[u8], most: usize) -> Option<usize>
 }
 
 // Whether each byte is `0` or `1`.
-pub fn are_cells(bytes: &[u8]) -> bool
+pub(crate) fn are_cells(bytes: &[u8]) -> bool
     ensures { result ≡ all (λ x. eqb x 48 || eqb x 49) bytes.now }
 {
     bytes.iter().all(|byte| matches!(byte, b'0' | b'1'))

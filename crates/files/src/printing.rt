@@ -1,5 +1,5 @@
-// The lines that `pack` prints; a refusal's is printed by `dlx1` too. Each function puts its bytes into a buffer from a place on, and hands back the place
-// behind them.
+// The lines that `pack` prints; a refusal's is printed by `dlx1` and `catalogue` too. Each function puts its bytes into a buffer from a place on, and hands
+// back the place behind them.
 ghost use Rattle.std.specs.Prelude.{◌≡◌, ◌+◌, ◌*◌, ◌%◌, ◌≤◌, length};
 ghost use Rattle.definitions.specs.Files.{cell_shown, cells_shown, entry_line, last_line, refused_line};
 ghost use Rattle.texts.specs.Put.{Put};

@@ -12,7 +12,7 @@ use lib.Dec.{T, ltb, leb, eqb, eqb→eq, leb→le, le→leb}
 use lib.ListN.{length, get_or, drop, length-append, drop_of_length-le}
 use lib.Seq.{drop-cons}
 use native.Mathlib.Numerals.{add-one}
-use Rattle.lists.specs.Lists.{how_many, keep, cons_if, below, from, member, all, ascending, sum, numbered_from, Apart}
+use Rattle.lists.specs.Lists.{each, how_many, keep, cons_if, below, from, member, all, ascending, sum, numbered_from, Apart}
 use Rattle.lists.proofs.TestLaws.{decide, clash, eqb_of, is_true, is_false, not_T, and_left, and_right, and_both}
 use Rattle.lists.proofs.ListLaws.{keep_at, keep_keep, keep_append, how_many_pos, apart_keep, apart_length, all_at, all_of, all_get_or}
 use Rattle.lists.proofs.RangeLaws.{members_below, below_split}
@@ -128,6 +128,10 @@ sum_map f (x ∷ xs) = ap (λ (n : ℕ). f x + n) (sum_map f xs)
 pub total_append : {A : Type 0} (f : A → ℕ) (xs ys : List A) → total f (xs ++ ys) ≡ total f xs + total f ys
 total_append f [] ys = omega arith
 total_append f (x ∷ xs) ys = let r = total_append f xs ys in omega arith
+
+pub length_each : {A B : Type 0} (f : A → List B) (xs : List A) → length (each xs f) ≡ total (λ x. length (f x)) xs
+length_each f [] = refl
+length_each f (x ∷ xs) = length-append (f x) (each xs f) ∙ ap (λ (n : ℕ). length (f x) + n) (length_each f xs)
 
 pub total_keep : {A : Type 0} (p : A → Bool) (f : A → ℕ) (xs : List A) → total f (keep p xs) ≡ total (λ x. cond (p x) (f x) 0) xs
 total_keep p f [] = refl

@@ -251,6 +251,14 @@ module _ {A B : Type 0} (f : A → B) where
     numbered_map g i [] = refl
     numbered_map g i (x ∷ xs) = ap (λ (l : List C). g i (f x) ∷ l) (numbered_map g (suc i) xs)
 
+pub any_keep : {A : Type 0} (p q : A → Bool) (xs : List A) → any q (keep p xs) ≡ any (λ x. p x && q x) xs
+any_keep p q [] = refl
+any_keep p q (x ∷ xs) = go (p x) (any_keep p q xs)
+  where
+    go : (b : Bool) → any q (keep p xs) ≡ any (λ z. p z && q z) xs → any q (cons_if b x (keep p xs)) ≡ (b && q x) || any (λ z. p z && q z) xs
+    go true e = ap (λ (b : Bool). q x || b) e
+    go false e = e
+
 pub any_map : {A B : Type 0} (p : B → Bool) (f : A → B) (xs : List A) → any p (map f xs) ≡ any (λ x. p (f x)) xs
 any_map p f [] = refl
 any_map p f (x ∷ xs) = ap (λ (b : Bool). p (f x) || b) (any_map p f xs)
@@ -367,6 +375,14 @@ module _ {A : Type 0} where
       go : Memᴰ z xs ⊎ Memᴰ z (joined xss) → (Memᴰ z (joined xss) → (ys : List A) × Memᴰ ys xss × Memᴰ z ys) → (ys : List A) × Memᴰ ys (xs ∷ xss) × Memᴰ z ys
       go (inl k) f = (xs, Memᴰ.head refl, k)
       go (inr k) f = let r = f k in (r.0, Memᴰ.tail r.1, r.2)
+
+pub joined_append : {A : Type 0} (xs ys : List (List A)) → joined (xs ++ ys) ≡ joined xs ++ joined ys
+joined_append [] ys = refl
+joined_append (x ∷ xs) ys = ap (λ (l : List _). x ++ l) (joined_append xs ys) ∙ sym (append_assoc x (joined xs) (joined ys))
+
+pub each_joined : {A B : Type 0} (f : A → List B) (xs : List A) → each xs f ≡ joined (map f xs)
+each_joined f [] = refl
+each_joined f (x ∷ xs) = ap (λ (l : List _). f x ++ l) (each_joined f xs)
 
 pub length_joined : (n : ℕ) (xs : List (List ℕ)) → ((x : List ℕ) → Memᴰ x xs → length x ≡ n) → length (joined xs) ≡ length xs * n
 length_joined n [] h = sym (zero-mul n)

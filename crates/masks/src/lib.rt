@@ -1,5 +1,5 @@
-// Sets of board cells, by their scan numbers 0 to 127, as two words. Nothing is assumed; each function is a set operation on `has`. A number from 128 on is
-// no cell and is in no set.
+// Sets of cells as two words, by numbers 0 to 127: a board's cells by their scan numbers, a box's by their places. Nothing is assumed; each function is a
+// set operation on `has`. A number from 128 on is no cell and is in no set.
 #![tactic(auto)]
 
 ghost use Rattle.std.specs.Prelude.{◌≡◌, cond, not, ltb};

@@ -1,15 +1,15 @@
 -- A page's answers stand in the buffer one after the other, and they are the entries of the list from where the page begins. Assumes nothing.
-use Prim.Native.Nat.{ℕ, zero, suc, ◌+◌, ◌*◌, ◌/◌, ◌<◌, ◌≤◌}
+use Prim.Native.Nat.{ℕ, suc, ◌+◌, ◌*◌, ◌/◌, ◌<◌, ◌≤◌}
 use mathlib.Core.Bool.{Bool, true, false, cond, true≢false}
 use mathlib.Core.List.Memᴰ
-use mathlib.Core.List.{List, [], ◌∷◌, ◌++◌, append_assoc, Memᴰ}
+use mathlib.Core.List.{List, [], ◌++◌, append_assoc, Memᴰ}
 use mathlib.Core.Logic.{◌⊎◌, inl, inr}
-use mathlib.Core.Path.{◌≡◌, refl, sym, ap, ap₂, ◌∙◌, subst}
-use native.Mathlib.Nat.{suc-mul, mul-div_cancel}
+use mathlib.Core.Path.{◌≡◌, sym, ap, ap₂, ◌∙◌, subst}
+use native.Mathlib.Nat.{mul-div_cancel}
 use native.Mathlib.Omega.{arith}
 use lib.Dec.{ltb}
 use lib.ListN.{length, take, drop, get_or, length-take, length-drop}
-use lib.Seq.{take_at, drop-append-add, get_or-take, get_or-drop}
+use lib.Seq.{get_or-take, get_or-drop}
 use Rattle.lists.specs.Lists.{joined}
 use Rattle.lists.proofs.ListLaws.{drop_in, take_in}
 use Rattle.definitions.specs.Page.{page}
@@ -26,6 +26,7 @@ use Rattle.theorems.proofs.RefusalLaws.{outcome_accepted}
 use Rattle.placements.proofs.CountingLaws.{refused_some}
 use Rattle.definitions.specs.Starts.{outcome_from, skipping}
 use Rattle.definitions.specs.declared.Start.TheVariants.{Behind}
+use Rattle.theorems.proofs.EntryPageLaws.{entry_stands}
 use Rattle.theorems.proofs.StartLaws.{outcome-behind}
 use Rattle.output.specs.Rest.{Stands}
 use Rattle.output.specs.Standing.{Scratch}
@@ -34,21 +35,7 @@ use Rattle.output.specs.Standing.{Scratch}
 abbrev pub wrote : ℕ → Bool → Reply
 wrote n further = Ok (Some (record { written = n; further = further }))
 
--- ---- entries of one size
-entry_at : (n : ℕ) (xs : List (List ℕ)) → ((x : List ℕ) → Memᴰ x xs → length x ≡ n) → (rest : List ℕ) (i : ℕ) → i < length xs → take n (drop (i * n) (joined xs ++ rest)) ≡ get_or xs i []
-entry_at n [] sized rest i h = absurd (omega arith)
-entry_at n (x ∷ xs) sized rest zero h =
-    let z : 0 * n ≡ 0 = omega arith in
-    ap₂ (λ (j : ℕ) (l : List ℕ). take n (drop j l)) z (append_assoc x (joined xs) rest) ∙ take_at x (joined xs ++ rest) n (sized x (Memᴰ.head refl))
-entry_at n (x ∷ xs) sized rest (suc i) h =
-    let e = sized x (Memᴰ.head refl) in
-    let m = suc-mul i n in
-    let k : suc i * n ≡ length x + i * n = omega arith in
-    ap₂ (λ (j : ℕ) (l : List ℕ). take n (drop j l)) k (append_assoc x (joined xs) rest)
-    ∙ ap (take n) (drop-append-add x (joined xs ++ rest) (i * n))
-    ∙ entry_at n xs (λ y m. sized y (Memᴰ.tail m)) rest i (omega arith)
-
--- a page's entries
+-- ---- a page's entries
 page_stands : (list : List (List ℕ)) (skip room size : ℕ) (answers rest : List ℕ) → ((x : List ℕ) → Memᴰ x list → length x ≡ size) → skip ≤ length list
     → answers ≡ joined (page list skip room).entries ++ rest → Stands list skip size (page list skip room).written answers
 unfolding page
@@ -59,7 +46,7 @@ page_stands list skip room size answers rest sized h e =
       inside = omega arith;
       entry = λ i k.
           ap (λ (l : List ℕ). take size (drop (i * size) l)) e
-          ∙ entry_at size (take room (drop skip list)) (λ x m. sized x (drop_in skip list (take_in room (drop skip list) m))) rest i k
+          ∙ entry_stands size (take room (drop skip list)) (λ x m. sized x (drop_in skip list (take_in room (drop skip list) m))) rest i k
           ∙ get_or-take room (drop skip list) i [] (omega arith) ∙ get_or-drop skip list i [];
     }
 

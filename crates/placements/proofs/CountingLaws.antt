@@ -13,11 +13,11 @@ use lib.Dec.{T, ltb, leb, eqb, ltb→lt, lt→ltb, eqb→eq}
 use lib.ListN.{length, get_or, take, drop, set, length-replicate, length-map, length-drop, drop_of_length-le}
 use lib.Seq.{take-length, length-take-le, drop-cons, get_or-take, take-take, get_or-set_same, get_or-set_other}
 use Rattle.lists.specs.Lists.{all, how_many, keep, sum, joined, numbered, numbered_from}
-use Rattle.lists.proofs.TestLaws.{eqb_flip, and_left, and_right, holds, is_true, is_false}
+use Rattle.lists.proofs.TestLaws.{and_left, and_right, holds, is_true, is_false}
 use Rattle.lists.proofs.ListLaws.{all_at, all_of, keep_at, map_same}
 use Rattle.lists.proofs.CountLaws.{total_numbered, total_times, total_each, total_keep, total_append, total, total_one, how_many_length, sum_map}
 use Rattle.lists.proofs.NthLaws.{Nth, nth_mem, nth_get_or, nth_at}
-use Rattle.definitions.specs.Grid.{Sides, Cell, Grid, volume, box, byte_at, filled_cells}
+use Rattle.definitions.specs.Grid.{Sides, Cell, Grid, volume, filled_cells}
 use Rattle.definitions.specs.Scan.{axes, scan, scan_number}
 use Rattle.definitions.specs.Kinds.{Tray, Form, Kind, kind_named, kinds_of, variants, smallest, sorted, forms, copies_of}
 use Rattle.definitions.specs.Placements.{origin, lies, fits, Placement, placements_at, placements_of, Compiled, compile}
@@ -29,9 +29,9 @@ use Rattle.definitions.specs.declared.Record.{Record}
 use Rattle.definitions.specs.declared.Config.{Config}
 use Rattle.definitions.specs.declared.Refusal.{Refusal}
 use Rattle.definitions.specs.declared.Refusal.TheVariants.{TooManyPieces, SideOutOfRange, CellsOutsideBytes, CellNotZeroOrOne, PieceWithoutFilledCell, TooManyCopies, TooManyBoardCells}
-use Rattle.definitions.specs.declared.Refusal.TheVariants.{MirroredWithoutTurned, EngineNotPorted, WorkTooShort, LinksTooShort, TooManyPlacements, TooManyLinks, NoText, OutputTooShort}
+use Rattle.definitions.specs.declared.Refusal.TheVariants.{MirroredWithoutTurned, EngineNotPorted, WorkTooShort, LinksTooShort, TooManyPlacements, TooManyLinks, NoText, OutputTooShort, CellCountOutOfRange}
 use Rattle.theorems.proofs.MapLaws.{turn_fits, filled_at, filled_length}
-use Rattle.theorems.proofs.GroupLaws.{bytes_whole}
+use Rattle.theorems.proofs.GroupLaws.{filled_bytes}
 use Rattle.theorems.proofs.ShapeLaws.{scan_length, smallest_at}
 use Rattle.theorems.proofs.RefusalLaws.{PassedLent, first_decides, first_passes, none_applies, passed_lent, test_of}
 use Rattle.theorems.proofs.PartnerLaws.{variants_turned}
@@ -96,16 +96,6 @@ variants_smallest g e = let r = smallest_at g in ap variants (sym r.2) ∙ varia
 
 pub filled_smallest : (g : Grid) → length (filled_cells (smallest g)) ≡ length (filled_cells g)
 filled_smallest g = let r = smallest_at g in ap (λ (h : Grid). length (filled_cells h)) (sym r.2) ∙ filled_length r.0 (turn_fits r.0 r.1) g
-
--- a whole grid's filled cells are its bytes that are 1
-pub filled_bytes : (g : Grid) → length g.cells ≡ volume g.sides → length (filled_cells g) ≡ how_many (eqb 1) g.cells
-unfolding filled_cells
-filled_bytes g e =
-    sym (how_many_length (λ u. eqb (byte_at g u) 1) (box g.sides)) ∙ by_bytes (box g.sides) ∙ ap (how_many (eqb 1)) (bytes_whole g e)
-  where
-    by_bytes : (us : List Cell) → how_many (λ u. eqb (byte_at g u) 1) us ≡ how_many (eqb 1) (map (byte_at g) us)
-    by_bytes [] = refl
-    by_bytes (u ∷ us) = ap₂ {C = ℕ} (λ (b : Bool) (n : ℕ). cond b 1 0 + n) (eqb_flip (byte_at g u) 1) (by_bytes us)
 
 -- the cells of a kind's placements are as many as its shape's filled cells
 scanned_size : (s : Sides) (g : Grid) (us : List Cell) → Memᴰ us (map (scan (axes s)) (variants g)) → length us ≡ length (filled_cells g)
@@ -201,6 +191,7 @@ refused_some TooManyPlacements e = omega arith
 refused_some TooManyLinks e = omega arith
 refused_some NoText e = omega arith
 refused_some OutputTooShort e = omega arith
+refused_some CellCountOutOfRange e = omega arith
 
 -- the table in its four parts: the first part of which a row applies decides, among the three that are told without counting, and then the counts
 module _ (t : Pieces) (board : Record) (bytes : List ℕ) (config : Config) (work links : ℕ) where

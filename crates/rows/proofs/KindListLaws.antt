@@ -24,13 +24,14 @@ use Rattle.theorems.proofs.ActLaws.{product_on}
 use Rattle.theorems.proofs.MoveLaws.{mirror_in, mapped_whole}
 use Rattle.theorems.proofs.PartnerLaws.{mirror_twice, form_path}
 use Rattle.theorems.proofs.ShapeLaws.{smallest_at, sum_filled}
+use Rattle.theorems.proofs.GroupLaws.{filled_bytes}
 use Rattle.placements.specs.declared.Pieces.{Pieces}
 use Rattle.placements.specs.Pieces.{no_record, records_of, lent_in}
 use Rattle.placements.specs.Merging.{Sound, grid_at, shape_at, wood_at, form_at, moved_form, forms_of, AreKinds, copies_at}
 use Rattle.placements.specs.Counting.{Accepted9}
 use Rattle.placements.proofs.RefusalLaws.{all_grids}
 use Rattle.placements.proofs.MergingLaws.{form_in, forms_length, counted, copies_all}
-use Rattle.placements.proofs.CountingLaws.{lent_passes, sound, kinds_many, filled_smallest, filled_bytes}
+use Rattle.placements.proofs.CountingLaws.{lent_passes, sound, kinds_many, filled_smallest}
 use Rattle.rows.proofs.RecordLaws.{record_is, record_bits, piece_size}
 use Rattle.rows.specs.Charts.{kind_copies, kind_partner, kind_size, no_kind, nothing_owned}
 use Rattle.rows.specs.declared.chart.Kind.{Kind as Entry}

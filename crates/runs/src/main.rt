@@ -1,9 +1,9 @@
-// Runs of `pack` and `dlx1`: what `pack` prints for each file of a list, one after the other, and then what `dlx1` prints for each file of another, held to
-// the stored output. A file that is missing and a folder in place of a file make reads that fail.
+// Runs of `pack`, `dlx1` and `catalogue`: what `pack` prints for each file of a list, one after the other, then what `dlx1` prints for each file of another,
+// and what `catalogue` prints for each of a third, held to the stored output. A file that is missing and a folder in place of a file make reads that fail.
 #![tactic(auto)]
 
 use std::fs;
-use streams::{Dlx1Room, Room, Text};
+use streams::{CatalogueRoom, Dlx1Room, Room, Text};
 
 const LISTED: [&str; 19] = [
     "listing.tray",
@@ -46,6 +46,21 @@ const TEXTS: [&str; 16] = [
     ".",
 ];
 
+const REQUESTS: [&str; 12] = [
+    "cells_1.request",
+    "cells_2.request",
+    "cells_3.request",
+    "cells_4.request",
+    "cells_5.request",
+    "cells_6.request",
+    "cells_0.request",
+    "cells_7.request",
+    "cells_4294967302.request",
+    "unended.request",
+    "missing.request",
+    ".",
+];
+
 // Reads a file; one that cannot be opened counts as one whose first read fails.
 fn read(rt: &HostRuntime, text: &mut Text, name: &str) {
     match fs::open(rt, name) {
@@ -64,5 +79,10 @@ fn main(rt: HostRuntime) {
     for name in TEXTS {
         read(&rt, &mut dlx1_room.text, name);
         let _ = dlx1_room.print(&mut rt.stdout());
+    }
+    let mut catalogue_room = CatalogueRoom::new();
+    for name in REQUESTS {
+        read(&rt, &mut catalogue_room.text, name);
+        let _ = catalogue_room.print(&mut rt.stdout());
     }
 }

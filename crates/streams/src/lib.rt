@@ -1,10 +1,11 @@
-// A text read from a reader, and what `pack` or `dlx1` prints for it written to a writer.
+// A text read from a reader, and what `pack`, `dlx1` or `catalogue` prints for it written to a writer.
 //
 // Every function here is proved. No contract can say which bytes are read or written: that `read_text` puts the input's bytes one
-// after the other into its slice, that `print` has each stretch written that a step makes, and `Dlx1Room::print` all that is made, is
-// for the eye, and for the stored runs of the programs above.
+// after the other into its slice, that `print` has each stretch written that a step makes, and `Dlx1Room::print` and
+// `CatalogueRoom::print` all that is made, is for the eye, and for the stored runs of the programs above.
 #![tactic(auto)]
 
+mod catalogue_room;
 mod dlx1_room;
 mod room;
 mod text;
@@ -14,6 +15,7 @@ ghost use Rattle.definitions.specs.Files.{packed};
 ghost use Rattle.streams.specs.Printing.{Ends, Lent};
 ghost use Rattle.streams.specs.Reading.{read_after};
 
+pub use catalogue_room::CatalogueRoom;
 pub use dlx1_room::Dlx1Room;
 use output::{Progress, Stretch};
 pub use room::Room;

@@ -10,8 +10,8 @@ use native.Mathlib.Omega.{arith}
 use lib.Dec.{T, leb, eqb, eqb→eq, leb→le}
 use lib.ListN.{length}
 use Rattle.lists.specs.Lists.{all, any, keep, sort, Apart}
-use Rattle.lists.proofs.TestLaws.{and_left, and_right, decide, clash, eqb_of}
-use Rattle.lists.proofs.ListLaws.{map_through, apart_map, any_at, apart_keep, map_same}
+use Rattle.lists.proofs.TestLaws.{and_left, and_right, and_both, decide, clash, eqb_of}
+use Rattle.lists.proofs.ListLaws.{map_through, apart_map, any_at, any_of, apart_keep, map_same}
 use Rattle.lists.proofs.SortLaws.{apart_ascending, sort_ascending, less_trans, less_irrefl, sort_at, sort_of}
 use Rattle.lists.proofs.NthLaws.{nth_apart, nth_unique, Nth}
 use Rattle.definitions.specs.Grid.{Sides, Cell, Grid, same_cell, box, volume, byte_at, filled_cells, grid_ahead, sides_then_cells, InBox}
@@ -64,6 +64,16 @@ tight_of g t = record { low = λ i. low i (eqb i 0) (eqb i 1); high = λ i. high
     high i true y = at (λ u. u.x + 1) g.sides.a (and_left (A (λ u. eqb (u.x + 1) g.sides.a)) _ t₁)
     high i false true = at (λ u. u.y + 1) g.sides.b (and_left (A (λ u. eqb (u.y + 1) g.sides.b)) _ t₃)
     high i false false = at (λ u. u.z + 1) g.sides.c (and_right (A (λ u. eqb u.z 0)) (A (λ u. eqb (u.z + 1) g.sides.c)) t₄)
+
+pub tight_test : (g : Grid) → Tight g → T (is_tight g)
+unfolding is_tight filled_where coordinate side
+tight_test g t =
+    and_both _ _ (at (λ u. u.x) 0 (t.low 0)) (and_both _ _ (at (λ u. u.x + 1) g.sides.a (t.high 0))
+    (and_both _ _ (at (λ u. u.y) 0 (t.low 1)) (and_both _ _ (at (λ u. u.y + 1) g.sides.b (t.high 1))
+    (and_both _ _ (at (λ u. u.z) 0 (t.low 2)) (at (λ u. u.z + 1) g.sides.c (t.high 2))))))
+  where
+    at : (f : Cell → ℕ) (n : ℕ) → (u : Cell) × Memᴰ u (filled_cells g) × (f u ≡ n) → T (any (λ u. eqb (f u) n) (filled_cells g))
+    at f n r = any_of (λ u. eqb (f u) n) (filled_cells g) r.1 (eqb_of r.2)
 
 pub tight_mapped : (m : Map) → Fits m → (g : Grid) → Tight g → Tight (map_grid m g)
 tight_mapped m h g t = record { low = λ i. low i (eqb (flip_at m i) 0) refl; high = λ i. high i (eqb (flip_at m i) 0) refl }

@@ -1,19 +1,19 @@
 -- The outcome of document 01's definitions meets demands 2 and 3. Assumes nothing.
-use Prim.Native.Nat.{ℕ, ◌+◌, ◌-◌, ◌*◌, ◌/◌, ◌≤◌, ◌<◌, min}
+use Prim.Native.Nat.{ℕ, ◌+◌, ◌*◌, ◌≤◌, ◌<◌}
 use mathlib.Core.Bool.{Bool, true, false, cond, ◌&&◌}
 use mathlib.Core.List.Memᴰ
 use mathlib.Core.List.Perm
 use mathlib.Core.List.{List, [], ◌∷◌, ◌++◌, map, Memᴰ, map-map}
-use mathlib.Core.Path.{◌≡◌, refl, sym, ap, ap₂, ◌∙◌, subst}
+use mathlib.Core.Path.{◌≡◌, refl, sym, ap, ◌∙◌, subst}
 use mathlib.Core.Logic.{◌⊎◌, inl, inr}
-use native.Mathlib.Nat.{mul_comm, div-mul-le_self, lt-div-mul-add, add-mul, one-mul, mul-le-mul_right, le_trans, mul-pos}
+use native.Mathlib.Nat.{mul_comm, mul-pos}
 use native.Mathlib.Omega.{arith}
-use lib.Dec.{T, ltb, leb, ltb→lt, lt→ltb, leb→le}
-use lib.ListN.{length, take, drop, replicate, length-take, length-drop, length-map, length-replicate}
+use lib.Dec.{T, ltb, leb, lt→ltb, leb→le}
+use lib.ListN.{length, drop, replicate, length-map, length-replicate}
 use lib.Seq.{length_front, length-take-le}
-use Rattle.lists.specs.Lists.{all, keep, each, joined, head_or, member, sum, ascending, Apart}
+use Rattle.lists.specs.Lists.{all, keep, each, head_or, member, sum, ascending, Apart}
 use Rattle.lists.proofs.TestLaws.{and_left, and_right}
-use Rattle.lists.proofs.ListLaws.{each_length, take_min, take_in, drop_in, length_joined, all_of, keep_at, each_at, apart_map}
+use Rattle.lists.proofs.ListLaws.{each_length, all_of, keep_at, each_at, apart_map}
 use Rattle.lists.proofs.SortLaws.{keep_ascending}
 use Rattle.lists.proofs.NthLaws.{nth_mem, nth_below}
 use Rattle.definitions.specs.Grid.{Cell, box, volume}
@@ -29,10 +29,11 @@ use Rattle.definitions.specs.Orders.{listed, packings, fast_list, fast_ahead}
 use Rattle.definitions.specs.Answers.{Taken, taken, copy_on, two_bytes, lent_cells, answer}
 use Rattle.definitions.specs.Page.{page}
 use Rattle.definitions.specs.Refusals.{Call, sides_of, grid_of, lent_of, strip_piece, strip_tray, tray_of, identify_of, is_side, sides_fit, copy_count, is_ported, is_knuth, refusal, piece_of}
-use Rattle.definitions.specs.Outcomes.{Outcome, answers_of, answer_size, capacity, page_of, over_start, cleared, accepted, outcome}
+use Rattle.definitions.specs.Outcomes.{Outcome, answers_of, answer_size, capacity, page_of, cleared, accepted, accepted_with, outcome}
 use Rattle.definitions.specs.Demands.{Stretch, Pages, placements_in, cover_answer, Covers, Demand2, MeetsDemand2, OneList, MeetsDemand3}
 use Rattle.definitions.specs.declared.SolverKind.{SolverKind}
 use Rattle.definitions.specs.declared.SolverKind.TheVariants.{Fast, KnuthAlgorithm}
+use Rattle.theorems.proofs.EntryPageLaws.{room_fits, no_more_room, page_written, page_further, page_bytes, page_length}
 use Rattle.theorems.proofs.RefusalLaws.{passed, board_sides, outcome_accepted}
 use Rattle.theorems.proofs.SearchLaws.{WellMade}
 use Rattle.theorems.proofs.ShapeLaws.{accepted_well_made}
@@ -80,88 +81,25 @@ module _ (l : Call) (ok : refusal l ≡ 0) where
   links-length true e = cleared_length 32768 l.links ((passed l ok).links_long e)
   links-length false e = refl
 
-  module _ (list : List (List ℕ)) (sized : (x : List ℕ) → Memᴰ x list → length x ≡ size) (its : list ≡ answers_of (tray_of l) (identify_of l.config) l.config.solver) where
-    abbrev entries : List (List ℕ)
-    entries = take (capacity l) (drop l.skip list)
-
-    abbrev room : ℕ
-    room = capacity l
-
-    fit : room * size ≤ length l.answers
-    unfolding capacity
-    fit = div-mul-le_self (length l.answers) size
-
-    no_more : length l.answers < (room + 1) * size
-    unfolding capacity
-    no_more =
-        let a = lt-div-mul-add {a = length l.answers} size_pos in
-        let b = add-mul (length l.answers / size) 1 size in
-        let c = one-mul size in
-        omega arith
-
-    entries_length : length (joined entries) ≡ length entries * size
-    entries_length = length_joined size entries (λ x m. sized x (drop_in l.skip list (take_in room (drop l.skip list) m)))
-
-    how-many : length entries ≡ min room (length list - l.skip)
-    how-many = length-take room (drop l.skip list) ∙ ap (λ (n : ℕ). min room n) (length-drop l.skip list)
-
-    they-fit : length entries * size ≤ length l.answers
-    they-fit = le_trans (mul-le-mul_right size (let a = how-many in omega arith)) fit
-
-    bytes_length : length (joined entries ++ drop (length (joined entries)) l.answers) ≡ length l.answers
-    bytes_length =
-        length_front l.answers (joined entries) (length (joined entries))
-        (sym (length-take-le (length (joined entries)) l.answers (let a = entries_length in let b = they-fit in omega arith)))
-
-    bytes-are : joined entries ++ drop (length (joined entries)) l.answers ≡ joined (take (length entries) (drop l.skip list)) ++ drop (length entries * size) l.answers
-    bytes-are = ap₂ (λ (xs : List (List ℕ)) (n : ℕ). joined xs ++ drop n l.answers) (sym (take_min room (drop l.skip list))) entries_length
-
-    of_list : Outcome
-    of_list =
-        record {
-          number = 0;
-          written = length entries;
-          further = ltb (l.skip + length entries) (length list);
-          missing = false;
-          answers = joined entries ++ drop (length (joined entries)) l.answers;
-          work = replicate 8192 0 ++ drop 8192 l.work;
-          links = cond (is_knuth l.config.solver) (replicate 32768 0 ++ drop 32768 l.links) l.links;
-        }
-
-    its_outcome : outcome l ≡ of_list
-    unfolding accepted page_of page over_start cleared of_list
-    its_outcome =
-        outcome_accepted l ok
-        ∙ ap {B = Outcome} (λ (xs : List (List ℕ)). record {
-          number = 0;
-          written = length (take (capacity l) (drop l.skip xs));
-          further = ltb (l.skip + length (take (capacity l) (drop l.skip xs))) (length xs);
-          missing = false;
-          answers = joined (take (capacity l) (drop l.skip xs)) ++ drop (length (joined (take (capacity l) (drop l.skip xs)))) l.answers;
-          work = replicate 8192 0 ++ drop 8192 l.work;
-          links = cond (is_knuth l.config.solver) (replicate 32768 0 ++ drop 32768 l.links) l.links;
-        }) (sym its)
-
-    stretch_of : Stretch list l of_list
-    unfolding of_list
-    stretch_of =
-        record {
-          number = refl;
-          capacity = room;
-          they_fit = fit;
-          one_more_does_not = no_more;
-          written = how-many;
-          further = (λ t. ltb→lt (l.skip + length entries) (length list) t, λ h. lt→ltb (l.skip + length entries) (length list) h);
-          bytes = bytes-are;
-          answers_length = bytes_length;
-          work = refl;
-          work_length = cleared_length 8192 l.work (passed l ok).work_long;
-          links = refl;
-          links_length = links-length (is_knuth l.config.solver) refl;
-        }
-
-    pub stretch : Stretch list l (outcome l)
-    stretch = subst (λ (o : Outcome). Stretch list l o) (sym its_outcome) stretch_of
+  stretch : (list : List (List ℕ)) → ((x : List ℕ) → Memᴰ x list → length x ≡ size) → list ≡ answers_of (tray_of l) (identify_of l.config) l.config.solver
+      → Stretch list l (outcome l)
+  unfolding accepted page_of capacity cleared
+  stretch list sized its =
+      subst (λ (o : Outcome). Stretch list l o) (ap (λ (xs : List (List ℕ)). accepted_with (page xs l.skip (capacity l)) l) its ∙ sym (outcome_accepted l ok))
+      record {
+        number = refl;
+        capacity = capacity l;
+        they_fit = room_fits list size size_pos sized l.skip l.answers;
+        one_more_does_not = no_more_room list size size_pos sized l.skip l.answers;
+        written = page_written list size size_pos sized l.skip l.answers;
+        further = page_further list size size_pos sized l.skip l.answers;
+        bytes = page_bytes list size size_pos sized l.skip l.answers;
+        answers_length = page_length list size size_pos sized l.skip l.answers;
+        work = refl;
+        work_length = cleared_length 8192 l.work (passed l ok).work_long;
+        links = refl;
+        links_length = links-length (is_knuth l.config.solver) refl;
+      }
 
 -- every page of a tray's one list is its stretch
 pub answers_sized : (t : Tray) (i : Identify) (e : SolverKind) (x : List ℕ) → Memᴰ x (answers_of t i e) → length x ≡ answer_size t.frame.lent

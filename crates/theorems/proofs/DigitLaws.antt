@@ -1,6 +1,6 @@
 -- The decimal digits of a number: each is a digit, there are three at most below 1,000, and they tell the number. Assumes nothing.
 use Prim.Native.Nat.{ℕ, zero, suc, ◌+◌, ◌-◌, ◌*◌, ◌/◌, ◌%◌, ◌^◌, ◌≤◌, ◌<◌}
-use mathlib.Core.Bool.{Bool, true, false, cond, not}
+use mathlib.Core.Bool.{Bool, true, false, cond, not, ◌&&◌}
 use mathlib.Core.List.{List, [], ◌∷◌, ◌++◌}
 use mathlib.Core.Path.{◌≡◌, refl, sym, ap, ◌∙◌, subst}
 use mathlib.Core.Logic.{◌⊎◌, inl, inr}
@@ -9,10 +9,10 @@ use native.Mathlib.Omega.{arith}
 use borrow.Author.Tests.{ltb-true, lt-ltb}
 use lib.Dec.{T, ltb, leb, eqb, eqb→eq, le→leb}
 use lib.ListN.{length, length-append}
-use Rattle.lists.specs.Lists.{all}
+use Rattle.lists.specs.Lists.{all, is_empty}
 use Rattle.lists.proofs.TestLaws.{and_both, clash, decide}
 use Rattle.lists.proofs.ListLaws.{all_at, all_of, all_append}
-use Rattle.definitions.specs.Files.{is_digit, decimal_with, decimal, number_from, number_in}
+use Rattle.definitions.specs.Files.{is_digit, is_number, decimal_with, decimal, number_from, number_in}
 
 -- ---- each is a digit
 a_digit : (n : ℕ) → n < 10 → T (is_digit (n + 48))
@@ -61,6 +61,21 @@ few_with (suc k) (suc fuel) n h = go (ltb n 10) (few_with k fuel (n / 10) (tenth
 pub three_digits : (n : ℕ) → n < 1000 → length (decimal n) ≤ 3
 unfolding decimal
 three_digits n h = few_with 2 20 n (omega arith)
+
+some_with : (fuel n : ℕ) → T (not (is_empty (decimal_with (suc fuel) n)))
+some_with fuel n = go (ltb n 10) (decimal_with fuel (n / 10))
+  where
+    go : (b : Bool) (ds : List ℕ) → T (not (is_empty (cond b ((n + 48) ∷ []) (ds ++ ((n % 10 + 48) ∷ [])))))
+    go true ds = tt
+    go false [] = tt
+    go false (d ∷ ds) = tt
+
+-- a number below 1,000 is written as files want it
+pub side_number : (n : ℕ) → n < 1000 → T (is_number 3 (decimal n))
+unfolding is_number decimal
+side_number n h =
+    and_both (not (is_empty (decimal n))) (leb (length (decimal n)) 3 && all is_digit (decimal n)) (some_with 19 n)
+    (and_both (leb (length (decimal n)) 3) (all is_digit (decimal n)) (le→leb (length (decimal n)) 3 (three_digits n h)) (digits_are n))
 
 -- ---- they tell the number
 number_end : (n : ℕ) (ds : List ℕ) (d : ℕ) → number_from n (ds ++ (d ∷ [])) ≡ number_from n ds * 10 + (d - 48)

@@ -79,19 +79,17 @@ barred_without : (b : ℕ) (ws : List (List ℕ)) → T (not (eqb 124 b)) → T 
 barred_without b [] t u = tt
 barred_without b (w ∷ ws) t u = and_both (without b (124 ∷ [])) (all (without b) (w ∷ ws)) (and_both (not (eqb 124 b)) true t tt) u
 
--- words with spaces between them have no line feed where none of the words has one
+-- words with a byte between them have another byte only where one of the words has it
+pub parted_without : (s b : ℕ) (w : List ℕ) (ws : List (List ℕ)) → T (not (eqb s b)) → T (all (without b) (w ∷ ws)) → T (without b (w ++ joined (map (λ v. s ∷ v) ws)))
+parted_without s b w [] t u = subst (λ (l : List ℕ). T (without b l)) (sym (append-nil w)) (and_left (without b w) true u)
+parted_without s b w (v ∷ ws) t u =
+    subst T (sym (all_append (λ x. not (eqb x b)) w (s ∷ (v ++ joined (map (λ v. s ∷ v) ws)))))
+    (and_both (without b w) (without b (s ∷ (v ++ joined (map (λ v. s ∷ v) ws)))) (and_left (without b w) (all (without b) (v ∷ ws)) u)
+    (and_both (not (eqb s b)) (without b (v ++ joined (map (λ v. s ∷ v) ws))) t (parted_without s b v ws t (and_right (without b w) (all (without b) (v ∷ ws)) u))))
+
 spaced_without : (b : ℕ) (ws : List (List ℕ)) → T (not (eqb 32 b)) → T (all (without b) ws) → T (without b (spaced ws))
 spaced_without b [] t u = tt
-spaced_without b (w ∷ ws) t u =
-    subst T (sym (all_append (λ x. not (eqb x b)) w (joined (map (λ v. 32 ∷ v) ws))))
-    (and_both (without b w) (without b (joined (map (λ v. 32 ∷ v) ws))) (and_left (without b w) (all (without b) ws) u) (go ws (and_right (without b w) (all (without b) ws) u)))
-  where
-    go : (vs : List (List ℕ)) → T (all (without b) vs) → T (without b (joined (map (λ v. 32 ∷ v) vs)))
-    go [] s = tt
-    go (v ∷ vs) s =
-        and_both (not (eqb 32 b)) (without b (v ++ joined (map (λ u. 32 ∷ u) vs))) t
-        (subst T (sym (all_append (λ x. not (eqb x b)) v (joined (map (λ u. 32 ∷ u) vs))))
-        (and_both (without b v) (without b (joined (map (λ u. 32 ∷ u) vs))) (and_left (without b v) (all (without b) vs) s) (go vs (and_right (without b v) (all (without b) vs) s))))
+spaced_without b (w ∷ ws) t u = parted_without 32 b w ws t u
 
 -- ---- the first line, up to the bar and behind it
 pub before_bar : (ws ks : List (List ℕ)) → T (all (without 124) ws) → before is_bar (ws ++ barred ks) ≡ length ws

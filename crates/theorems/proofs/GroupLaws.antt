@@ -8,12 +8,13 @@ use native.Mathlib.Nat.{zero-mul, mul_assoc}
 use native.Mathlib.Omega.{arith}
 use lib.Dec.{T, leb, eqb, leb→le}
 use lib.ListN.{length, get_or}
-use Rattle.lists.specs.Lists.{all, any, each, below, from, same}
-use Rattle.lists.proofs.TestLaws.{and_left, and_right}
-use Rattle.lists.proofs.ListLaws.{map_same, all_at, any_at, map_each, each_same}
+use Rattle.lists.specs.Lists.{all, any, each, how_many, below, from, same}
+use Rattle.lists.proofs.TestLaws.{and_left, and_right, eqb_flip}
+use Rattle.lists.proofs.ListLaws.{map_same, all_at, any_at, map_each, each_same, how_many_map, how_many_same}
+use Rattle.lists.proofs.CountLaws.{how_many_length}
 use Rattle.lists.proofs.SortLaws.{same→eq, same_refl}
 use Rattle.lists.proofs.RangeLaws.{each_shift, from_shift, from_blocks, by_number}
-use Rattle.definitions.specs.Grid.{Sides, Cell, Grid, box, volume, byte_at, grid_with, sides_then_cells, same_grid, InBox}
+use Rattle.definitions.specs.Grid.{Sides, Cell, Grid, box, volume, byte_at, grid_with, filled_cells, sides_then_cells, same_grid, InBox}
 use Rattle.definitions.specs.Maps.{Map, side, coordinate, from_end, map_sides, map_cell, axis_of, flip_of, inverse, map_grid, permutations, transform, parity, turns, mirrorings, identity, product, axis_at, flip_at}
 use Rattle.theorems.proofs.MapLaws.{box_at, Fits, mapped_byte, mapped_sides}
 
@@ -313,6 +314,14 @@ bytes_whole g e =
         map_each (λ (u : Cell). (u.x * b + u.y) * c + u.z) (λ i. each (below b) (λ j. map (λ k. record { x = i; y = j; z = k }) (below c))) (below a)
         ∙ each_same (λ i. map (λ (u : Cell). (u.x * b + u.y) * c + u.z) (each (below b) (λ j. map (λ k. record { x = i; y = j; z = k }) (below c)))) (λ i. from (i * (b * c)) (b * c)) (below a) row
         ∙ from_blocks (b * c) 0 a ∙ ap₂ (λ (x y : ℕ). from x y) (zero-mul (b * c)) (sym (mul_assoc a b c) ∙ sym e)
+
+-- a whole grid's filled cells are its bytes that are 1
+pub filled_bytes : (g : Grid) → length g.cells ≡ volume g.sides → length (filled_cells g) ≡ how_many (eqb 1) g.cells
+unfolding filled_cells
+filled_bytes g e =
+    sym (how_many_length (λ u. eqb (byte_at g u) 1) (box g.sides))
+    ∙ how_many_same (λ u. eqb (byte_at g u) 1) (λ u. eqb 1 (byte_at g u)) (box g.sides) (λ u. eqb_flip (byte_at g u) 1)
+    ∙ sym (how_many_map (eqb 1) (byte_at g) (box g.sides)) ∙ ap (how_many (eqb 1)) (bytes_whole g e)
 
 pub identity_grid : (g : Grid) → length g.cells ≡ volume g.sides → map_grid identity g ≡ g
 unfolding map_grid grid_with map_sides identity side inverse axis_of flip_of map_cell from_end coordinate

@@ -46,3 +46,14 @@ pub mod Dlx1TakenLaws
 pub mod Dlx1CoverLaws
 pub mod TextRightLaws
 pub mod FewLaws
+pub mod CatalogueWalkLaws
+pub mod CatalogueSizeLaws
+pub mod TogetherLaws
+pub mod HangsLaws
+pub mod BitListLaws
+pub mod TurnedLaws
+pub mod SortedSidesLaws
+pub mod CatalogueLaws
+pub mod EntryPageLaws
+pub mod CatalogueCallLaws
+pub mod CataloguePrintedLaws

@@ -48,10 +48,10 @@ module _ (s : Sides) (g : Grid) where
   filled_scanned u k = sort_of (cell_ahead (axes s)) (cells_tied s) (filled_cells g) k
 
 -- the test that a cell is one of the board's, and what it says
-on-board : (cells : List Cell) (u : Cell) → T (any (same_cell u) cells) → Memᴰ u cells
+pub on-board : (cells : List Cell) (u : Cell) → T (any (same_cell u) cells) → Memᴰ u cells
 on-board cells u t = let r = any_at (same_cell u) cells t in Memᴰ.cast (same_cell→eq u r.0 r.2) r.1
 
-is_on_board : (cells : List Cell) (u : Cell) → Memᴰ u cells → T (any (same_cell u) cells)
+pub is_on_board : (cells : List Cell) (u : Cell) → Memᴰ u cells → T (any (same_cell u) cells)
 is_on_board cells u k = any_of (same_cell u) cells k (same_cell_refl u)
 
 -- ---- a grid after quarter turns is one of its variants, and each of its variants is the grid after some
@@ -64,7 +64,7 @@ module _ (g : Grid) (bits : T (are_bits g)) (whole : length g.cells ≡ volume g
   turned_by : (ms : List Move) → T (are_turns ms) → Memᴰ (moves_map ms) turns
   turned_by ms t = subst (λ (b : Bool). Memᴰ (moves_map ms) (maps_of b)) (turns_not_odd ms t) (moves_in ms)
 
-  turned_variant : (ms : List Move) → T (are_turns ms) → Memᴰ (grid_after ms g) (variants g)
+  pub turned_variant : (ms : List Move) → T (are_turns ms) → Memᴰ (grid_after ms g) (variants g)
   turned_variant ms t = Memᴰ.cast (moves_grid ms g bits whole) (variant_of g (moves_map ms) (turned_by ms t))
 
   variant_turned : (v : Grid) → Memᴰ v (variants g) → (ms : List Move) × T (are_turns ms) × (grid_after ms g ≡ v)

@@ -1,0 +1,4 @@
+pub mod RequestLaws
+pub mod LineLaws
+pub mod EntryLaws
+pub mod PrintedLaws
