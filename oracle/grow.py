@@ -1,7 +1,8 @@
 #!/usr/bin/env python3
 """The pieces of n cells that hang together by faces, grown cell by cell: each is one of
 n - 1 cells with a further cell that shares a face with it, and is kept once under the 24
-turns. It knows nothing of boxes and fillings, and nothing of this project.
+turns. It walks no boxes and no fillings, and uses nothing of this project but the form of
+its lines.
 
     grow.py N ...    for each N, from 1 on, what `catalogue` prints for so many cells
 """
