@@ -51,15 +51,16 @@ static void type_in(void) {
 
 /* How many packings are listed; 0 where a call goes wrong. */
 static size_t listed(uint8_t engine, bool turned, bool mirrored) {
+    const size_t size = FERGHUUL_ANSWER(board);
     size_t count = 0;
     bool behind = false;
     for (;;) {
-        const ferghuul_answer page = ferghuul_page(pieces, 7, board, bytes, sizeof bytes, engine, turned, mirrored, behind, 0, last, behind ? SIZE : 0,
+        const ferghuul_answer page = ferghuul_page(pieces, 7, board, bytes, sizeof bytes, engine, turned, mirrored, behind, 0, last, behind ? size : 0,
                                                    answers, sizeof answers, work, FERGHUUL_WORK, links, FERGHUUL_LINKS);
         if (page.number != FERGHUUL_ACCEPTED || page.missing || page.written > ROOM) return 0;
         count += page.written;
         if (!page.further) return count;
-        memcpy(last, answers + (page.written - 1) * SIZE, SIZE);
+        memcpy(last, answers + (page.written - 1) * size, size);
         behind = true;
     }
 }
@@ -129,6 +130,7 @@ int main(int argc, char **argv) {
         const ferghuul_text_answer whole = text(sizeof output);
         return whole.number != FERGHUUL_ACCEPTED || fwrite(output, 1, whole.written, stdout) != whole.written;
     }
+    if (FERGHUUL_ANSWER(board) != SIZE || FERGHUUL_ANSWER(pieces[1]) != 12) failed = 1;
     if (!is_text()) failed = 1;
     for (identified = 0; identified < 3; identified++) {
         const size_t fast = listed(FERGHUUL_FAST, identified > 0, identified > 1);

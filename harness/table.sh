@@ -1,13 +1,18 @@
 #!/bin/sh
-# table.sh [BEFORE]: the tables of docs/PERFORMANCE.md, as Markdown. With a file that it printed before, each row gets that one's
-# ratio as a last column. Nothing is built here: it says what is missing.
+# table.sh [stack] [BEFORE]: the tables of docs/PERFORMANCE.md, as Markdown, or that of the stack alone. With a file that it printed
+# before, each row gets that one's ratio as a last column. Nothing is built here: it says what is missing.
 set -eu
 cd "$(dirname "$0")/.."
 harness=harness/target/release oracle=oracle/target/release pack=crates/pack/out/pack trays=harness/trays
-for file in $harness/race $harness/stream $harness/programs $harness/stack $oracle/oracle $oracle/trays $pack crates/ferghuul/out/libferghuul.a; do
+only= needed="$harness/race $harness/stream $harness/programs $oracle/oracle $oracle/trays $pack"
+if [ "${1-}" = stack ]; then
+    only=stack needed=
+    shift
+fi
+for file in $harness/stack crates/ferghuul/out/libferghuul.a $needed; do
     [ -e $file ] || { echo "$file is missing: (cd crates/pack && rt run), (cd crates/ferghuul && rt lib), then cargo in oracle/ and harness/ (README.md)" >&2; exit 1; }
 done
-[ $harness/race -nt crates/ferghuul/out/libferghuul.a ] || { echo "the library is newer than the harness" >&2; exit 1; }
+[ $harness/stack -nt crates/ferghuul/out/libferghuul.a ] || { echo "the library is newer than the harness" >&2; exit 1; }
 kept=$(mktemp -d)
 trap 'rm -rf "$kept"' EXIT
 
@@ -17,7 +22,16 @@ more() {
     sed 1,2d "$kept/rows"
 }
 
+stack_table() {
+    printf '## The stack\n\n'
+    $harness/stack none mirrored trays/soma.tray $trays/far_end.tray $trays/wide_8.tray
+}
+
 tables() {
+    if [ "$only" = stack ]; then
+        stack_table
+        return
+    fi
     printf '## The page call\n\n'
     $harness/race 9 trays/soma.tray $trays/soma_in_boxes.tray $trays/boxes_72.tray
     more $harness/race 3 $trays/spare.tray
@@ -30,8 +44,8 @@ tables() {
     printf '\n## Whole programs\n\n'
     $harness/programs 9 $pack $oracle/oracle trays/soma.tray
     more $harness/programs 3 none $pack $oracle/oracle $trays/dominoes_6_7.tray $trays/dominoes_6_8.tray $trays/dominoes_7_8.tray
-    printf '\n## The stack\n\n'
-    $harness/stack none trays/soma.tray $trays/spare.tray $trays/far_end.tray $trays/bars_80.tray $trays/wide_8.tray
+    printf '\n'
+    stack_table
 }
 
 if [ $# -eq 0 ]; then

@@ -12,6 +12,16 @@
 extern "C" {
 #endif
 
+/* The number of this interface. It grows by one whenever the arguments, the layout or the meaning of a call change. The library's symbols bear it:
+   the call `ferghuul_page` is the symbol `ferghuul_1_page`. So a program that was compiled with the header of another number does not link. */
+#define FERGHUUL_INTERFACE 1
+
+#define FERGHUUL_JOINED(number, call) ferghuul_##number##call
+#define FERGHUUL_SYMBOL(number, call) FERGHUUL_JOINED(number, call)
+#define ferghuul_page FERGHUUL_SYMBOL(FERGHUUL_INTERFACE, _page)
+#define ferghuul_dlx1 FERGHUUL_SYMBOL(FERGHUUL_INTERFACE, _dlx1)
+#define ferghuul_catalogue FERGHUUL_SYMBOL(FERGHUUL_INTERFACE, _catalogue)
+
 #define FERGHUUL_WORK 8192u   /* words of `work` that a page or a text needs */
 #define FERGHUUL_LINKS 32768u /* numbers of `links` that a call of FERGHUUL_KNUTH needs */
 #define FERGHUUL_TEXT 663552u /* bytes of `output` that hold any text for DLX1 */
@@ -49,6 +59,13 @@ typedef struct {
     uint8_t wood;
     size_t start;
 } ferghuul_record;
+
+/* The bytes of one answer for this board: two for each cell of its box. No side is checked: where one is not 1 to 8, a page is refused, and the number
+   says nothing. FERGHUUL_ANSWER evaluates its argument once. */
+static inline size_t ferghuul_answer_size(ferghuul_record board) {
+    return 2 * board.a * board.b * board.c;
+}
+#define FERGHUUL_ANSWER(board) (ferghuul_answer_size(board))
 
 /* number: 0, or why the call was refused. written: how many answers. further: whether one follows. missing: whether no entry equals `last`. */
 typedef struct {

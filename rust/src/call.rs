@@ -74,7 +74,8 @@ pub struct Config {
 }
 
 extern "C" {
-    // A slice is passed as its address and its length.
+    // The symbols bear the number of the interface (include/ferghuul.h). A slice is passed as its address and its length.
+    #[link_name = "ferghuul_1_page"]
     fn ferghuul_page(
         pieces: *const Record,
         piece_count: usize,
@@ -96,6 +97,7 @@ extern "C" {
         numbers: usize,
     ) -> Answer;
 
+    #[link_name = "ferghuul_1_dlx1"]
     fn ferghuul_dlx1(
         pieces: *const Record,
         piece_count: usize,
@@ -108,6 +110,7 @@ extern "C" {
         words: usize,
     ) -> TextAnswer;
 
+    #[link_name = "ferghuul_1_catalogue"]
     fn ferghuul_catalogue(n: u32, skip: u64, entries: *mut u8, entry_bytes: usize) -> Answer;
 }
 

@@ -2,11 +2,10 @@
 // is made by a proved function, all at once (crate `catalogue_output`): here it is only read and written.
 #![tactic(auto)]
 
+use std::process::ExitCode;
 use streams::CatalogueRoom;
 
-fn main(rt: HostRuntime) {
-    let mut room = CatalogueRoom::new();
-    room.text.read(&mut rt.stdin());
-    // a write that fails ends it, and nobody is left to be told
-    let _ = room.print(&mut rt.stdout());
+fn main(rt: HostRuntime) -> ExitCode {
+    let ran = CatalogueRoom::new().run(&mut rt.stdin(), &mut rt.stdout());
+    streams::report(&rt, "catalogue", ran)
 }

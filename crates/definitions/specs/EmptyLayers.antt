@@ -2,10 +2,10 @@
 -- stripped, with its board where it lay; that answers are those of the stripped tray, put back into the lent box; and that 7 is gone. (The demands speak of
 -- the tray that is listed: they would hold with another shape for a piece, or with the board put back in a wrong corner.) Statements only; proved in
 -- StrippedLaws and TrayLaws (theorems).
-use Rattle.std.specs.Prelude.{ℕ, ◌<◌, [], map, ◌⊎◌, ◌≢◌, ◌≡◌, T, length}
-use Rattle.lists.specs.Lists.{all}
+use Rattle.std.specs.Prelude.{ℕ, ◌<◌, not, [], map, ◌⊎◌, ◌≢◌, ◌≡◌, T, length}
+use Rattle.lists.specs.Lists.{all, is_empty}
 use Rattle.definitions.specs.Grid.{Cell, Grid, set_down, volume, filled_cells}
-use Rattle.definitions.specs.Stripping.{own_frame}
+use Rattle.definitions.specs.Stripping.{corner, own_frame, strip}
 use Rattle.definitions.specs.Kinds.{Tray}
 use Rattle.definitions.specs.Kept.{Identify}
 use Rattle.definitions.specs.Framing.{unframed, in_frame}
@@ -34,6 +34,12 @@ pub record StrippedTray (s t : Tray) : Type 0 where
 
 unfoldable pub StrippedTrays : Type 0
 StrippedTrays = (l : Call) → refusal l ≡ 0 → StrippedTray (lent_of l) (tray_of l)
+
+-- "to us the shape is what is filled": grids with the same filled cells, one moved as a whole, have one stripped form, which lies where it lay
+unfoldable pub OneForm : Type 0
+OneForm =
+    (g h : Grid) (by : Cell) → T (are_bits g) → T (are_bits h) → T (not (is_empty (filled_cells g))) → filled_cells g ≡ map (set_down by) (filled_cells h)
+    → (strip g ≡ strip h) × (corner g ≡ set_down by (corner h))
 
 -- "The Rust is run on the stripped grids from here on and its answers are put back into the box."
 unfoldable pub PutBack : Type 0

@@ -1,11 +1,12 @@
 -- Document 01, "Fillings to hold it to": the lines marked to be proved, as one table, and those of document 02's requests. proofs/FillingLaws has the one
 -- theorem, which antt computes. Each line is held for both engines. M is one cell, D two in a row.
-use Rattle.std.specs.Prelude.{ℕ, Bool, true, false, not, ◌&&◌, List, [], ◌∷◌, ◌++◌, eqb, length, drop}
-use Rattle.lists.specs.Lists.{same, joined}
+use Rattle.std.specs.Prelude.{ℕ, Bool, true, false, not, ◌&&◌, List, [], ◌∷◌, ◌++◌, T, eqb, length, drop}
+use Rattle.lists.specs.Lists.{all, same, joined}
 use Rattle.definitions.specs.Refusals.{Call}
 use Rattle.definitions.specs.Files.{Written, call_on}
 use Rattle.definitions.specs.Outcomes.{Outcome, outcome}
 use Rattle.definitions.specs.declared.SolverKind.{SolverKind}
+use Rattle.definitions.specs.declared.SolverKind.TheVariants.{Fast, KnuthAlgorithm}
 
 abbrev pub piece : ℕ → ℕ → ℕ → ℕ → List ℕ → Written
 piece n i j k cells = record { count = n; wood = 0; a = i; b = j; c = k; cells = cells }
@@ -97,3 +98,7 @@ lists answers further l = shows answers further false l.answers (outcome l)
 
 unfoldable pub holds : SolverKind → Line → Bool
 holds e l = lists l.answers false (call_on l.board l.pieces l.turned l.mirrored e 0 64)
+
+-- each line comes out so
+unfoldable pub FillingsHold : Type 0
+FillingsHold = T (all (λ l. holds Fast l && holds KnuthAlgorithm l) fillings)

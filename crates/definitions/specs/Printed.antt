@@ -1,5 +1,5 @@
 -- What `pack` prints for an accepted file, held to demand 3: a line for each answer of the one list, in its order and numbered from 0, and last how many there are.
--- Proved in MeetLaws (theorems); proofs/WholeLaws of the crate `output` says it of the bytes that the program's steps make.
+-- Proved in MeetLaws (theorems); that the program writes these bytes is in the contract of `Room::run` (streams).
 use Rattle.std.specs.Prelude.{ℕ, ◌<◌, ◌≤◌, ◌^◌, List, ◌++◌, map, ◌≡◌, T, length, take}
 use Rattle.lists.specs.Lists.{joined, numbered}
 use Rattle.definitions.specs.Kinds.{Tray}

@@ -10,6 +10,7 @@ use Rattle.definitions.specs.Refusals.{Call, tray_of, refusal, with_records}
 use Rattle.definitions.specs.Outcomes.{Outcome, answers_of}
 use Rattle.definitions.specs.Files.{call_in, is_file, packed}
 use Rattle.definitions.specs.PlacementsRight.{piece_at, kind_at}
+use Rattle.definitions.specs.Starts.{outcome_behind}
 use Rattle.definitions.specs.declared.Record.{Record}
 use Rattle.definitions.specs.declared.SolverKind.{SolverKind}
 
@@ -60,3 +61,7 @@ board_in_wood w l = with_records l.pieces (with_wood w l.board) l
 
 unfoldable pub BoardUnread : (Call → Outcome) → Type 0
 BoardUnread run = (l : Call) (w : ℕ) → run (board_in_wood w l) ≡ run l
+
+-- and so in a page from behind an entry
+unfoldable pub WoodsBehind : Type 0
+WoodsBehind = (last : List ℕ) → OneWoodCalls (outcome_behind last) × BoardUnread (outcome_behind last)

@@ -1,7 +1,7 @@
 // The call that writes the text for DLX1, over pieces by value.
 ghost use Rattle.std.specs.Prelude.{◌≡◌, ◌≤◌, ltb, map};
 ghost use Rattle.lists.specs.Lists.{any, below};
-ghost use Rattle.definitions.specs.TextCalls.{TextDemand, plain_fast, text_outcome, text_outcome_of};
+ghost use Rattle.definitions.specs.TextCalls.{MeetsTextDemand, TextDemand, plain_fast, text_outcome, text_outcome_of};
 ghost use Rattle.placements.specs.Pieces.{records_of};
 ghost use Rattle.rows.specs.Charts.{kind_copies};
 ghost use Rattle.rows.specs.RowSystems.{seen};
@@ -55,7 +55,7 @@ fn check_text(system: &RowSystem, room: usize) -> Result<usize, Refusal>
 }
 
 // A call, whatever is lent: how many bytes of the text were written, or the first refusal that applies. The rows stand in memory of the call's own until it is
-// known that nothing refuses it: the lent work slice is only cleared.
+// known that nothing refuses it: the lent work slice is only cleared. (`texts` is a law: whatever is lent, the outcome is what is demanded of the text.)
 pub fn text(
     pieces: &Pieces,
     board: Record,
@@ -65,6 +65,7 @@ pub fn text(
 ) -> Result<usize, Refusal>
     ensures outcome { text_outcome_of result output.new work.new ≡ text_outcome (text_call (records_of pieces.now) board bytes.now output.old work.old) }
     ensures demand { TextDemand (text_call (records_of pieces.now) board bytes.now output.old work.old) (text_outcome_of result output.new work.new) }
+    ensures texts { MeetsTextDemand text_outcome }
 {
     let mut rows = [0u64; 8192];
     let mut chart = Chart::empty();

@@ -1,6 +1,6 @@
 // The pieces as a slice of records.
 ghost use Rattle.std.specs.Prelude.{◌≡◌};
-ghost use Rattle.definitions.specs.TextCalls.{TextDemand, text_outcome, text_outcome_of};
+ghost use Rattle.definitions.specs.TextCalls.{MeetsTextDemand, TextDemand, text_outcome, text_outcome_of};
 ghost use Rattle.dlx.specs.Texts.{text_call};
 
 use super::calls;
@@ -17,6 +17,7 @@ pub fn text(
 ) -> Result<usize, Refusal>
     ensures outcome { text_outcome_of result output.new work.new ≡ text_outcome (text_call pieces.now board bytes.now output.old work.old) }
     ensures demand { TextDemand (text_call pieces.now board bytes.now output.old work.old) (text_outcome_of result output.new work.new) }
+    ensures texts { MeetsTextDemand text_outcome }
 {
     calls::text(&records::taken(pieces), board, bytes, output, work)
 }

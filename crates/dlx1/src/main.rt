@@ -2,11 +2,10 @@
 // `dlx_output`): here it is only read and written.
 #![tactic(auto)]
 
+use std::process::ExitCode;
 use streams::Dlx1Room;
 
-fn main(rt: HostRuntime) {
-    let mut room = Dlx1Room::new();
-    room.text.read(&mut rt.stdin());
-    // a write that fails ends it, and nobody is left to be told
-    let _ = room.print(&mut rt.stdout());
+fn main(rt: HostRuntime) -> ExitCode {
+    let ran = Dlx1Room::new().run(&mut rt.stdin(), &mut rt.stdout());
+    streams::report(&rt, "dlx1", ran)
 }

@@ -1,11 +1,23 @@
 // The calls for C and Rust, with what they answer as numbers (docs/INTERFACE.md): a page of the listing, the text for Knuth's DLX1, and a page of the
-// catalogue of pieces. Nothing is assumed of what is lent; promised are document 01's outcome and document 02's (A2, A11).
+// catalogue of pieces. Nothing is assumed of what is lent; promised are the outcomes of the definitions. The exported names bear the interface's number, 1:
+// `ferghuul_page` of include/ferghuul.h is `ferghuul_1_page`.
 #![tactic(auto)]
 
-ghost use Rattle.std.specs.Prelude.{◌≡◌, false};
+ghost use Rattle.std.specs.Prelude.{◌≡◌, false, length};
+ghost use Rattle.definitions.specs.AnswersRight.{AnswersRight};
+ghost use Rattle.definitions.specs.Catalogue.{Catalogued, Roomy, catalogue};
+ghost use Rattle.definitions.specs.CatalogueCalls.{CatalogueDemand, MeetsCatalogueDemand, catalogue_outcome};
+ghost use Rattle.definitions.specs.Demands.{MeetsDemand2, MeetsDemand3};
+ghost use Rattle.definitions.specs.EmptyBox.{EmptyBoxes, Never1};
+ghost use Rattle.definitions.specs.EmptyLayers.{AsLent, Never7, OneForm, PutBack, StrippedTrays};
+ghost use Rattle.definitions.specs.Fillings.{FillingsHold};
+ghost use Rattle.definitions.specs.MovesAndMaps.{MovesAreMaps};
+ghost use Rattle.definitions.specs.Outcomes.{outcome};
+ghost use Rattle.definitions.specs.PlacementsRight.{PlacementsRight};
+ghost use Rattle.definitions.specs.Pruning.{Pruning};
 ghost use Rattle.definitions.specs.Starts.{Meets, outcome_from};
-ghost use Rattle.definitions.specs.TextCalls.{TextDemand, text_outcome};
-ghost use Rattle.definitions.specs.CatalogueCalls.{CatalogueDemand, catalogue_outcome};
+ghost use Rattle.definitions.specs.TextCalls.{MeetsTextDemand, TextDemand, text_outcome};
+ghost use Rattle.definitions.specs.Woods.{BoardUnread, OneWood, OneWoodCalls, WoodCarried, WoodLentCarried, WoodsBehind};
 ghost use Rattle.solver.specs.Lent.{call_with};
 ghost use Rattle.dlx.specs.Texts.{text_call};
 ghost use Rattle.ferghuul.specs.Numbers.{catalogue_outcome_by, config_of, engine_of, numbers_of, outcome_by};
@@ -114,9 +126,9 @@ fn start_of(behind: bool, skip: u64) -> Start
     }
 }
 
-// A call, whatever is lent: `solver::records::page` in numbers.
+// A call, whatever is lent: `solver::records::page` in numbers. Behind `meets` stands what the outcome rests on, as there.
 #[unsafe(no_mangle)]
-pub extern "C" fn ferghuul_page(
+pub extern "C" fn ferghuul_1_page(
     pieces: &[Record],
     board: Record,
     bytes: &[u8],
@@ -136,6 +148,18 @@ pub extern "C" fn ferghuul_page(
     ensures meets { let config = config_of engine turned mirrored in
         let call = call_with pieces.now board bytes.now config answers.old work.old links.old in
         Meets (start_of behind skip) last.now call (outcome_by result answers.new work.new links.new) }
+    ensures one_list { MeetsDemand3 outcome }
+    ensures exact_covers { MeetsDemand2 outcome }
+    ensures moves { MovesAreMaps }
+    ensures placements { PlacementsRight }
+    ensures answers { AnswersRight }
+    ensures stripped { StrippedTrays × OneForm × Never7 outcome }
+    ensures put_back { PutBack × AsLent }
+    ensures empty_box { EmptyBoxes outcome × Never1 outcome }
+    ensures woods { WoodCarried × WoodLentCarried × OneWood }
+    ensures wood_calls { OneWoodCalls outcome × BoardUnread outcome × WoodsBehind }
+    ensures pruned { Pruning }
+    ensures by_hand { FillingsHold }
 {
     let config = config_of(engine, turned, mirrored);
     let start = start_of(behind, skip);
@@ -147,7 +171,7 @@ pub extern "C" fn ferghuul_page(
 
 // A call for the text, whatever is lent: `dlx::records::text` in numbers.
 #[unsafe(no_mangle)]
-pub extern "C" fn ferghuul_dlx1(
+pub extern "C" fn ferghuul_1_dlx1(
     pieces: &[Record],
     board: Record,
     bytes: &[u8],
@@ -156,16 +180,21 @@ pub extern "C" fn ferghuul_dlx1(
 ) -> TextAnswer
     ensures outcome { text_outcome_by result output.new work.new ≡ text_outcome (text_call pieces.now board bytes.now output.old work.old) }
     ensures demand { TextDemand (text_call pieces.now board bytes.now output.old work.old) (text_outcome_by result output.new work.new) }
+    ensures texts { MeetsTextDemand text_outcome }
 {
     dlx::records::text(pieces, board, bytes, output, work).into()
 }
 
-// A call for the catalogue, whatever is lent: `polycubes::page` in numbers. (It waits for no entry, so that none is missing.)
+// A call for the catalogue, whatever is lent: `polycubes::page` in numbers, with what its pages rest on, as there. (It waits for no entry, so that none is
+// missing.)
 #[unsafe(no_mangle)]
-pub extern "C" fn ferghuul_catalogue(n: u32, skip: u64, entries: &mut [u8]) -> Answer
+pub extern "C" fn ferghuul_1_catalogue(n: u32, skip: u64, entries: &mut [u8]) -> Answer
     ensures outcome { catalogue_outcome_by result entries.new ≡ catalogue_outcome (record { n = n; skip = skip; entries = entries.old }) }
     ensures demand { CatalogueDemand (record { n = n; skip = skip; entries = entries.old }) (catalogue_outcome_by result entries.new) }
     ensures none_waited { result.missing ≡ false }
+    ensures one_list { MeetsCatalogueDemand catalogue_outcome }
+    ensures all_pieces { Catalogued × Roomy }
+    ensures number { length (catalogue 6) ≡ 166 }
 {
     polycubes::page(n, skip, entries).map(Some).into()
 }

@@ -257,12 +257,3 @@ same_cells r m n a b c d e = rw e (go (ℕ_discrete m.low n.low) (ℕ_discrete m
     go (no h) q = rw (ne_eqb m.low n.low h) (λ s. h (equal_words m.low m.high n.low n.high a b c d s).0)
     go (yes p) (no h) = rw (eq-eqb m.low n.low p, ne_eqb m.high n.high h) (λ s. h (equal_words m.low m.high n.low n.high a b c d s).1)
     go (yes p) (yes q) = rw (eq-eqb m.low n.low p, eq-eqb m.high n.high q) (rw (p, q))
-
--- two masks with the same numbers below 128 are equal
-abbrev words : ℕ → ℕ → Mask
-words a b = record { low = a; high = b }
-
-pub same_mask : (m n : Mask) → m.low < 2 ^ 64 → m.high < 2 ^ 64 → n.low < 2 ^ 64 → n.high < 2 ^ 64 → ((k : ℕ) → k < 128 → has m k ≡ has n k) → m ≡ n
-same_mask m n a b c d h =
-    let e = same_words m.low m.high n.low n.high a b c d h in
-    ap (λ (x : ℕ). words x m.high) e.0 ∙ ap (λ (x : ℕ). words n.low x) e.1

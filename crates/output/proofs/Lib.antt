@@ -5,4 +5,3 @@ pub mod TurnLaws
 pub mod StretchLaws
 pub mod BeginLaws
 pub mod StepLaws
-pub mod WholeLaws

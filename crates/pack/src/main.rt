@@ -2,11 +2,10 @@
 // here it is only read and written.
 #![tactic(auto)]
 
+use std::process::ExitCode;
 use streams::Room;
 
-fn main(rt: HostRuntime) {
-    let mut room = Room::new();
-    room.text.read(&mut rt.stdin());
-    // a write that fails ends it, and nobody is left to be told
-    let _ = room.print(&mut rt.stdout());
+fn main(rt: HostRuntime) -> ExitCode {
+    let ran = Room::new().run(&mut rt.stdin(), &mut rt.stdout());
+    streams::report(&rt, "pack", ran)
 }

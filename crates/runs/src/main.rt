@@ -1,9 +1,16 @@
 // Runs of `pack`, `dlx1` and `catalogue`: what `pack` prints for each file of a list, one after the other, then what `dlx1` prints for each file of another,
 // and what `catalogue` prints for each of a third, held to the stored output. A file that is missing and a folder in place of a file make reads that fail.
+// Last, a file for each of the three, at once, and then in ways in which a pipe or a disk may behave (`slow`): read in two parts, read byte by byte,
+// written byte by byte, and written by a writer that is interrupted, which all give what the file gives at once; read by a reader that fails behind the first
+// line, which gives a refusal; and written to one that takes twenty bytes and fails, and to one that fails at the end. Behind each stands how the run ended.
 #![tactic(auto)]
 
+mod slow;
+
+use slow::{Failing, Filling, Interrupted, Sipping, Trickling, Unflushed};
 use std::fs;
-use streams::{CatalogueRoom, Dlx1Room, Room, Text};
+use std::io::{Read, Write};
+use streams::{CatalogueRoom, Dlx1Room, Failure, Room};
 
 const LISTED: [&str; 19] = [
     "listing.tray",
@@ -61,28 +68,114 @@ const REQUESTS: [&str; 12] = [
     ".",
 ];
 
-// Reads a file; one that cannot be opened counts as one whose first read fails.
-fn read(rt: &HostRuntime, text: &mut Text, name: &str) {
-    match fs::open(rt, name) {
-        Ok(mut file) => text.read(&mut file),
-        Err(_) => text.mark_unreadable(),
+// A program, by the memory that it works in.
+trait Program {
+    fn run<R: Read, W: Write>(&mut self, input: &mut R, output: &mut W) -> Result<(), Failure>;
+}
+
+impl Program for Room {
+    fn run<R: Read, W: Write>(&mut self, input: &mut R, output: &mut W) -> Result<(), Failure> {
+        Room::run(self, input, output)
     }
+}
+
+impl Program for Dlx1Room {
+    fn run<R: Read, W: Write>(&mut self, input: &mut R, output: &mut W) -> Result<(), Failure> {
+        Dlx1Room::run(self, input, output)
+    }
+}
+
+impl Program for CatalogueRoom {
+    fn run<R: Read, W: Write>(&mut self, input: &mut R, output: &mut W) -> Result<(), Failure> {
+        CatalogueRoom::run(self, input, output)
+    }
+}
+
+// What a program prints for each file of a list; one that cannot be opened counts as one whose first read fails.
+fn list<P: Program>(rt: &HostRuntime, program: &mut P, names: &[&str]) {
+    for &name in names {
+        let _ = match fs::open(rt, name) {
+            Ok(mut file) => program.run(&mut file, &mut rt.stdout()),
+            Err(_) => program.run(&mut Failing, &mut rt.stdout()),
+        };
+    }
+}
+
+// How a run ended, on a line of its own.
+fn tell(rt: &HostRuntime, ran: Result<(), Failure>) {
+    let word = match ran {
+        Ok(()) => "whole",
+        Err(Failure::Read(_)) => "not read",
+        Err(Failure::Write(_)) => "not written",
+    };
+    let _ = println!(rt; "{word}");
+}
+
+// What a program prints for a file that is read and written at once, and otherwise. (Such a file has fewer than 256 bytes.)
+fn vary<P: Program>(rt: &HostRuntime, program: &mut P, name: &str) {
+    let mut held = [0; 256];
+    let Ok(mut file) = fs::open(rt, name) else {
+        return;
+    };
+    let Ok(n) = streams::read_text(&mut file, &mut held) else {
+        return;
+    };
+    let bytes = &held[..n];
+    let half = n / 2;
+    let line = bytes
+        .iter()
+        .position(|&byte| byte == b'\n')
+        .map_or(0, |end| end + 1)
+        .min(n);
+    let mut output = rt.stdout();
+    tell(rt, program.run(&mut &bytes[..], &mut output));
+    tell(
+        rt,
+        program.run(&mut bytes[..half].chain(&bytes[half..]), &mut output),
+    );
+    tell(rt, program.run(&mut Sipping { left: bytes }, &mut output));
+    tell(
+        rt,
+        program.run(&mut &bytes[..], &mut Trickling { to: &mut output }),
+    );
+    tell(
+        rt,
+        program.run(
+            &mut &bytes[..],
+            &mut Interrupted {
+                to: &mut output,
+                is_next: true,
+            },
+        ),
+    );
+    tell(
+        rt,
+        program.run(&mut bytes[..line].chain(Failing), &mut output),
+    );
+    tell(
+        rt,
+        program.run(
+            &mut &bytes[..],
+            &mut Filling {
+                to: &mut output,
+                room: 20,
+            },
+        ),
+    );
+    tell(
+        rt,
+        program.run(&mut &bytes[..], &mut Unflushed { to: &mut output }),
+    );
 }
 
 fn main(rt: HostRuntime) {
     let mut room = Room::new();
-    for name in LISTED {
-        read(&rt, &mut room.text, name);
-        let _ = room.print(&mut rt.stdout());
-    }
     let mut dlx1_room = Dlx1Room::new();
-    for name in TEXTS {
-        read(&rt, &mut dlx1_room.text, name);
-        let _ = dlx1_room.print(&mut rt.stdout());
-    }
     let mut catalogue_room = CatalogueRoom::new();
-    for name in REQUESTS {
-        read(&rt, &mut catalogue_room.text, name);
-        let _ = catalogue_room.print(&mut rt.stdout());
-    }
+    list(&rt, &mut room, &LISTED);
+    list(&rt, &mut dlx1_room, &TEXTS);
+    list(&rt, &mut catalogue_room, &REQUESTS);
+    vary(&rt, &mut room, "in_parts.tray");
+    vary(&rt, &mut dlx1_room, "in_parts.tray");
+    vary(&rt, &mut catalogue_room, "cells_3.request");
 }

@@ -1,13 +1,15 @@
 -- The code's constants, each by one computed test: an entry is the number of the product, or of the inverse. And the laws of map numbers and of mapped
 -- places that later code cites. Assumes nothing.
-use Prim.Native.Nat.{ℕ, zero, suc, ◌<◌}
+use Prim.Native.Nat.{ℕ, zero, suc, ◌+◌, ◌*◌, ◌<◌}
 use mathlib.Core.Bool.{Bool, true, false, ◌&&◌}
-use mathlib.Core.List.{List, [], map, Memᴰ}
-use mathlib.Core.Path.{◌≡◌, refl, ap, ◌∙◌}
+use mathlib.Core.List.{List, [], ◌∷◌, ◌++◌, map, Memᴰ}
+use mathlib.Core.Path.{◌≡◌, refl, ap, ◌∙◌, subst}
 use native.Mathlib.Omega.{arith}
+use native.Mathlib.Nat.{mul-suc, mul-zero}
 use lib.Dec.{T, eqb, ltb, ltb→lt}
-use lib.ListN.{length, get_or}
-use Rattle.lists.specs.Lists.{all, before}
+use lib.ListN.{length, get_or, length-map, get_or-append}
+use lib.Seq.{get_or-append-add}
+use Rattle.lists.specs.Lists.{all, each, before}
 use Rattle.lists.proofs.TestLaws.{and_left, and_right}
 use Rattle.lists.proofs.ListLaws.{get_or_map, all_at}
 use Rattle.definitions.specs.Grid.{Sides}
@@ -119,9 +121,9 @@ unfoldable pub inverses : List ℕ
 unfolding number_of inverse axis_of flip_of maps turns mirrorings transform permutations parity
 inverses = map (λ m. number_of (inverse m)) maps
 
-unfoldable pub products : List (List ℕ)
+unfoldable pub products : List ℕ
 unfolding number_of product axis_at flip_at maps turns mirrorings transform permutations parity
-products = map (λ m. map (λ n. number_of (product m n)) maps) maps
+products = each maps (λ m. map (λ n. number_of (product m n)) maps)
 
 each_row : (odd : Bool) → T (all (λ m. same_map (as_map (row_of m)) m) (maps_of odd))
 unfolding same_map code_of turns mirrorings transform permutations parity
@@ -138,12 +140,24 @@ pub inverses_at : (n : ℕ) → n < 48 → get_or inverses n 0 ≡ inverse_numbe
 unfolding inverses inverse_number map_of
 inverses_at n h = get_or_map identity 0 (λ m. number_of (inverse m)) maps n (let e = maps_length in omega arith)
 
-pub products_at : (m n : ℕ) → m < 48 → n < 48 → get_or (get_or products m []) n 0 ≡ times m n
+-- entry 48 * m + n, of the row of m
+row_at : {A : Type 0} (d : A) (f : A → A → ℕ) (ys xs : List A) (i j : ℕ) → i < length xs → j < length ys
+    → get_or (each xs (λ x. map (f x) ys)) (length ys * i + j) 0 ≡ f (get_or xs i d) (get_or ys j d)
+row_at d f ys [] i j h k = absurd (omega arith)
+row_at d f ys (x ∷ xs) zero j h k =
+    ap (λ (n : ℕ). get_or (map (f x) ys ++ each xs (λ x. map (f x) ys)) n 0) (let z = mul-zero (length ys) in omega arith)
+    ∙ get_or-append (map (f x) ys) (each xs (λ x. map (f x) ys)) 0 j (let e = length-map ys (f x) in omega arith)
+    ∙ get_or_map d 0 (f x) ys j k
+row_at d f ys (x ∷ xs) (suc i) j h k =
+    ap (λ (n : ℕ). get_or (map (f x) ys ++ each xs (λ x. map (f x) ys)) n 0) (let z = mul-suc (length ys) i in let e = length-map ys (f x) in omega arith)
+    ∙ get_or-append-add (map (f x) ys) (each xs (λ x. map (f x) ys)) (length ys * i + j) 0
+    ∙ row_at d f ys xs i j (omega arith) k
+
+pub products_at : (m n : ℕ) → m < 48 → n < 48 → get_or products (48 * m + n) 0 ≡ times m n
 unfolding products times map_of
 products_at m n h k =
-    let e = maps_length in
-    ap (λ (row : List ℕ). get_or row n 0) (get_or_map identity [] (λ a. map (λ b. number_of (product a b)) maps) maps m (omega arith))
-    ∙ get_or_map identity 0 (λ b. number_of (product (get_or maps m identity) b)) maps n (omega arith)
+    subst (λ (l : ℕ). get_or products (l * m + n) 0 ≡ times m n) maps_length
+    (row_at identity (λ a b. number_of (product a b)) maps maps m n (let e = maps_length in omega arith) (let e = maps_length in omega arith))
 
 pub zero_identity : map_of 0 ≡ identity
 unfolding map_of maps turns mirrorings transform permutations parity identity

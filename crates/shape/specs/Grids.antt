@@ -1,8 +1,8 @@
 -- Grids that are lent as cells and sides, and how grids compare.
-use Rattle.std.specs.Prelude.{ℕ, Bool, true, false, ◌&&◌, List, [], ◌∷◌, ◌≡◌, ltb, eqb, length}
+use Rattle.std.specs.Prelude.{ℕ, Bool, true, false, cond, ◌&&◌, List, [], ◌∷◌, ◌≡◌, ltb, eqb, length}
 use Rattle.lists.specs.Lists.{less, same}
-use Rattle.definitions.specs.Grid.{Sides, Grid, volume, same_grid, grid_ahead}
-use Rattle.shape.specs.Coords.{as_sides, Fit, is_fit}
+use Rattle.definitions.specs.Grid.{Sides, Cell, Grid, volume, byte_at, same_grid, grid_ahead}
+use Rattle.shape.specs.Coords.{as_sides, Fit, is_fit, lies_in}
 use Rattle.shape.specs.declared.Coord.{Coord}
 use Rattle.std.specs.declared.cmp.Ordering.{Ordering}
 use Rattle.std.specs.declared.cmp.Ordering.TheVariants.{Less, Equal, Greater}
@@ -18,6 +18,10 @@ pub record Whole (s : Coord) (cells : List ℕ) : Type 0 where
 -- whether that is so of a grid
 unfoldable pub is_whole : Grid → Bool
 is_whole g = is_fit g.sides && eqb (length g.cells) (volume g.sides)
+
+-- the byte of a cell of a grid, whatever its cells and sides are; 0 where it is not whole, or its box has no such cell
+unfoldable pub cell_seen : Grid → Cell → ℕ
+cell_seen g u = cond (is_whole g && lies_in g.sides u) (byte_at g u) 0
 
 -- how two things compare, by a test that says whether one stands ahead, and one that says whether they are the same
 abbrev pub order_by : Bool → Bool → Ordering

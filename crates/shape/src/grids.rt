@@ -5,7 +5,7 @@ ghost use Rattle.lists.specs.Lists.{all, how_many};
 ghost use Rattle.definitions.specs.Grid.{byte_at, same_grid};
 ghost use Rattle.definitions.specs.Maps.{map_of, map_sides, map_grid};
 ghost use Rattle.shape.specs.Coords.{as_sides, as_cell, lies_in};
-ghost use Rattle.shape.specs.Grids.{as_grid, Whole, is_whole};
+ghost use Rattle.shape.specs.Grids.{as_grid, Whole, is_whole, cell_seen};
 
 use super::maps::Map;
 use super::{Coord, CubicGrid, cells};
@@ -15,6 +15,16 @@ pub fn is_whole(cells: &[u8], s: Coord) -> bool
     ensures { IsTrue result ↔ Whole s cells.now }
 {
     cells::is_fit(s) && cells.len() == cells::fit_volume(s)
+}
+
+// The byte of a cell; 0 where the grid is not whole, or the cell lies outside its box.
+pub fn get(cells: &[u8], s: Coord, u: Coord) -> u8
+    ensures { result ≡ cell_seen (as_grid s cells.now) (as_cell u) }
+{
+    match CubicGrid::new(cells, s) {
+        Some(grid) if cells::in_box(s, u) => grid.get(u),
+        _ => 0,
+    }
 }
 
 // The byte at place j of the turned (or mirrored) grid: 0 where the grid is not whole, or has no such place.

@@ -3,7 +3,7 @@ ghost use Rattle.std.specs.Prelude.{◌≡◌, ◌<◌};
 ghost use Rattle.definitions.specs.Maps.{map_of, inverse, product, map_sides, map_cell, side, coordinate, from_end};
 ghost use Rattle.shape.specs.Coords.{as_sides, as_cell, as_map, axis_number, flip_number};
 
-use super::constants::{Axes, INVERSES, MAPS, PRODUCTS};
+use super::constants::{Axes, INVERSE_TABLE, MAP_TABLE, PRODUCT_TABLE};
 use super::{Axis, Coord};
 
 // A map, by its number: below 24 a turn, from 24 to 47 a mirroring. A larger number stands for the map that moves nothing.
@@ -16,14 +16,14 @@ impl Map {
     pub fn inverse(self) -> Map
         ensures { (result.0 < 48) × (map_of result.0 ≡ inverse (map_of self.0)) }
     {
-        Map(INVERSES[self.index()])
+        Map(INVERSE_TABLE[self.index()])
     }
 
     // `Mul` of the original: first other, then self.
     pub fn compose(self, other: Map) -> Map
         ensures { (result.0 < 48) × (map_of result.0 ≡ product (map_of self.0) (map_of other.0)) }
     {
-        Map(PRODUCTS[self.index()][other.index()])
+        Map(PRODUCT_TABLE[48 * self.index() + other.index()])
     }
 
     // The number as an index into the constants.
@@ -38,7 +38,7 @@ impl Map {
     pub(crate) fn axes_of(self) -> Axes
         ensures { as_map result ≡ map_of self.0 }
     {
-        MAPS[self.index()]
+        MAP_TABLE[self.index()]
     }
 
     // The sides of a box after the map.

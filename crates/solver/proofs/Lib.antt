@@ -1,4 +1,5 @@
 pub mod CallLaws
 pub mod ClearingLaws
 pub mod PreparedLaws
+pub mod PromiseLaws
 pub mod RecordLaws

@@ -1,9 +1,18 @@
 // The page call over pieces by value, with the engine in its configuration.
 ghost use Rattle.std.specs.Prelude.{Ok, ◌≡◌, ◌*◌, ◌<◌, ◌/◌, length};
+ghost use Rattle.definitions.specs.AnswersRight.{AnswersRight};
+ghost use Rattle.definitions.specs.Demands.{MeetsDemand2, MeetsDemand3};
 ghost use Rattle.definitions.specs.Emission.{emits};
-ghost use Rattle.definitions.specs.Outcomes.{outcome_of};
+ghost use Rattle.definitions.specs.EmptyBox.{EmptyBoxes, Never1};
+ghost use Rattle.definitions.specs.EmptyLayers.{AsLent, Never7, OneForm, PutBack, StrippedTrays};
+ghost use Rattle.definitions.specs.Fillings.{FillingsHold};
+ghost use Rattle.definitions.specs.MovesAndMaps.{MovesAreMaps};
+ghost use Rattle.definitions.specs.Outcomes.{outcome, outcome_of};
+ghost use Rattle.definitions.specs.PlacementsRight.{PlacementsRight};
+ghost use Rattle.definitions.specs.Pruning.{Pruning};
 ghost use Rattle.definitions.specs.Refusals.{identify_of};
 ghost use Rattle.definitions.specs.Starts.{Meets, outcome_from, reply_of, waits_at};
+ghost use Rattle.definitions.specs.Woods.{BoardUnread, OneWood, OneWoodCalls, WoodCarried, WoodLentCarried, WoodsBehind};
 ghost use Rattle.placements.specs.Pieces.{records_of};
 ghost use Rattle.rows.specs.RowSystems.{seen};
 ghost use Rattle.kept.specs.Emission.{emitted_of};
@@ -59,6 +68,10 @@ fn list(
 
 // A call, whatever is lent: the page of the engine's list from its start on, or the first refusal that applies. Where the page does not start behind `last`,
 // what it holds decides nothing. (What is lent stands one by one, as in the C call.)
+// The further clauses are what that outcome rests on, as laws: the one list, over packings and sequences of moves, and over exact covers; what a placement and
+// an answer are, cell by cell; empty layers stripped and put back; a box with no pieces; woods; branches left early, which lose nothing; and small trays that
+// are listed by hand.
+#[tactic(auto, using(crate::proofs::PromiseLaws::promises))]
 pub fn page(
     pieces: &Pieces,
     board: Record,
@@ -74,6 +87,18 @@ pub fn page(
         outcome_of result answers.new work.new links.new ≡ outcome_from start last.now call }
     ensures meets { let call = call_with (records_of pieces.now) board bytes.now config answers.old work.old links.old in
         Meets start last.now call (outcome_of result answers.new work.new links.new) }
+    ensures one_list { MeetsDemand3 outcome }
+    ensures exact_covers { MeetsDemand2 outcome }
+    ensures moves { MovesAreMaps }
+    ensures placements { PlacementsRight }
+    ensures answers { AnswersRight }
+    ensures stripped { StrippedTrays × OneForm × Never7 outcome }
+    ensures put_back { PutBack × AsLent }
+    ensures empty_box { EmptyBoxes outcome × Never1 outcome }
+    ensures woods { WoodCarried × WoodLentCarried × OneWood }
+    ensures wood_calls { OneWoodCalls outcome × BoardUnread outcome × WoodsBehind }
+    ensures pruned { Pruning }
+    ensures by_hand { FillingsHold }
 {
     let mut chart = Chart::empty();
     let d = prepare::prepare(

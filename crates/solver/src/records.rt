@@ -1,7 +1,16 @@
 // The pieces as a slice of records, of which a call reads the first 16 (it is refused where there are more).
 ghost use Rattle.std.specs.Prelude.{◌≡◌};
-ghost use Rattle.definitions.specs.Outcomes.{outcome_of};
+ghost use Rattle.definitions.specs.AnswersRight.{AnswersRight};
+ghost use Rattle.definitions.specs.Demands.{MeetsDemand2, MeetsDemand3};
+ghost use Rattle.definitions.specs.EmptyBox.{EmptyBoxes, Never1};
+ghost use Rattle.definitions.specs.EmptyLayers.{AsLent, Never7, OneForm, PutBack, StrippedTrays};
+ghost use Rattle.definitions.specs.Fillings.{FillingsHold};
+ghost use Rattle.definitions.specs.MovesAndMaps.{MovesAreMaps};
+ghost use Rattle.definitions.specs.Outcomes.{outcome, outcome_of};
+ghost use Rattle.definitions.specs.PlacementsRight.{PlacementsRight};
+ghost use Rattle.definitions.specs.Pruning.{Pruning};
 ghost use Rattle.definitions.specs.Starts.{Meets, outcome_from};
+ghost use Rattle.definitions.specs.Woods.{BoardUnread, OneWood, OneWoodCalls, WoodCarried, WoodLentCarried, WoodsBehind};
 ghost use Rattle.placements.specs.Pieces.{pieces_of};
 ghost use Rattle.solver.specs.Lent.{call_with};
 
@@ -38,6 +47,18 @@ pub fn page(
         outcome_of result answers.new work.new links.new ≡ outcome_from start last.now call }
     ensures meets { let call = call_with pieces.now board bytes.now config answers.old work.old links.old in
         Meets start last.now call (outcome_of result answers.new work.new links.new) }
+    ensures one_list { MeetsDemand3 outcome }
+    ensures exact_covers { MeetsDemand2 outcome }
+    ensures moves { MovesAreMaps }
+    ensures placements { PlacementsRight }
+    ensures answers { AnswersRight }
+    ensures stripped { StrippedTrays × OneForm × Never7 outcome }
+    ensures put_back { PutBack × AsLent }
+    ensures empty_box { EmptyBoxes outcome × Never1 outcome }
+    ensures woods { WoodCarried × WoodLentCarried × OneWood }
+    ensures wood_calls { OneWoodCalls outcome × BoardUnread outcome × WoodsBehind }
+    ensures pruned { Pruning }
+    ensures by_hand { FillingsHold }
 {
     pages::page(
         &taken(pieces),

@@ -1,1 +1,4 @@
 pub mod PrintLaws
+pub mod ReadLaws
+pub mod RunLaws
+pub mod WriteLaws

@@ -1,7 +1,8 @@
--- How far a text is read.
-use Rattle.std.specs.Prelude.{ℕ, ◌+◌, ◌-◌, min, Result, Ok, Err}
+-- What is read of an input into a slice.
+use Rattle.std.specs.Prelude.{ℕ, ◌<◌, List, Option, length}
+use Rattle.std.specs.Io.KnownBytes.{Consumes, IsAtEnd}
 
--- after a read behind the first n bytes of a slice that answered so many bytes more; where it failed, all of the slice counts as read
-abbrev pub read_after : {E : Type 0} → Result ℕ E → ℕ → ℕ → ℕ
-read_after (Ok k) n room = n + min k (room - n)
-read_after (Err e) n room = room
+-- the bytes were taken from the front of an input: all of them, or as many as there was room for
+pub record Takes (room : ℕ) (given left : Option (List ℕ)) (bytes : List ℕ) : Type 0 where
+  pub taken : Consumes given left bytes
+  pub whole : length bytes < room → IsAtEnd left

@@ -1,10 +1,15 @@
 // The memory that a request is read into, and answered with as `catalogue` prints it.
-ghost use Rattle.std.specs.Prelude.{◌≡◌, ◌≤◌, length, replicate, take};
-ghost use Rattle.definitions.specs.CatalogueCalls.{catalogue_printed};
+ghost use Rattle.std.specs.Prelude.{◌≡◌, OnOk, OnErr, replicate, take};
+ghost use Rattle.std.specs.Io.KnownBytes.{Appends};
+ghost use Rattle.definitions.specs.CatalogueCalls.{CataloguePrintedRight, catalogue_printed};
+ghost use Rattle.streams.specs.Running.{Ran};
+ghost use Rattle.streams.specs.Writing.{AppendsFront};
 
+use super::failure::{Failure, ended};
 use super::text::Text;
+use super::write_last;
 use std::io;
-use std::io::Write;
+use std::io::{Read, Write};
 
 // All of it: the text; the entries of a list, and bytes to be written, enough for the longest list.
 #[derive(Drop)]
@@ -34,17 +39,31 @@ impl CatalogueRoom {
         }
     }
 
-    // Writes what `catalogue` prints for the text that is read: all of it stands at the start of `out`, and is given to the writer at once.
+    // Writes what `catalogue` prints for the text that is read, all at once; where a write fails, a beginning of it.
     pub fn print<W: Write>(&mut self, writer: &mut W) -> io::Result<()>
-        ensures whole { let printed = catalogue_printed (take self.old.text.read self.old.text.bytes) in
-            (length printed ≤ 5542) × (take (length printed) self.new.out ≡ printed) }
+        ensures ok { let text = self.old.text in
+            OnOk result (Appends (W.contents writer.old) (W.contents writer.new) (catalogue_printed (take text.read text.bytes))) }
+        ensures err { let text = self.old.text in
+            OnErr result (AppendsFront (W.contents writer.old) (W.contents writer.new) (catalogue_printed (take text.read text.bytes))) }
         ensures text { self.new.text ≡ self.old.text }
+        ensures right { CataloguePrintedRight }
     {
         let made = catalogue_output::put_printed(
             self.text.as_slice(),
             &mut self.entries,
             &mut self.out,
         );
-        writer.write_all(&self.out[..made])
+        write_last(writer, &self.out[..made])
+    }
+
+    // A run of `catalogue`: reads a text, and writes what is printed for it.
+    #[tactic(auto, using(crate::proofs::RunLaws::ran))]
+    pub fn run<R: Read, W: Write>(&mut self, input: &mut R, output: &mut W) -> Result<(), Failure>
+        ensures ran { Ran catalogue_printed (R.remaining input.old) (R.remaining input.new) (W.contents output.old) (W.contents output.new) result }
+        ensures right { CataloguePrintedRight }
+    {
+        let read = self.text.read(input);
+        let printed = self.print(output);
+        ended(read, printed)
     }
 }

@@ -1,10 +1,15 @@
 // The memory that a text is read into, and printed with as `dlx1` prints it.
-ghost use Rattle.std.specs.Prelude.{◌≡◌, ◌≤◌, length, replicate, take};
-ghost use Rattle.definitions.specs.TextCalls.{dlx1_printed};
+ghost use Rattle.std.specs.Prelude.{◌≡◌, OnOk, OnErr, replicate, take};
+ghost use Rattle.std.specs.Io.KnownBytes.{Appends};
+ghost use Rattle.definitions.specs.TextCalls.{TextPrintedRight, dlx1_printed};
+ghost use Rattle.streams.specs.Running.{Ran};
+ghost use Rattle.streams.specs.Writing.{AppendsFront};
 
+use super::failure::{Failure, ended};
 use super::text::Text;
+use super::write_last;
 use std::io;
-use std::io::Write;
+use std::io::{Read, Write};
 
 // All of it: the text; its cells, the work words of the call, and bytes to be written, enough for any text for DLX1.
 #[derive(Drop)]
@@ -34,11 +39,14 @@ impl Dlx1Room {
         }
     }
 
-    // Writes what `dlx1` prints for the text that is read: all of it stands at the start of `out`, and is given to the writer at once.
+    // Writes what `dlx1` prints for the text that is read, all at once; where a write fails, a beginning of it.
     pub fn print<W: Write>(&mut self, writer: &mut W) -> io::Result<()>
-        ensures whole { let printed = dlx1_printed (take self.old.text.read self.old.text.bytes) in
-            (length printed ≤ 663552) × (take (length printed) self.new.out ≡ printed) }
+        ensures ok { let text = self.old.text in
+            OnOk result (Appends (W.contents writer.old) (W.contents writer.new) (dlx1_printed (take text.read text.bytes))) }
+        ensures err { let text = self.old.text in
+            OnErr result (AppendsFront (W.contents writer.old) (W.contents writer.new) (dlx1_printed (take text.read text.bytes))) }
         ensures text { self.new.text ≡ self.old.text }
+        ensures right { TextPrintedRight }
     {
         let made = dlx_output::put_printed(
             self.text.as_slice(),
@@ -46,6 +54,17 @@ impl Dlx1Room {
             &mut self.work,
             &mut self.out,
         );
-        writer.write_all(&self.out[..made])
+        write_last(writer, &self.out[..made])
+    }
+
+    // A run of `dlx1`: reads a text, and writes what is printed for it.
+    #[tactic(auto, using(crate::proofs::RunLaws::ran))]
+    pub fn run<R: Read, W: Write>(&mut self, input: &mut R, output: &mut W) -> Result<(), Failure>
+        ensures ran { Ran dlx1_printed (R.remaining input.old) (R.remaining input.new) (W.contents output.old) (W.contents output.new) result }
+        ensures right { TextPrintedRight }
+    {
+        let read = self.text.read(input);
+        let printed = self.print(output);
+        ended(read, printed)
     }
 }

@@ -1,12 +1,18 @@
 // The memory that a text is read into, and printed with as `pack` prints it.
-ghost use Rattle.std.specs.Prelude.{◌≡◌, OnOk, replicate, take};
+ghost use Rattle.std.specs.Prelude.{◌≡◌, OnOk, OnErr, replicate, take};
+ghost use Rattle.std.specs.Io.KnownBytes.{Appends};
+ghost use Rattle.definitions.specs.EmptyBox.{EmptyBoxPrinted};
 ghost use Rattle.definitions.specs.Files.{packed};
-ghost use Rattle.streams.specs.Printing.{Ends};
+ghost use Rattle.definitions.specs.Printed.{PrintedRight};
+ghost use Rattle.definitions.specs.Woods.{OneWoodPrinted};
+ghost use Rattle.streams.specs.Running.{Ran};
+ghost use Rattle.streams.specs.Writing.{AppendsFront};
 
+use super::failure::{Failure, ended};
 use super::print;
 use super::text::Text;
 use std::io;
-use std::io::Write;
+use std::io::{Read, Write};
 
 // All of it: the text; its cells, the answers of a page, the work words and links of the search, and bytes to be written.
 #[derive(Drop)]
@@ -39,11 +45,14 @@ impl Room {
         }
     }
 
-    // Writes what `pack` prints for the text that is read.
+    // Writes what `pack` prints for the text that is read; where a write fails, a beginning of it.
     pub fn print<W: Write>(&mut self, writer: &mut W) -> io::Result<()>
-        ensures whole { let text = self.old.text in
-            OnOk result (Ends (packed (take text.read text.bytes)) self.new.out) }
+        ensures ok { let text = self.old.text in
+            OnOk result (Appends (W.contents writer.old) (W.contents writer.new) (packed (take text.read text.bytes))) }
+        ensures err { let text = self.old.text in
+            OnErr result (AppendsFront (W.contents writer.old) (W.contents writer.new) (packed (take text.read text.bytes))) }
         ensures text { self.new.text ≡ self.old.text }
+        ensures right { PrintedRight × EmptyBoxPrinted × OneWoodPrinted }
     {
         print(
             writer,
@@ -54,5 +63,16 @@ impl Room {
             &mut self.links,
             &mut self.out,
         )
+    }
+
+    // A run of `pack`: reads a text, and writes what is printed for it.
+    #[tactic(auto, using(crate::proofs::RunLaws::ran))]
+    pub fn run<R: Read, W: Write>(&mut self, input: &mut R, output: &mut W) -> Result<(), Failure>
+        ensures ran { Ran packed (R.remaining input.old) (R.remaining input.new) (W.contents output.old) (W.contents output.new) result }
+        ensures right { PrintedRight × EmptyBoxPrinted × OneWoodPrinted }
+    {
+        let read = self.text.read(input);
+        let printed = self.print(output);
+        ended(read, printed)
     }
 }

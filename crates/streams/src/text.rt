@@ -1,7 +1,9 @@
 // A text that is read, in fixed memory.
-ghost use Rattle.std.specs.Prelude.{◌≡◌, ◌≤◌, replicate, take};
+ghost use Rattle.std.specs.Prelude.{◌≡◌, ◌≤◌, OnOk, OnErr, replicate, take};
+ghost use Rattle.streams.specs.Reading.{Takes};
 
 use super::read_text;
+use std::io;
 use std::io::Read;
 
 // Room for a byte more than the longest file, and how many of its bytes are read.
@@ -26,19 +28,15 @@ impl Text {
         }
     }
 
-    // Reads a text in place of the one before: no more than there is room for. (Which bytes these are, and how many, no contract can say: the input's.)
-    pub fn read<R: Read>(&mut self, input: &mut R)
-        ensures within { self.new.read ≤ 16385 }
+    // Reads a text in place of the one before: all that is left of the input, or as much as there is room for, which is more than the longest file has. Where
+    // a read fails no text is held, which is no file and no request.
+    pub fn read<R: Read>(&mut self, input: &mut R) -> io::Result<()>
+        ensures ok { OnOk result (Takes 16385 (R.remaining input.old) (R.remaining input.new) (take self.new.read self.new.bytes)) }
+        ensures err { OnErr result (self.new.read ≡ 0) }
     {
-        self.read = read_text(input, &mut self.bytes);
-    }
-
-    // Takes a text that cannot be opened as one whose first read fails.
-    pub fn mark_unreadable(&mut self)
-        ensures whole { self.new.read ≡ 16385 }
-        ensures bytes { self.new.bytes ≡ self.old.bytes }
-    {
-        self.read = Text::MOST;
+        self.read = 0;
+        self.read = read_text(input, &mut self.bytes)?;
+        Ok(())
     }
 
     // What is read.

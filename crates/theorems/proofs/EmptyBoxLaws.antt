@@ -3,7 +3,7 @@ use Prim.Native.Nat.{ℕ, zero, suc, ◌≤◌}
 use mathlib.Core.Bool.{Bool, true, false, cond, not, ◌&&◌, ◌||◌}
 use mathlib.Core.List.{List, [], ◌∷◌, map}
 use mathlib.Core.Path.{◌≡◌, refl, sym, ap, ◌∙◌, subst}
-use mathlib.Core.Logic.{◌⊎◌, inl, inr, ◌↔◌, ◌≢◌}
+use mathlib.Core.Logic.{◌⊎◌, inl, inr, ◌↔◌}
 use native.Mathlib.Omega.{arith}
 use lib.Dec.{T, ltb, eqb, eqb→eq, ltb→lt}
 use lib.ListN.{length, replicate}
@@ -21,7 +21,7 @@ use Rattle.definitions.specs.Kept.{Identify, compared, smaller, images, kept}
 use Rattle.definitions.specs.Orders.{State, start, choose, search, fast_choices, identifies_turned, kind0_first, fast_list, knuth_choices, knuth_list, packings, listed}
 use Rattle.definitions.specs.Answers.{taken, copy_on, answer}
 use Rattle.definitions.specs.Refusals.{Call, Row, grid_of, lent_of, strip_tray, tray_of, identify_of, sides_fit, copy_count, with_records, is_ported, is_knuth, placement_count, rows_of, link_count, table, applies, refusal}
-use Rattle.definitions.specs.Outcomes.{Outcome, answers_of, answer_size, refused, outcome}
+use Rattle.definitions.specs.Outcomes.{answers_of, answer_size, outcome}
 use Rattle.definitions.specs.Demands.{Stretch, Pages, MeetsDemand1}
 use Rattle.definitions.specs.Files.{call_in, listing}
 use Rattle.definitions.specs.EmptyBox.{empty_box_list, EmptyBoxes, Never1, EmptyBoxPrinted}
@@ -30,7 +30,7 @@ use Rattle.definitions.specs.declared.SolverKind.TheVariants.{Auto, Naive, Fast,
 use Rattle.definitions.specs.declared.Record.{Record}
 use Rattle.theorems.proofs.GridLaws.{length_box}
 use Rattle.theorems.proofs.ShapeLaws.{scan_length}
-use Rattle.theorems.proofs.RefusalLaws.{passed, fit-volume, outcome_refused, demand1_holds}
+use Rattle.theorems.proofs.RefusalLaws.{passed, fit-volume, demand1_holds}
 use Rattle.theorems.proofs.DemandLaws.{answer-length, pages_of}
 use Rattle.theorems.proofs.MeetLaws.{packed_listing}
 
@@ -39,11 +39,6 @@ use Rattle.theorems.proofs.MeetLaws.{packed_listing}
 pub never1_holds : Never1 outcome
 unfolding Never1 MeetsDemand1 applies table
 never1_holds l e = subst (λ (n : ℕ). T (applies l n)) e ((demand1_holds l).it_applies (λ z. let i = sym e ∙ z in omega arith))
-
--- the same of the table's own number
-pub never_1 : (l : Call) → refusal l ≢ 1
-unfolding Never1 refused
-never_1 l e = never1_holds l (ap (λ (o : Outcome). o.number) (outcome_refused l (λ z. let i = sym e ∙ z in omega arith)) ∙ e)
 
 -- ---- a search that has nothing to choose from ends at once
 search_none : (choices : State → List Placement) → ((s : State) → choices s ≡ []) → (n : ℕ) (s : State)
@@ -272,9 +267,3 @@ empty_box_holds l e =
 pub empty_box_printed_holds : EmptyBoxPrinted
 unfolding EmptyBoxPrinted
 empty_box_printed_holds bytes file e ok = packed_listing bytes file ok ∙ ap listing (empty_box (call_in bytes 0 0) e ok)
-
--- whatever runs every call as document 01's outcome says takes an empty box so, and gives no 1
-pub meets_empty_box : (run : Call → Outcome) → ((l : Call) → run l ≡ outcome l) → EmptyBoxes run × Never1 run
-meets_empty_box run h =
-    let e : run ≡ outcome = (λ i l. h l i) in
-    subst (λ (r : Call → Outcome). EmptyBoxes r × Never1 r) (sym e) (empty_box_holds, never1_holds)

@@ -16,15 +16,9 @@ use Rattle.definitions.specs.Refusals.{Call, tray_of, identify_of, refusal}
 use Rattle.definitions.specs.Outcomes.{Outcome, answers_of, outcome}
 use Rattle.definitions.specs.Files.{call_in, entry_line, is_file, last_line, listing, packed}
 use Rattle.definitions.specs.Printed.{PrintsListOf, PrintedRight}
-use Rattle.definitions.specs.Demands.{Demand1, MeetsDemand1, MeetsDemand2, MeetsDemand3, Stretch, Pages}
+use Rattle.definitions.specs.Demands.{Demand1, MeetsDemand1, MeetsDemand3, Stretch, Pages}
 use Rattle.theorems.proofs.RefusalLaws.{demand1_holds}
-use Rattle.theorems.proofs.DemandLaws.{demand2_holds, demand3_holds}
-
--- a run that is the outcome at each call
-pub meets_all : (run : Call → Outcome) → ((l : Call) → run l ≡ outcome l) → MeetsDemand1 run × MeetsDemand2 run × MeetsDemand3 run
-meets_all run h =
-    let e : run ≡ outcome = (λ i l. h l i) in
-    subst (λ (r : Call → Outcome). MeetsDemand1 r × MeetsDemand2 r × MeetsDemand3 r) (sym e) (demand1_holds, demand2_holds, demand3_holds)
+use Rattle.theorems.proofs.DemandLaws.{demand3_holds}
 
 -- one call, whatever it left: what the contract of a page call says of its result and its slices is enough
 module _ (l : Call) (o : Outcome) (is : o ≡ outcome l) where

@@ -18,12 +18,10 @@ use Rattle.definitions.specs.Grid.{volume}
 use Rattle.definitions.specs.Demands.{Demand1, Stretch, MeetsDemand1, MeetsDemand3}
 use Rattle.definitions.specs.Emission.{Emitted, IsPage, Listed, answers_in, begin, emits, behind, onwards}
 use Rattle.definitions.specs.Page.{Page, page}
-use Rattle.definitions.specs.Outcomes.{Outcome, accepted, accepted_with, answers_of, answer_size, capacity, cleared, links_after, work_after, number_of, outcome, outcome_of, over_start, page_of, refused}
+use Rattle.definitions.specs.Outcomes.{Outcome, accepted, accepted_with, answers_of, answer_size, capacity, cleared, links_after, work_after, outcome, outcome_of, over_start, page_of, refused}
 use Rattle.definitions.specs.Refusals.{Call, cells_lie, grid_of, identify_of, refusal, sides_fit, sides_of, table, lent_of, tray_of}
 use Rattle.definitions.specs.Starts.{GoesOn, Meets, NotThere, PageIs, accepted_behind, accepted_from, entry_of, is_entry, list_of, no_entry, outcome_behind, outcome_from, page_from, reply_of, skip_at, skipping, waits_at}
-use Rattle.definitions.specs.Woods.{board_in_wood, BoardUnread, OneWoodCalls, with_wood, without_woods}
-use Rattle.definitions.specs.declared.Refusal.{Refusal}
-use Rattle.std.specs.Prelude.{Err}
+use Rattle.definitions.specs.Woods.{BoardUnread, OneWoodCalls, WoodsBehind, board_in_wood, with_wood, without_woods}
 use Rattle.definitions.specs.declared.Start.{Start}
 use Rattle.definitions.specs.declared.Start.TheVariants.{Entry, Behind}
 use Rattle.theorems.proofs.DemandLaws.{answers_sized, box_lent, demand3_holds}
@@ -99,12 +97,6 @@ unfolding outcome_from refused
 from_refused (Entry k) last l d = outcome_refused (skipping k l) (λ e. d (sym (same_refusal k l) ∙ e)) ∙ ap (λ (n : ℕ). refused n l) (same_refusal k l)
 from_refused Behind last l d = behind_refused last (skipping 0 l) (λ e. d (sym (same_refusal 0 l) ∙ e)) ∙ ap (λ (n : ℕ). refused n l) (same_refusal 0 l)
 
--- what the code hands back for a refusal, the slices untouched, is the outcome of the call
-pub refused_outcome : (start : Start) (last : List ℕ) (l : Call) (why : Refusal) → (number_of why ≡ 0 → ⊥) → number_of why ≡ refusal l
-    → outcome_of (Err why) l.answers l.work l.links ≡ outcome_from start last l
-unfolding outcome_of refused
-refused_outcome start last l why d e = ap (λ (n : ℕ). refused n l) e ∙ sym (from_refused start last l (λ z. d (e ∙ z)))
-
 -- of a call from an entry on no entry is told to be missing
 pub entry_told : (k : ℕ) (last : List ℕ) (l : Call) → (outcome_from (Entry k) last l).missing ≡ false
 unfolding outcome_from outcome accepted refused
@@ -146,11 +138,6 @@ module _ (l : Call) (ok : refusal l ≡ 0) where
 from_stretch : (l : Call) → refusal l ≡ 0 → (skip : ℕ) (o : Outcome) → o ≡ outcome (skipping skip l) → Stretch (list_of l) (skipping skip l) o
 unfolding answers_of lent_of tray_of
 from_stretch l ok skip o e = meets_stretch (skipping skip l) o e (still_ok l ok skip)
-
--- and from behind entry k, from entry k + 1 on
-pub meets_behind : (l : Call) → refusal l ≡ 0 → (k : ℕ) → k < length (list_of l) → (o : Outcome)
-    → o ≡ outcome_behind (entry_of l k) (skipping 0 l) → Stretch (list_of l) (skipping (suc k) l) o
-meets_behind l ok k h o e = from_stretch l ok (suc k) o (e ∙ outcome-behind l ok k h)
 
 -- ---- the user's sentences
 -- the first refusal that applies or none, from behind an entry too
@@ -312,5 +299,6 @@ behind_unread : (last : List ℕ) → BoardUnread (outcome_behind last)
 unfolding BoardUnread outcome_behind accepted_behind no_entry is_entry page_from capacity refused board_in_wood with_wood refusal table lent_of tray_of grid_of sides_of sides_fit cells_lie
 behind_unread last l w = refl
 
-pub behind_woods : (last : List ℕ) → OneWoodCalls (outcome_behind last) × BoardUnread (outcome_behind last)
+pub behind_woods : WoodsBehind
+unfolding WoodsBehind
 behind_woods last = (behind_one_wood last, behind_unread last)

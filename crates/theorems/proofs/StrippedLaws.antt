@@ -20,7 +20,7 @@ use Rattle.theorems.proofs.GroupLaws.{bytes_whole}
 use Rattle.theorems.proofs.GridLaws.{all_set_down_none}
 use Rattle.theorems.proofs.CellLaws.{tight_of, same_filled, cell_by}
 use Rattle.definitions.specs.Refusals.{are_bits, some_filled, is_tight}
-use Rattle.definitions.specs.EmptyLayers.{Stripped}
+use Rattle.definitions.specs.EmptyLayers.{OneForm, Stripped}
 use Rattle.definitions.specs.Stripping.{least_of, along, corner, span, spanned, strip}
 use Rattle.theorems.proofs.StrippingLaws.{least_in, least_le, largest_in, largest_ge, strip_is, some_or_none, stripped_of, strip_right}
 
@@ -75,8 +75,8 @@ strip_tight g bits whole tight = go (some_or_none g)
     go (inr e) = absurd (none_is g tight e)
 
 -- grids with the same filled cells, one moved as a whole, have the same stripped form: "to us the shape is what is filled"
-pub strip_moved : (g h : Grid) (by : Cell) → T (are_bits g) → T (are_bits h) → T (not (is_empty (filled_cells g))) → filled_cells g ≡ map (set_down by) (filled_cells h) → (strip g ≡ strip h) × (corner g ≡ set_down by (corner h))
-unfolding set_down
+pub strip_moved : OneForm
+unfolding OneForm set_down
 strip_moved g h by bg bh some e =
     let r = stripped_of h bh other in
     strip_only (stripped_of g bg some) (record { cells = e ∙ ap (map (set_down by)) r.cells ∙ twice (filled_cells (strip h)); tight = r.tight; bits = r.bits; whole = r.whole })

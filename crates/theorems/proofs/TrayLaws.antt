@@ -23,7 +23,7 @@ use Rattle.definitions.specs.Kept.Identify.{None, Turned, Mirrored}
 use Rattle.definitions.specs.Orders.{start, sizes, all_cells, kind0_first, fast_list, knuth_list, packings, listed}
 use Rattle.definitions.specs.Answers.{answer}
 use Rattle.definitions.specs.Refusals.{Call, lent_of, strip_piece, strip_tray, tray_of, is_tight, is_ported, table, applies, refusal}
-use Rattle.definitions.specs.Outcomes.{Outcome, answers_of, outcome}
+use Rattle.definitions.specs.Outcomes.{answers_of, outcome}
 use Rattle.definitions.specs.Demands.{MeetsDemand1}
 use Rattle.theorems.proofs.RefusalLaws.{demand1_holds}
 use Rattle.definitions.specs.PlacementsRight.{piece_at}
@@ -149,8 +149,3 @@ as_lent_holds l ok = as_lent l ok
 pub never7_holds : Never7 outcome
 unfolding Never7 MeetsDemand1 applies table
 never7_holds l e = subst (λ (n : ℕ). T (applies l n)) e ((demand1_holds l).it_applies (λ z. let i = sym e ∙ z in omega arith))
-
--- whatever runs every call as document 01's outcome says gives no 7
-pub meets_never_7 : (run : Call → Outcome) → ((l : Call) → run l ≡ outcome l) → Never7 run
-unfolding Never7
-meets_never_7 run h l e = never7_holds l (ap (λ (o : Outcome). o.number) (sym (h l)) ∙ e)

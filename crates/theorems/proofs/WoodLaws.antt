@@ -26,7 +26,7 @@ use Rattle.definitions.specs.Orders.{start, choose, search, fast_choices, identi
 use Rattle.definitions.specs.Answers.{takes, taken, two_bytes, lent_cells, answer}
 use Rattle.definitions.specs.Page.{page, Page}
 use Rattle.definitions.specs.Refusals.{Call, sides_of, grid_of, lent_of, strip_piece, strip_tray, tray_of, sides_fit, cells_lie, are_bits, some_filled, copy_count, board_cell_count, placement_count, rows_of, link_count, identify_of, is_knuth, is_ported, row, table, first_that_applies, refusal, piece_of}
-use Rattle.definitions.specs.Outcomes.{answers_of, capacity, page_of, Outcome, refused, accepted, outcome, accepted_with}
+use Rattle.definitions.specs.Outcomes.{answers_of, capacity, page_of, refused, accepted, outcome, accepted_with}
 use Rattle.definitions.specs.Files.{call_in, is_file, listing, packed, refused_line}
 use Rattle.definitions.specs.PlacementsRight.{no_kind, piece_at, kind_at}
 use Rattle.definitions.specs.Woods.{WoodCarried, WoodLentCarried, woodless, unwooded, OneWood, with_wood, without_woods, OneWoodCalls, OneWoodPrinted, board_in_wood, BoardUnread}
@@ -438,11 +438,3 @@ one_wood_printed_holds bytes plain file other w one e = packed_said plain other 
 pub board_unread_holds : BoardUnread outcome
 unfolding BoardUnread board_in_wood with_wood outcome refusal table accepted refused page_of capacity lent_of tray_of grid_of sides_of sides_fit cells_lie
 board_unread_holds l w = refl
-
--- and so of whatever runs calls as the definitions' outcome says
-pub meets_woods : (run : Call → Outcome) → ((l : Call) → run l ≡ outcome l) → OneWoodCalls run × BoardUnread run
-unfolding OneWoodCalls BoardUnread
-meets_woods run h = (
-  λ l w one. h l ∙ one_wood_calls_holds l w one ∙ sym (h (without_woods l)),
-  λ l w. h (board_in_wood w l) ∙ board_unread_holds l w ∙ sym (h l),
-)

@@ -2,11 +2,14 @@
 use Rattle.std.proofs.Common.{ℕ, List, drop, ap, subst, sym, arith}
 use Rattle.texts.specs.Put.{Put}
 use Rattle.catalogue_output.proofs.PrintedLaws.{all_have_lines, kept, lines_fit, lines_printed, refusal_printed, unchanged}
-use Rattle.theorems.proofs.CataloguePrintedLaws.{malformed_printed}
+use Rattle.theorems.proofs.CataloguePrintedLaws.{catalogue_printed_right, malformed_printed}
 use Rattle.catalogue_output.proofs.put_printed.Goals as goal
 
 pub returns-in_default-clause-printed : goal.returns-in_default-clause-printed
 returns-in_default-clause-printed c = rw (malformed_printed c.args.text.now c.in_default.ensures) c.put_refused.ensures.0
+
+pub returns-in_default-clause-right : goal.returns-in_default-clause-right
+returns-in_default-clause-right c = catalogue_printed_right
 
 pub put_listing-requires : goal.put_listing-requires
 put_listing-requires c =
@@ -25,6 +28,7 @@ returns-in-Ok c =
       printed = subst (λ (l : List ℕ). Put x.out.now 0 l c.put_listing.new.out c.put_listing.result)
           (lines_printed n x.entries.now _ c.requires.0 c.in-Ok.page d x.text.now c.in-Some.ensures.0 c.in-Some.ensures.1) c.put_listing.ensures;
       entries = kept n x.entries.now _ c.requires.0 c.in-Ok.page d;
+      right = catalogue_printed_right;
     }
 
 pub returns-in-Err : goal.returns-in-Err
@@ -35,4 +39,5 @@ returns-in-Err c =
     record {
       printed = rw (sym (refusal_printed n x.entries.now _ c.in-Err.why d x.text.now c.in-Some.ensures.0 c.in-Some.ensures.1)) (rw c.number.ensures at c.put_refused-in-Err.ensures.0);
       entries = ap (drop 3486) (unchanged n x.entries.now _ c.in-Err.why d);
+      right = catalogue_printed_right;
     }

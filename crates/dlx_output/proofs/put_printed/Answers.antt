@@ -1,6 +1,7 @@
 -- What is printed for a text that is no file, for an accepted call and for a refused one. Assumes nothing.
 use Rattle.std.proofs.Common.{◌∙◌}
 use Rattle.lists.proofs.ListLaws.{drop_later}
+use Rattle.theorems.proofs.TextRightLaws.{text_printed_right_holds}
 use Rattle.dlx_output.proofs.PrintedLaws.{accepted, asked_outcome, is_read, malformed, malformed_work, refused}
 use Rattle.dlx_output.proofs.put_printed.Goals as goal
 
@@ -14,6 +15,9 @@ returns-in_default-clause-work c =
     let x = c.args in
     malformed_work x.text.now x.work.now (is_read x.cells.now c.requires.0 c.in_default.ensures.0)
 
+pub returns-in_default-clause-right : goal.returns-in_default-clause-right
+returns-in_default-clause-right c = text_printed_right_holds
+
 pub returns-in-Ok : goal.returns-in-Ok
 returns-in-Ok c =
     let x = c.args in
@@ -26,6 +30,7 @@ returns-in-Ok c =
       printed = done.0;
       cells = drop_later asked.used 16384 _ _ asks.few asks.behind;
       work = done.1;
+      right = text_printed_right_holds;
     }
 
 pub returns-in-Err : goal.returns-in-Err
@@ -40,4 +45,5 @@ returns-in-Err c =
       printed = rw why.0 (rw (c.number.ensures, why.1) at c.put_refused-in-Err.ensures.0);
       cells = drop_later asked.used 16384 _ _ asks.few asks.behind;
       work = why.2;
+      right = text_printed_right_holds;
     }

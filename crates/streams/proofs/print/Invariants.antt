@@ -6,7 +6,8 @@ use Rattle.streams.proofs.print.Given as goal
 
 abbrev pub invariant-loop-further : goal.invariant-loop-further
 invariant-loop-further g l =
-    Going l.text l.cells l.answers l.work l.links l.out l.progress × (length l.cells ≡ length l.initial.cells) × (length l.answers ≡ length l.initial.answers)
+    Going (g.W.Write.contents l.fn.writer) (g.W.Write.contents l.writer) l.text l.cells l.answers l.work l.links l.out l.progress
+    × (length l.cells ≡ length l.initial.cells) × (length l.answers ≡ length l.initial.answers)
     × (length l.work ≡ length l.initial.work) × (length l.links ≡ length l.initial.links) × (length l.out ≡ length l.initial.out)
 
 abbrev pub decreases-loop-further : goal.decreases-loop-further

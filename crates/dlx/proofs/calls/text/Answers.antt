@@ -8,7 +8,7 @@ use Rattle.definitions.specs.TextCalls.{TextReply, text_outcome_of}
 use Rattle.definitions.specs.declared.Config.{Config}
 use Rattle.rows.specs.Systems.{system_in}
 use Rattle.definitions.specs.declared.Refusal.{Refusal}
-use Rattle.theorems.proofs.TextRightLaws.{meets_text}
+use Rattle.theorems.proofs.TextRightLaws.{meets_text, text_demand_holds}
 use Rattle.placements.specs.Pieces.{records_of}
 use Rattle.solver.specs.Preparing.{Prepares, refusal_by}
 use Rattle.solver.proofs.PreparedLaws.{stands_sized}
@@ -31,6 +31,9 @@ returns-in_err-d-clause-outcome c =
 pub returns-in_err-d-clause-demand : goal.returns-in_err-d-clause-demand
 returns-in_err-d-clause-demand c = meets_text _ _ (returns-in_err-d-clause-outcome c)
 
+pub returns-in_err-d-clause-texts : goal.returns-in_err-d-clause-texts
+returns-in_err-d-clause-texts c = text_demand_holds
+
 pub invariant_of-system : goal.invariant_of-system
 unfolding Prepares
 invariant_of-system c =
@@ -52,6 +55,9 @@ returns-in_err-length-clause-outcome c =
 
 pub returns-in_err-length-clause-demand : goal.returns-in_err-length-clause-demand
 returns-in_err-length-clause-demand c = meets_text _ _ (returns-in_err-length-clause-outcome c)
+
+pub returns-in_err-length-clause-texts : goal.returns-in_err-length-clause-texts
+returns-in_err-length-clause-texts c = text_demand_holds
 
 pub write-requires : goal.write-requires
 unfolding Checked
@@ -82,3 +88,6 @@ returns-clause-outcome c =
 
 pub returns-clause-demand : goal.returns-clause-demand
 returns-clause-demand c = meets_text _ _ (returns-clause-outcome c)
+
+pub returns-clause-texts : goal.returns-clause-texts
+returns-clause-texts c = text_demand_holds

@@ -42,27 +42,31 @@ clear_links-requires c k =
     let a = c.args in
     subst (λ (n : ℕ). 32768 ≤ n) (sym c.list-e.auto.links) (links-long _ _ _ _ a.answers.now _ a.links.now _ _ _ c.in_ok-d.ensures k)
 
-pub returns-in_err-d : goal.returns-in_err-d
+pub returns-in_err-d-clause-outcome : goal.returns-in_err-d-clause-outcome
 unfolding Prepares
-returns-in_err-d c =
+returns-in_err-d-clause-outcome c =
     let a = c.args in
     let why = c.in_err-d.field-0.0 in
     let refused = c.in_err-d.ensures in
     let r = err_from_is_err_and c.from_residual.result c.from_residual.ensures.1 in
     let rs = records_of a.pieces.now in
-    let e = ap (λ (x : Reply). outcome_of x a.answers.now c.prepare.new.work a.links.now) (r.1 ∙ ap (λ (x : Refusal). Err x) r.2)
+    ap (λ (x : Reply). outcome_of x a.answers.now c.prepare.new.work a.links.now) (r.1 ∙ ap (λ (x : Refusal). Err x) r.2)
     ∙ ap (λ (w : List ℕ). outcome_of (Err why) a.answers.now w a.links.now) refused.untouched
-    ∙ refused_outcome rs a.board a.bytes.now a.config a.answers.now a.work.now a.links.now a.start a.last.now why refused.first in
-    record { outcome = e; meets = meets_from a.start a.last.now _ _ e }
+    ∙ refused_outcome rs a.board a.bytes.now a.config a.answers.now a.work.now a.links.now a.start a.last.now why refused.first
 
-pub returns : goal.returns
+pub returns-in_err-d-clause-meets : goal.returns-in_err-d-clause-meets
+returns-in_err-d-clause-meets c = meets_from c.args.start c.args.last.now _ _ (returns-in_err-d-clause-outcome c)
+
+pub returns-clause-outcome : goal.returns-clause-outcome
 unfolding Prepares
-returns c =
+returns-clause-outcome c =
     let a = c.args in
     let e' = c.list-e in
     let work' = c.clear_work.new.work in
     let links' = c.clear_links.new.links in
-    let e = ap (λ (x : Reply). outcome_of x e'.new.answers work' links') c.listed.ensures
+    ap (λ (x : Reply). outcome_of x e'.new.answers work' links') c.listed.ensures
     ∙ page_left (records_of a.pieces.now) a.board a.bytes.now a.config a.answers.now a.work.now a.links.now _ _ _ c.in_ok-d.ensures a.start a.last.now
-    e'.result e'.new.answers e'.ensures.page work' e'.new.links links' c.clear_work.ensures e'.ensures.behind c.clear_links.ensures in
-    record { outcome = e; meets = meets_from a.start a.last.now _ _ e }
+    e'.result e'.new.answers e'.ensures.page work' e'.new.links links' c.clear_work.ensures e'.ensures.behind c.clear_links.ensures
+
+pub returns-clause-meets : goal.returns-clause-meets
+returns-clause-meets c = meets_from c.args.start c.args.last.now _ _ (returns-clause-outcome c)

@@ -11,10 +11,12 @@ use Rattle.solver.specs.Lent.{call_with}
 use Rattle.solver.proofs.RecordLaws.{outcome_same}
 use Rattle.solver.proofs.records.page.Goals as goal
 
-pub returns : goal.returns
-returns c =
+pub returns-clause-outcome : goal.returns-clause-outcome
+returns-clause-outcome c =
     let a = c.args in
     let call = λ (ps : List Record). call_with ps a.board a.bytes.now a.config a.answers.now a.work.now a.links.now in
-    let e = c.page.ensures.outcome ∙ ap (λ (t : Pieces). outcome_from a.start a.last.now (call (records_of t))) c.taken.ensures
-    ∙ outcome_same a.board a.bytes.now a.config a.answers.now a.work.now a.links.now a.start a.last.now a.pieces.now in
-    record { outcome = e; meets = meets_from a.start a.last.now (call a.pieces.now) _ e }
+    c.page.ensures.outcome ∙ ap (λ (t : Pieces). outcome_from a.start a.last.now (call (records_of t))) c.taken.ensures
+    ∙ outcome_same a.board a.bytes.now a.config a.answers.now a.work.now a.links.now a.start a.last.now a.pieces.now
+
+pub returns-clause-meets : goal.returns-clause-meets
+returns-clause-meets c = meets_from c.args.start c.args.last.now _ _ (returns-clause-outcome c)
