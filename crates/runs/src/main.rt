@@ -1,8 +1,7 @@
 // Runs of `pack`, `dlx1` and `catalogue`: what `pack` prints for each file of a list, one after the other, then what `dlx1` prints for each file of another,
 // and what `catalogue` prints for each of a third, held to the stored output. A file that is missing and a folder in place of a file make reads that fail.
-// Last, a file for each of the three, at once, and then in ways in which a pipe or a disk may behave (`slow`): read in two parts, read byte by byte,
-// written byte by byte, and written by a writer that is interrupted, which all give what the file gives at once; read by a reader that fails behind the first
-// line, which gives a refusal; and written to one that takes twenty bytes and fails, and to one that fails at the end. Behind each stands how the run ended.
+// Last, a file for each of the three, in ways in which a pipe or a disk may behave (`slow`): what gives or takes little at a time prints what the file gives
+// at once; what fails, a refusal or a beginning. Behind each stands how the run ended.
 #![tactic(auto)]
 
 mod slow;
@@ -111,7 +110,35 @@ fn tell(rt: &HostRuntime, ran: Result<(), Failure>) {
     let _ = println!(rt; "{word}");
 }
 
-// What a program prints for a file that is read and written at once, and otherwise. (Such a file has fewer than 256 bytes.)
+// What a program prints for a text that is read at once, in two parts and byte by byte, and by a reader that fails behind the first line.
+fn vary_reader<P: Program>(rt: &HostRuntime, program: &mut P, bytes: &[u8]) {
+    let mut output = rt.stdout();
+    tell(rt, program.run(&mut &bytes[..], &mut output));
+    let half = bytes.len() / 2;
+    let mut parts = bytes[..half].chain(&bytes[half..]);
+    tell(rt, program.run(&mut parts, &mut output));
+    tell(rt, program.run(&mut Sipping { left: bytes }, &mut output));
+    let mut ends = bytes.iter();
+    let first = ends
+        .position(|&byte| byte == b'\n')
+        .map_or(0, |end| end + 1);
+    let mut broken = bytes[..first.min(bytes.len())].chain(Failing);
+    tell(rt, program.run(&mut broken, &mut output));
+}
+
+// The same text written byte by byte and with interruptions, to a writer that takes twenty bytes and fails, and to one that fails at the end.
+fn vary_writer<P: Program>(rt: &HostRuntime, program: &mut P, bytes: &[u8]) {
+    let to = &mut rt.stdout();
+    tell(rt, program.run(&mut &bytes[..], &mut Trickling { to }));
+    let is_next = true;
+    let mut interrupted = Interrupted { to, is_next };
+    tell(rt, program.run(&mut &bytes[..], &mut interrupted));
+    let mut filling = Filling { to, room: 20 };
+    tell(rt, program.run(&mut &bytes[..], &mut filling));
+    tell(rt, program.run(&mut &bytes[..], &mut Unflushed { to }));
+}
+
+// What a program prints for a file in these ways. (Such a file has fewer than 256 bytes.)
 fn vary<P: Program>(rt: &HostRuntime, program: &mut P, name: &str) {
     let mut held = [0; 256];
     let Ok(mut file) = fs::open(rt, name) else {
@@ -120,52 +147,8 @@ fn vary<P: Program>(rt: &HostRuntime, program: &mut P, name: &str) {
     let Ok(n) = streams::read_text(&mut file, &mut held) else {
         return;
     };
-    let bytes = &held[..n];
-    let half = n / 2;
-    let line = bytes
-        .iter()
-        .position(|&byte| byte == b'\n')
-        .map_or(0, |end| end + 1)
-        .min(n);
-    let mut output = rt.stdout();
-    tell(rt, program.run(&mut &bytes[..], &mut output));
-    tell(
-        rt,
-        program.run(&mut bytes[..half].chain(&bytes[half..]), &mut output),
-    );
-    tell(rt, program.run(&mut Sipping { left: bytes }, &mut output));
-    tell(
-        rt,
-        program.run(&mut &bytes[..], &mut Trickling { to: &mut output }),
-    );
-    tell(
-        rt,
-        program.run(
-            &mut &bytes[..],
-            &mut Interrupted {
-                to: &mut output,
-                is_next: true,
-            },
-        ),
-    );
-    tell(
-        rt,
-        program.run(&mut bytes[..line].chain(Failing), &mut output),
-    );
-    tell(
-        rt,
-        program.run(
-            &mut &bytes[..],
-            &mut Filling {
-                to: &mut output,
-                room: 20,
-            },
-        ),
-    );
-    tell(
-        rt,
-        program.run(&mut &bytes[..], &mut Unflushed { to: &mut output }),
-    );
+    vary_reader(rt, program, &held[..n]);
+    vary_writer(rt, program, &held[..n]);
 }
 
 fn main(rt: HostRuntime) {

@@ -110,7 +110,8 @@ fn write_last<W: Write>(writer: &mut W, bytes: &[u8]) -> io::Result<()>
     writer.flush()
 }
 
-// Writes what `pack` prints for a text, stretch by stretch. A write that fails ends it: then a beginning of it is written.
+// Writes what `pack` prints for a text, stretch by stretch. A write that fails ends it: then a beginning of it is written. What the slices hold afterwards is
+// free, but that each is as long as it was.
 // (The slices stand one by one, as `step` takes them: some are only read further down, and a struct of them would be taken apart at
 // each step. `Room` holds them together.)
 #[tactic(auto, using(crate::proofs::PrintLaws::printed_right))]

@@ -45,7 +45,7 @@ impl Room {
         }
     }
 
-    // Writes what `pack` prints for the text that is read; where a write fails, a beginning of it.
+    // Writes what `pack` prints for the text that is read; where a write fails, a beginning of it. What else the room holds afterwards is free.
     pub fn print<W: Write>(&mut self, writer: &mut W) -> io::Result<()>
         ensures ok { let text = self.old.text in
             OnOk result (Appends (W.contents writer.old) (W.contents writer.new) (packed (take text.read text.bytes))) }
