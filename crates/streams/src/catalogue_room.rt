@@ -39,7 +39,8 @@ impl CatalogueRoom {
         }
     }
 
-    // Writes what `catalogue` prints for the text that is read, all at once; where a write fails, a beginning of it. What else the room holds afterwards is free.
+    // Writes what `catalogue` prints for the text that is read, all at once; where a write fails, a beginning of it. What else the room holds afterwards is
+    // free.
     pub fn print<W: Write>(&mut self, writer: &mut W) -> io::Result<()>
         ensures ok { let text = self.old.text in
             OnOk result (Appends (W.contents writer.old) (W.contents writer.new) (catalogue_printed (take text.read text.bytes))) }
