@@ -1,5 +1,5 @@
 -- Document 02, A5, beech and walnut: what woods forbid, and what they leave as it was; what is said of calls is said, as the demands are, of anything that
--- runs them. Statements only; proved in WoodLaws (theorems).
+-- runs them. Statements only; proved in WoodLaws and StartLaws (theorems).
 use Rattle.std.specs.Prelude.{ℕ, ◌≡◌, T}
 use mathlib.Core.List.{List, map, Memᴰ}
 use Rattle.definitions.specs.Kinds.{Piece, Tray, Copy}

@@ -1,4 +1,4 @@
--- The numbers of a mask: a bit of `&`, `|` and `1 << k`; two words; masks that are apart; and masks with the same numbers, which are equal. Assumes nothing.
+-- The numbers of a mask: a bit of `&`, `|` and `1 << k`; two words; masks that are apart; and words with the same bits, which are equal. Assumes nothing.
 use mathlib.Core.Path.{◌≡◌, refl, sym, ap, ◌∙◌, fun_ext}
 use mathlib.Core.Bool.{Bool, true, false, cond, not, ◌&&◌, ◌||◌, true≢false, false≢true}
 use mathlib.Core.Logic.{⊎_elim}

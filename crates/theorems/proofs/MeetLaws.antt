@@ -1,4 +1,5 @@
--- From a contract to the demands: whatever runs calls as document 01's outcome says meets demands 1, 2 and 3, and what `pack` prints is demand 3's list. Assumes nothing.
+-- From a contract to the demands: a call that leaves the outcome leaves the first refusal that applies or its stretch of the one list, which `pack` prints
+-- whole. Assumes nothing.
 use Prim.Native.Nat.{ℕ, ◌<◌, ◌≤◌, ◌^◌}
 use mathlib.Core.Bool.{Bool, true, cond}
 use mathlib.Core.List.{List, ◌++◌, map}
