@@ -202,6 +202,13 @@ def without_layer(grid, axis, layer):
     return fewer, tuple(kept)
 
 
+def scan_key(sides):
+    """By what cells are put in the scan order of a board with these sides."""
+    # Longest side first; of equal sides z before y before x.
+    axes = sorted((2, 1, 0), key=lambda axis: -sides[axis])
+    return lambda cell: tuple(cell[axis] for axis in axes)
+
+
 # ------------------------------------------------------------- a problem
 
 class Placement:
@@ -250,10 +257,7 @@ class Problem:
             self.partners.append(self.kinds.index(mirrored) if known else None)
 
     def find_placements(self):
-        sides, _ = self.board
-        # Longest side first; of equal sides z before y before x.
-        axes = sorted((2, 1, 0), key=lambda axis: -sides[axis])
-        self.scan_key = lambda cell: tuple(cell[axis] for axis in axes)
+        self.scan_key = scan_key(self.board[0])
         self.scanned = sorted(filled_cells(self.board), key=self.scan_key)
         self.scan_number = {cell: p for p, cell in enumerate(self.scanned)}
         # By kind, then (p, j).

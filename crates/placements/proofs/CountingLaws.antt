@@ -421,7 +421,7 @@ pub links_small : (rows f : ℕ) → rows ≤ 3072 → f ≤ 512 → rows * (1 +
 links_small rows f h k = let l : 1 + f ≤ 513 = omega arith in mul-le-mul h l
 
 pub whole_few : (s : Coord) (cells : List ℕ) (f : ℕ) → Whole s cells → f ≤ length cells → f ≤ 512
-whole_few s cells f w h = let v = volume_small (as_sides s) w.fit in let e = w.size in omega arith
+whole_few s cells f w h = let v = volume_small (as_sides s) w.short in let e = w.size in omega arith
 
 -- ---- the filled cells of a board by their places
 -- how many grids fit at a place

@@ -13,10 +13,10 @@ use lib.ListN.{length, get_or, take, drop, set, replicate, length-set, length-ma
 use lib.Seq.{drop-cons, get_or-set_same, get_or-set_other, get_or-take, ext_get_or}
 use Rattle.std.specs.List.{count_by}
 use Rattle.std.proofs.lemmas.List.{length-take}
-use Rattle.lists.specs.Lists.{all, any, how_many, sort, before, from, below}
+use Rattle.lists.specs.Lists.{all, any, how_many, sort, before, below}
 use Rattle.lists.proofs.TestLaws.{tests_same, and_left, and_right, is_false, eqb_of}
-use Rattle.lists.proofs.ListLaws.{how_many_map, all_at, all_of, all_map, any_at, any_of, all_get_or, get_or_map}
-use Rattle.lists.proofs.RangeLaws.{length_below, get_or_number, from_start}
+use Rattle.lists.proofs.ListLaws.{how_many_map, all_at, all_of, any_at, any_of, all_get_or, get_or_map}
+use Rattle.lists.proofs.RangeLaws.{length_below, get_or_number}
 use Rattle.lists.proofs.SortLaws.{sort_at, sort_of}
 use Rattle.definitions.specs.Grid.{Sides, Cell, Grid, InBox, place_of, byte_at, same_cell, filled_cells}
 use Rattle.definitions.specs.Scan.{cell_ahead, scan, scan_number}
@@ -31,9 +31,8 @@ use Rattle.shape.proofs.VariantLaws.{scan_has, scan_from}
 use Rattle.shape.proofs.ScanLaws.{cell_tied}
 use Rattle.placements.specs.declared.poses.Pose.{Pose}
 use Rattle.placements.specs.declared.poses.Poses.{Poses}
-use Rattle.placements.specs.Poses.{cell_of, cells_in, origin_in, variant_in, variants_in, no_pose, Stands, Standing}
+use Rattle.placements.specs.Poses.{cells_in, origin_in, variant_in, variants_in, no_pose, Stands, Standing}
 use Rattle.placements.specs.Fitting.{fits_on, fits_pose}
-use Rattle.placements.proofs.PoseLaws.{cells_numbered}
 
 -- ---- numbering places
 module _ (ps : List ℕ) where
@@ -110,29 +109,10 @@ filled_in g u b =
 pub filled_out : (g : Grid) (u : Cell) → (InBox g.sides u → ⊥) → false ≡ any (same_cell u) (filled_cells g)
 filled_out g u b = sym (is_false (any (same_cell u) (filled_cells g)) (λ t. b (filled_at g u (filled_there g u t)).0))
 
--- the cell u of a grid whose cell o lies at v lies on a filled cell of g
-abbrev pub lands : Grid → Cell → Cell → Cell → Bool
-lands g v o u = any (same_cell (lies v o u)) (filled_cells g)
-
-pub lands_as : (g : Grid) (v o : Cell) {p w u : Cell} (x : Cell) (r : Bool) → r ≡ any (same_cell w) (filled_cells g) → w ≡ lies v p u → p ≡ o → u ≡ x → lands g v o x ≡ r
-lands_as g v o {p} x r d e f i = sym (d ∙ ap (λ (y : Cell). any (same_cell y) (filled_cells g)) (e ∙ ap₂ (lies v) f i))
-
--- the cells of a pose by their numbers: the test of cell k, and the fit test from cell k on
-abbrev pub lands_at : Grid → Cell → Pose → ℕ → Bool
-lands_at g v pose k = lands g v (origin_in pose) (cell_of (get_or pose.codes k 0))
-
-module _ (g : Grid) (v : Cell) (pose : Pose) where
-  pub fits_not : reaches v (origin_in pose) ≡ false → false ≡ fits_pose g v pose
-  unfolding fits_pose fits_on
-  fits_not e = rw e
-
-  pub fits_start : reaches v (origin_in pose) ≡ true → pose.size ≤ length pose.codes → fits_pose g v pose ≡ all (lands_at g v pose) (from 0 (pose.size - 0))
-  unfolding fits_pose fits_on
-  fits_start e room =
-      rw e
-      (ap (all (lands g v (origin_in pose))) (cells_numbered pose room)
-      ∙ all_map (λ (k : ℕ). cell_of (get_or pose.codes k 0)) (lands g v (origin_in pose)) (below pose.size)
-      ∙ ap (all (lands_at g v pose)) (sym (from_start pose.size)))
+-- an origin that reaches further than the cell at which it lies
+pub fits_not : (g : Grid) (v : Cell) (pose : Pose) → reaches v (origin_in pose) ≡ false → false ≡ fits_pose g v pose
+unfolding fits_pose fits_on
+fits_not g v pose e = rw e
 
 -- cells in scan order or as they come
 module _ (order : List ℕ) (o : IsOrder order) where

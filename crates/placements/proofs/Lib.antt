@@ -3,6 +3,7 @@ pub mod RefusalLaws
 pub mod MergingLaws
 pub mod PoseLaws
 pub mod FittingLaws
+pub mod FitLaws
 pub mod CountingLaws
 pub mod StrippingLaws
 pub mod AcceptedLaws

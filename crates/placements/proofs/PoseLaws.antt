@@ -22,7 +22,7 @@ use Rattle.definitions.specs.Maps.{map_of, map_grid, map_sides}
 use Rattle.definitions.specs.Scan.{cell_ahead, scan}
 use Rattle.definitions.specs.Placements.{origin}
 use Rattle.theorems.proofs.MapLaws.{box_at, filled_at, mapped_sides}
-use Rattle.shape.specs.Coords.{Fit}
+use Rattle.shape.specs.Coords.{ShortSides}
 use Rattle.shape.specs.Places.{cell_at}
 use Rattle.shape.specs.Grids.{order_by}
 use Rattle.shape.specs.Scans.{cell_order}
@@ -224,10 +224,10 @@ codes_back : (us : List Cell) → ((u : Cell) → Memᴰ u us → InBox eight u)
 codes_back us f = map-map cell_of code_of us ∙ map_still (λ u. cell_of (code_of u)) us (λ u m. cell_of_code u (f u m))
 
 -- the filled cells of a grid whose sides are at most 8: all have codes, and they are few
-pub filled_eight : (g : Grid) → Fit g.sides → (u : Cell) → Memᴰ u (filled_cells g) → InBox eight u
+pub filled_eight : (g : Grid) → ShortSides g.sides → (u : Cell) → Memᴰ u (filled_cells g) → InBox eight u
 filled_eight g f u m = let b = (filled_at g u m).0 in (omega arith, omega arith, omega arith)
 
-pub filled_small : (g : Grid) → Fit g.sides → length (filled_cells g) ≤ 512
+pub filled_small : (g : Grid) → ShortSides g.sides → length (filled_cells g) ≤ 512
 unfolding filled_cells
 filled_small g f =
     let a = keep_length (λ u. eqb (byte_at g u) 1) (box g.sides) in
@@ -240,7 +240,7 @@ origin-in [] f = (omega arith, omega arith, omega arith)
 origin-in (u ∷ us) f = f u (Memᴰ.head refl)
 
 -- as the code writes the pose of a grid: the codes of its filled cells, and that of their first
-module _ (order : List ℕ) (g : Grid) (fit : Fit g.sides) (pose : Pose) (long : length pose.codes ≡ 512) (n : ℕ) (many : n ≡ length (filled_cells g)) (codes : List ℕ)
+module _ (order : List ℕ) (g : Grid) (short : ShortSides g.sides) (pose : Pose) (long : length pose.codes ≡ 512) (n : ℕ) (many : n ≡ length (filled_cells g)) (codes : List ℕ)
     (written : codes ≡ paste pose.codes 0 (map code_of (filled_cells g)) n) (first : ℕ)
     (found : cell_of first ≡ origin (sort (cell_ahead order) (map cell_of (take n codes)))) where
   abbrev written_pose : Pose
@@ -250,10 +250,10 @@ module _ (order : List ℕ) (g : Grid) (fit : Fit g.sides) (pose : Pose) (long :
   codes_cells =
       let us = filled_cells g in
       let long-codes = length-map us code_of in
-      let few = filled_small g fit in
+      let few = filled_small g short in
       ap (λ (xs : List ℕ). map cell_of (take n xs)) written
       ∙ ap (map cell_of) (pasted_there pose.codes (map code_of us) 0 n (omega arith) (omega arith) ∙ take_all n (map code_of us) (omega arith))
-      ∙ codes_back us (filled_eight g fit)
+      ∙ codes_back us (filled_eight g short)
 
   first_is : cell_of first ≡ origin (sort (cell_ahead order) (filled_cells g))
   first_is = found ∙ ap (λ (us : List Cell). origin (sort (cell_ahead order) us)) codes_cells
@@ -262,7 +262,7 @@ module _ (order : List ℕ) (g : Grid) (fit : Fit g.sides) (pose : Pose) (long :
   unfolding cells_in origin_in variant_in
   pose_of =
       record {
-        stands = record { small = (let few = filled_small g fit in omega arith); origin_is = found };
+        stands = record { small = (let few = filled_small g short in omega arith); origin_is = found };
         cells = codes_cells;
       }
 

@@ -19,7 +19,7 @@ use Rattle.lists.proofs.ListLaws.{all_get_or, any_at, how_many_any, how_many_pos
 use Rattle.definitions.specs.Grid.{Sides, Grid, volume}
 use Rattle.definitions.specs.Refusals.{sides_of, grid_of, is_side, sides_fit, cells_lie, are_bits, some_filled, copy_count, board_cell_count, row, piece_of}
 use Rattle.definitions.specs.declared.Record.{Record}
-use Rattle.shape.specs.Coords.{as_sides, Fit}
+use Rattle.shape.specs.Coords.{as_sides, ShortSides}
 use Rattle.shape.specs.Grids.{as_grid, Whole}
 use Rattle.shape.specs.CubicGrids.{grid_of as cubic}
 use Rattle.shape.specs.declared.cubic_grid.CubicGrid.{CubicGrid}
@@ -45,7 +45,7 @@ side_small : (n : ℕ) → T (is_side n) → n ≤ 8
 unfolding is_side
 side_small n h = leb-true n 8 (is_true (leb n 8) (and_right (leb 1 n) (leb n 8) h))
 
-pub sides_small : (r : Record) → T (sides_fit r) → Fit (sides_of r)
+pub sides_small : (r : Record) → T (sides_fit r) → ShortSides (sides_of r)
 unfolding sides_fit sides_of
 sides_small r h =
     let h2 = and_right (is_side r.a) (is_side r.b && is_side r.c) h in
@@ -108,7 +108,7 @@ module _ (bytes : List ℕ) (r : Record) (s : Coord) (cells : List ℕ) (e : as_
   grid_is h = grid_path e h
 
   pub grid_whole : T (sides_fit r) → length cells ≡ volume (sides_of r) → Whole s cells
-  grid_whole f h = record { fit = subst Fit (sym e) (sides_small r f); size = h ∙ ap volume (sym e) }
+  grid_whole f h = record { short = subst ShortSides (sym e) (sides_small r f); size = h ∙ ap volume (sym e) }
 
 sum_bits : (xs : List ℕ) → T (all (λ n. leb n 1) xs) → sum xs ≡ how_many (eqb 1) xs
 sum_bits [] h = refl

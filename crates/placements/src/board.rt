@@ -3,7 +3,7 @@ ghost use Rattle.std.specs.Prelude.{◌≡◌, map, ◌≤◌, T, eqb, ltb, leng
 ghost use Rattle.lists.specs.Lists.{all, before, below};
 ghost use Rattle.definitions.specs.Grid.{volume};
 ghost use Rattle.definitions.specs.Stripping.{FitsIn};
-ghost use Rattle.shape.specs.Coords.{as_sides, as_cell, Fit};
+ghost use Rattle.shape.specs.Coords.{as_sides, as_cell, ShortSides};
 ghost use Rattle.placements.specs.Stripping.{lent_place};
 
 use shape::{Coord, cells};
@@ -25,7 +25,7 @@ pub fn number_places(places: &[u16], scans: &mut [u8])
 #[tactic(auto, using(shape::proofs::PlaceLaws::volume_fits))]
 pub fn put_back(places: &mut [u16], s: Coord, at: Coord, lent: Coord)
     requires { T (all (λ i. ltb i (volume (as_sides s))) places.old)
-        × Fit (as_sides lent) × FitsIn (record { lent = as_sides lent; at = as_cell at }) (as_sides s) }
+        × ShortSides (as_sides lent) × FitsIn (record { lent = as_sides lent; at = as_cell at }) (as_sides s) }
     ensures { let f = lent_place (as_sides s) (record { lent = as_sides lent; at = as_cell at }) in
         places.new ≡ map f places.old }
 {

@@ -6,7 +6,7 @@ ghost use Rattle.definitions.specs.Grid.{volume, filled_cells};
 ghost use Rattle.definitions.specs.Maps.{map_of, map_grid};
 ghost use Rattle.definitions.specs.Scan.{cell_ahead};
 ghost use Rattle.definitions.specs.Placements.{origin};
-ghost use Rattle.shape.specs.Coords.{as_sides, as_cell, Fit};
+ghost use Rattle.shape.specs.Coords.{as_sides, as_cell, ShortSides};
 ghost use Rattle.shape.specs.CubicGrids.{grid_of};
 ghost use Rattle.shape.specs.Grids.{as_grid};
 ghost use Rattle.shape.specs.Orders.{axis_list};
@@ -52,7 +52,7 @@ fn code_of(u: Coord) -> u16
 
 // The codes of a grid's filled cells, x slowest, z fastest, to the front of a slice; and how many they are.
 fn list_filled(cells: &[u8], s: Coord, codes: &mut [u16]) -> usize
-    requires { Fit (as_sides s) × (volume (as_sides s) ≤ length cells.now) × (volume (as_sides s) ≤ length codes.old) }
+    requires { ShortSides (as_sides s) × (volume (as_sides s) ≤ length cells.now) × (volume (as_sides s) ≤ length codes.old) }
     ensures { let us = filled_cells (as_grid s cells.now) in
         (result ≡ length us) × (codes.new ≡ paste codes.old 0 (map code_of us) result) }
 {
@@ -101,14 +101,14 @@ impl Pose {
     // The origin.
     #[tactic(auto, unfolding(crate::specs::Poses::origin_in))]
     pub fn origin(&self) -> Coord
-        ensures { as_cell result ≡ origin_in self.now }
+        ensures { (as_cell result ≡ origin_in self.now) × (result.0 ≤ 1023) × (result.1 ≤ 7) × (result.2 ≤ 7) }
     {
         cell_of(self.origin)
     }
 
     // The pose becomes that of a grid. What lies behind its codes stays.
     fn put(&mut self, cells: &[u8], s: Coord, first: Axis, second: Axis, third: Axis)
-        requires { Fit (as_sides s) × (volume (as_sides s) ≤ length cells.now) }
+        requires { ShortSides (as_sides s) × (volume (as_sides s) ≤ length cells.now) }
         ensures { let g = as_grid s cells.now in
             let order = axis_list first second third in
             PoseOf order g self.new × (self.new ≡ with_pose order (filled_cells g) self.old) }

@@ -4,7 +4,7 @@ ghost use Rattle.lists.specs.Lists.{keep, below};
 ghost use Rattle.definitions.specs.Grid.{volume, filled_cells};
 ghost use Rattle.definitions.specs.Catalogue.{touches, reached, hangs};
 ghost use Rattle.masks.specs.Masks.{has};
-ghost use Rattle.shape.specs.Coords.{as_sides, as_cell, Fit};
+ghost use Rattle.shape.specs.Coords.{as_sides, as_cell, ShortSides};
 ghost use Rattle.shape.specs.CubicGrids.{grid_of};
 ghost use Rattle.polycubes.specs.Hanging.{is_filled_at, near_at, wider_at, cells_of, Within};
 
@@ -37,7 +37,7 @@ fn filled_places(grid: &CubicGrid) -> Mask
 
 // Whether the cell at a place shares a face with one of a set.
 fn is_near(s: Coord, got: Mask, j: usize) -> bool
-    requires { Fit (as_sides s) × (volume (as_sides s) ≤ 128) × (j < volume (as_sides s)) }
+    requires { ShortSides (as_sides s) × (volume (as_sides s) ≤ 128) × (j < volume (as_sides s)) }
     ensures { result ≡ near_at (as_sides s) (has got) j }
 {
     let u = cells::cell_at(s, j);
@@ -53,7 +53,7 @@ fn is_near(s: Coord, got: Mask, j: usize) -> bool
 
 // Whether a round has the cell at a place: it is filled, and reached or next to one that is.
 fn is_in_wider(s: Coord, filled: Mask, got: Mask, j: usize) -> bool
-    requires { Fit (as_sides s) × (volume (as_sides s) ≤ 128) × (j < volume (as_sides s)) }
+    requires { ShortSides (as_sides s) × (volume (as_sides s) ≤ 128) × (j < volume (as_sides s)) }
     ensures { result ≡ wider_at (as_sides s) (has filled) (has got) j }
 {
     filled.has_cell(j) && (got.has_cell(j) || is_near(s, got, j))
@@ -61,7 +61,7 @@ fn is_in_wider(s: Coord, filled: Mask, got: Mask, j: usize) -> bool
 
 // One round: the filled cells that are reached, or share a face with one that is.
 fn wider(s: Coord, filled: Mask, got: Mask) -> Mask
-    requires { Fit (as_sides s) × (volume (as_sides s) ≤ 128) }
+    requires { ShortSides (as_sides s) × (volume (as_sides s) ≤ 128) }
     ensures { has result ≡ wider_at (as_sides s) (has filled) (has got) }
 {
     let mut wide = Mask::empty();
@@ -84,7 +84,7 @@ fn first_alone(set: Mask) -> Mask
 
 // The cells that are reached in so many rounds. A round that reaches no further cell is followed by no other that does.
 fn reach(s: Coord, filled: Mask, got: Mask, rounds: usize) -> Mask
-    requires { Fit (as_sides s) × (volume (as_sides s) ≤ 128) × Within (has got) (has filled) }
+    requires { ShortSides (as_sides s) × (volume (as_sides s) ≤ 128) × Within (has got) (has filled) }
     ensures within { Within (has result) (has filled) }
     ensures cells { let t = as_sides s in
         cells_of t (has result) ≡ reached rounds (cells_of t (has filled)) (cells_of t (has got)) }

@@ -3,7 +3,7 @@ ghost use Rattle.std.specs.Prelude.{◌≡◌, ◌-◌, ◌/◌, ◌≤◌, leng
 ghost use Rattle.definitions.specs.Emission.{emits};
 ghost use Rattle.definitions.specs.Grid.{volume};
 ghost use Rattle.definitions.specs.Catalogue.{beginning_with, catalogue, in_box_of, is_needed};
-ghost use Rattle.shape.specs.Coords.{as_sides, Fit};
+ghost use Rattle.shape.specs.Coords.{as_sides, ShortSides};
 ghost use Rattle.polycubes.specs.Emission.{emitted_of, as_entries};
 ghost use Rattle.polycubes.specs.Walk.{Filled, front_of};
 
@@ -13,7 +13,7 @@ use shape::{Coord, CubicGrid, cells};
 
 // The filling that stands in the entry: on the page, if it is one.
 fn emit_filling(sides: Coord, entry: &[u8; 21], entries: &mut [u8], e: Emission) -> Emission
-    requires { Fit (as_sides sides) × Filled (as_sides sides) entry.now (volume (as_sides sides)) }
+    requires { ShortSides (as_sides sides) × Filled (as_sides sides) entry.now (volume (as_sides sides)) }
     ensures { let s = as_sides sides in
         let found = beginning_with s (front_of entry.now (volume s)) 0 0 in
         emitted_of result entries.new ≡ emits (length entries.old / 21) (as_entries found) (emitted_of e entries.old) }
@@ -38,7 +38,7 @@ fn walk(
     entries: &mut [u8],
     e: Emission,
 ) -> Emission
-    requires { Fit (as_sides sides) × Filled (as_sides sides) entry.old i }
+    requires { ShortSides (as_sides sides) × Filled (as_sides sides) entry.old i }
     ensures page { let s = as_sides sides in
         let found = beginning_with s (front_of entry.old i) (volume s - i) k in
         emitted_of result entries.new ≡ emits (length entries.old / 21) (as_entries found) (emitted_of e entries.old) }
@@ -64,7 +64,7 @@ fn walk(
 
 // The entries in a box.
 fn list_box(n: usize, sides: Coord, entries: &mut [u8], e: Emission) -> Emission
-    requires { Fit (as_sides sides) × (volume (as_sides sides) ≤ 18) }
+    requires { ShortSides (as_sides sides) × (volume (as_sides sides) ≤ 18) }
     ensures { let found = in_box_of n (as_sides sides) in
         emitted_of result entries.new ≡ emits (length entries.old / 21) (as_entries found) (emitted_of e entries.old) }
 {
@@ -78,7 +78,7 @@ fn list_box(n: usize, sides: Coord, entries: &mut [u8], e: Emission) -> Emission
 // Whether a box is one that entries of n cells can need.
 #[tactic(auto, unfolding(definitions::specs::Catalogue::is_needed))]
 fn is_needed(n: usize, s: Coord) -> bool
-    requires { (n ≤ 6) × Fit (as_sides s) }
+    requires { (n ≤ 6) × ShortSides (as_sides s) }
     ensures { result ≡ is_needed n (as_sides s) }
 {
     s.0 + s.1 + s.2 <= n + 2 && s.0 <= s.1 && s.1 <= s.2

@@ -19,7 +19,7 @@ use Rattle.definitions.specs.Scan.{scan, scan_number}
 use Rattle.definitions.specs.Kept.{symmetries}
 use Rattle.theorems.proofs.MapLaws.{mapped_sides}
 use Rattle.theorems.proofs.GroupLaws.{same_grid→eq}
-use Rattle.shape.specs.Coords.{Fit}
+use Rattle.shape.specs.Coords.{ShortSides}
 use Rattle.shape.specs.Places.{cell_at, image_place}
 use Rattle.shape.proofs.PlaceLaws.{place_lt, cell_at_place, cell_in_box, image_in_box}
 use Rattle.shape.proofs.GridLaws.{box_places}
@@ -77,10 +77,11 @@ module _ (order : List ℕ) (g : Grid) (places scans : List ℕ) (n : ℕ) (on :
         ∙ sym (map-map f (cell_at s) (take n places)) ∙ ap (map f) on.cells ∙ sym (map_entries f (record { x = 0; y = 0; z = 0 }) (scan order g))
 
 -- each place of the board's box has a number, and its filled cells can be moved
-pub can_move : (order : List ℕ) (g : Grid) (places scans : List ℕ) (n : ℕ) → OnBoard order g places n → Numbered order g scans → Fit g.sides → CanMove g.sides places scans n
-can_move order g places scans n on num fit =
+pub can_move : (order : List ℕ) (g : Grid) (places scans : List ℕ) (n : ℕ) → OnBoard order g places n → Numbered order g scans → ShortSides g.sides
+    → CanMove g.sides places scans n
+can_move order g places scans n on num short =
     record {
-      fit = fit;
+      short = short;
       within = on.within;
       in_box = on.in_box;
       enough = (let v = volume g.sides in

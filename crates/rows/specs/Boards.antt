@@ -2,7 +2,7 @@
 use Rattle.std.specs.Prelude.{ℕ, ◌+◌, ◌*◌, ◌≤◌, Bool, ◌&&◌, List, ◌++◌, map, ◌≡◌, T, ltb, length, get_or, take, drop}
 use Rattle.lists.specs.Lists.{all, below}
 use Rattle.definitions.specs.Maps.{Map, map_cell}
-use Rattle.shape.specs.Coords.{Fit}
+use Rattle.shape.specs.Coords.{ShortSides}
 use Rattle.shape.specs.Places.{image_place}
 use Rattle.rows.specs.Systems.{images_in}
 use Rattle.definitions.specs.Grid.{Grid, Sides, Cell, box, volume, place_of}
@@ -33,7 +33,7 @@ place_images s m places scans n = map (λ i. get_or scans (image_place m s i) 0)
 
 -- places of a box, and a number for each of its places
 pub record CanMove (s : Sides) (places scans : List ℕ) (n : ℕ) : Type 0 where
-  pub fit : Fit s
+  pub short : ShortSides s
   pub within : n ≤ length places
   pub in_box : T (all (λ i. ltb i (volume s)) (take n places))
   pub enough : volume s ≤ length scans

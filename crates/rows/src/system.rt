@@ -3,7 +3,7 @@ ghost use Rattle.std.specs.Prelude.{◌≡◌, ◌≤◌, length};
 ghost use Rattle.definitions.specs.Placements.{compile};
 ghost use Rattle.definitions.specs.Refusals.{sides_of};
 ghost use Rattle.definitions.specs.Stripping.{FitsIn};
-ghost use Rattle.shape.specs.Coords.{Fit, as_sides};
+ghost use Rattle.shape.specs.Coords.{ShortSides, as_sides};
 ghost use Rattle.placements.specs.Pieces.{framed_in, records_of};
 ghost use Rattle.placements.specs.Trays.{lent_tray};
 ghost use Rattle.rows.specs.Built.{BuiltLent, BuiltSystem, frame_at};
@@ -108,7 +108,7 @@ pub fn build_system(
     chart: &mut Chart,
 ) -> Dims
     requires counted { let c = counted.now in (c.counts.placements ≤ 1024) × RowsFit (compile (lent_tray c.tray)) }
-    requires fit { Fit (as_sides lent) × FitsIn (frame_at lent at) (sides_of counted.now.tray.board) }
+    requires fit { ShortSides (as_sides lent) × FitsIn (frame_at lent at) (sides_of counted.now.tray.board) }
     requires room { 8192 ≤ length work.old }
     ensures { let t = counted.now.tray in
         let tray = framed_in (records_of t.pieces) t.board t.bytes.now (frame_at lent at) in

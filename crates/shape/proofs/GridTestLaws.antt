@@ -9,28 +9,28 @@ use lib.Dec.{ltb, leb}
 use lib.ListN.{length}
 use Rattle.lists.proofs.TestLaws.{and_true_right, and_true_left, not_true}
 use Rattle.definitions.specs.Grid.{Sides, Cell, volume, InBox}
-use Rattle.shape.specs.Coords.{as_sides, Fit, is_fit, lies_in}
+use Rattle.shape.specs.Coords.{as_sides, ShortSides, are_short, lies_in}
 use Rattle.shape.specs.Grids.{as_grid, Whole, is_whole}
 use Rattle.shape.specs.CubicGrids.{grid_of}
 use Rattle.shape.specs.declared.Coord.{Coord}
 use Rattle.shape.specs.declared.cubic_grid.CubicGrid.{CubicGrid}
 
 -- ---- sides
-fit_told : (s : Sides) → is_fit s ≡ true → Fit s
-unfolding is_fit
-fit_told s e =
+short_told : (s : Sides) → are_short s ≡ true → ShortSides s
+unfolding are_short
+short_told s e =
     let f = and_true_right (leb s.a 8) _ e in
     record { a = leb-true s.a 8 (and_true_left _ _ e); b = leb-true s.b 8 (and_true_left _ _ f); c = leb-true s.c 8 (and_true_right (leb s.b 8) _ f) }
 
-fit_yes : (s : Sides) → Fit s → is_fit s ≡ true
-unfolding is_fit
-fit_yes s f = ap₂ ◌&&◌ (le-leb s.a 8 f.a) (ap₂ ◌&&◌ (le-leb s.b 8 f.b) (le-leb s.c 8 f.c))
+short_yes : (s : Sides) → ShortSides s → are_short s ≡ true
+unfolding are_short
+short_yes s f = ap₂ ◌&&◌ (le-leb s.a 8 f.a) (ap₂ ◌&&◌ (le-leb s.b 8 f.b) (le-leb s.c 8 f.c))
 
-pub fit_cells : (s : Sides) → Fit s → cond (is_fit s) (volume s) 0 ≡ volume s
-fit_cells s f = ap (λ (b : Bool). cond b (volume s) 0) (fit_yes s f)
+pub short_cells : (s : Sides) → ShortSides s → cond (are_short s) (volume s) 0 ≡ volume s
+short_cells s f = ap (λ (b : Bool). cond b (volume s) 0) (short_yes s f)
 
-pub no_cells : (s : Sides) → (Fit s → ⊥) → 0 ≡ cond (is_fit s) (volume s) 0
-no_cells s n = sym (ap (λ (b : Bool). cond b (volume s) 0) (not_true (is_fit s) (λ e. n (fit_told s e))))
+pub no_cells : (s : Sides) → (ShortSides s → ⊥) → 0 ≡ cond (are_short s) (volume s) 0
+no_cells s n = sym (ap (λ (b : Bool). cond b (volume s) 0) (not_true (are_short s) (λ e. n (short_told s e))))
 
 -- ---- cells in a box
 lies_told : (s : Sides) (u : Cell) → lies_in s u ≡ true → InBox s u
@@ -50,13 +50,13 @@ lies_no s u n = not_true (lies_in s u) (λ e. n (lies_told s u e))
 whole_told : (s : Coord) (cells : List ℕ) → is_whole (as_grid s cells) ≡ true → Whole s cells
 unfolding is_whole
 whole_told s cells e = record {
-  fit = fit_told (as_sides s) (and_true_left _ _ e);
-  size = eqb-true (length cells) (volume (as_sides s)) (and_true_right (is_fit (as_sides s)) _ e);
+  short = short_told (as_sides s) (and_true_left _ _ e);
+  size = eqb-true (length cells) (volume (as_sides s)) (and_true_right (are_short (as_sides s)) _ e);
 }
 
 whole_yes : (s : Coord) (cells : List ℕ) → Whole s cells → is_whole (as_grid s cells) ≡ true
 unfolding is_whole
-whole_yes s cells w = ap₂ ◌&&◌ (fit_yes (as_sides s) w.fit) (eq-eqb (length cells) (volume (as_sides s)) w.size)
+whole_yes s cells w = ap₂ ◌&&◌ (short_yes (as_sides s) w.short) (eq-eqb (length cells) (volume (as_sides s)) w.size)
 
 whole_no : (s : Coord) (cells : List ℕ) → (Whole s cells → ⊥) → is_whole (as_grid s cells) ≡ false
 whole_no s cells n = not_true (is_whole (as_grid s cells)) (λ e. n (whole_told s cells e))

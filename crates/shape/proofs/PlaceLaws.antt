@@ -16,7 +16,7 @@ use Rattle.definitions.specs.Moves.Move.{turn, mirroring}
 pub use Rattle.theorems.proofs.MapLaws.{digits_lt, place_lt}
 use Rattle.theorems.proofs.MapLaws.{cell_path, byte_with}
 use Rattle.theorems.proofs.MapNumberLaws.{map_done, map_fits, sides_back}
-use Rattle.shape.specs.Coords.{Fit}
+use Rattle.shape.specs.Coords.{ShortSides}
 use Rattle.shape.specs.Places.{cell_at, image_place, source_place}
 
 -- ---- digits: of radix b, the low digit y
@@ -148,25 +148,25 @@ mapped_place n g j h =
     t = map_sides (map_of n) g.sides
 
 -- ---- limits
-pub side_fit : (s : Sides) → Fit s → (i : ℕ) → side s i ≤ 8
+pub side_short : (s : Sides) → ShortSides s → (i : ℕ) → side s i ≤ 8
 unfolding side
-side_fit s h i = go (eqb i 0) (eqb i 1)
+side_short s h i = go (eqb i 0) (eqb i 1)
   where
     go : (x y : Bool) → cond x s.a (cond y s.b s.c) ≤ 8
     go true y = h.a
     go false true = h.b
     go false false = h.c
 
-pub mapped_fit : (m : Map) (s : Sides) → Fit s → Fit (map_sides m s)
+pub mapped_short : (m : Map) (s : Sides) → ShortSides s → ShortSides (map_sides m s)
 unfolding map_sides
-mapped_fit m s h = record { a = side_fit s h m.axis_x; b = side_fit s h m.axis_y; c = side_fit s h m.axis_z }
+mapped_short m s h = record { a = side_short s h m.axis_x; b = side_short s h m.axis_y; c = side_short s h m.axis_z }
 
 pub two_sides : (b c : ℕ) → b ≤ 8 → c ≤ 8 → b * c ≤ 64
 two_sides b c h k = mul-le-mul h k
 
-pub volume_small : (s : Sides) → Fit s → (s.a * s.b ≤ 64) × (volume s ≤ 512)
+pub volume_small : (s : Sides) → ShortSides s → (s.a * s.b ≤ 64) × (volume s ≤ 512)
 unfolding volume
 volume_small s h = let f : s.a * s.b ≤ 64 = mul-le-mul h.a h.b in (f, mul-le-mul f h.c)
 
-pub volume_fits : (s : Sides) → Fit s → volume s ≤ 512
+pub volume_fits : (s : Sides) → ShortSides s → volume s ≤ 512
 volume_fits s h = (volume_small s h).1

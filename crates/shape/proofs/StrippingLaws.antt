@@ -23,11 +23,11 @@ use Rattle.theorems.proofs.GroupLaws.{bytes_whole, coordinate_below}
 use Rattle.theorems.proofs.GridLaws.{length_box, set_down_none}
 use Rattle.theorems.proofs.StrippingLaws.{strip_is, strip_empty, strip_fits, some_or_none, corner_none}
 use Rattle.theorems.proofs.StrippedLaws.{Bounds, corner_by, strip_by}
-use Rattle.shape.specs.Coords.{Fit, as_cell}
+use Rattle.shape.specs.Coords.{ShortSides, as_cell}
 use Rattle.shape.specs.Places.{cell_at}
 use Rattle.shape.specs.declared.stripping.Span.{Span}
 use Rattle.shape.specs.Stripping.{both, sides_between, part_of}
-use Rattle.shape.proofs.PlaceLaws.{place_lt, cell_at_place, cell_in_box, place_of_cell, side_fit}
+use Rattle.shape.proofs.PlaceLaws.{place_lt, cell_at_place, cell_in_box, place_of_cell, side_short}
 
 -- ---- a number for each axis
 abbrev zeros : Cell
@@ -126,7 +126,7 @@ module _ {s : Sides} {cells : List ℕ} {i : ℕ} {low high : Cell} (m : AllMet 
   pub all_same : (get_or cells i 0 ≡ 1 → ⊥) → AllMet s cells (i + 1) low high
   all_same not-one = record { within = omega arith; on = λ a. met_same (on_axis s a) cells i (m.on a) not-one }
 
-  pub all_more : get_or cells i 0 ≡ 1 → Fit s → length cells ≡ volume s → (u : Cell) → u ≡ cell_at s i → {low' high' : Cell} → low' ≡ both min low u
+  pub all_more : get_or cells i 0 ≡ 1 → ShortSides s → length cells ≡ volume s → (u : Cell) → u ≡ cell_at s i → {low' high' : Cell} → low' ≡ both min low u
       → high' ≡ both (λ m n. max m (n + 1)) high u → AllMet s cells (i + 1) low' high'
   all_more one fit whole u e p q = record {
     within = omega arith;
@@ -134,7 +134,7 @@ module _ {s : Sides} {cells : List ℕ} {i : ℕ} {low high : Cell} (m : AllMet 
         let c : coordinate u a ≡ on_axis s a i = ap (λ (v : Cell). coordinate v a) e in
         let b = coordinate_below s (cell_at s i) (cell_in_box s i (omega arith)) a in
         rw (p, q, both_at min low u a, both_at (λ m n. max m (n + 1)) high u a, c)
-        (met_more (on_axis s a) cells i (m.on a) one (omega (arith, side_fit s fit a)));
+        (met_more (on_axis s a) cells i (m.on a) one (omega (arith, side_short s fit a)));
   }
 
 -- the bounds that a span gives: 8 and 0 where there is none yet
@@ -147,7 +147,7 @@ high_of None = zeros
 high_of (Some span) = as_cell span.high
 
 -- the first filled cell widens these to its own
-pub first_low : {s : Sides} (u : Cell) → Fit s → InBox s u → u ≡ both min (low_of None) u
+pub first_low : {s : Sides} (u : Cell) → ShortSides s → InBox s u → u ≡ both min (low_of None) u
 first_low u f b = cell_path (omega arith) (omega arith) (omega arith)
 
 pub first_high : (u : Cell) → both (λ m n. n + 1) u u ≡ both (λ m n. max m (n + 1)) (high_of None) u
@@ -211,8 +211,8 @@ module _ {s : Sides} {cells : List ℕ} {i : ℕ} {low high : Cell} (m : AllMet 
   found_some some e = let b = met_bounds some in (sym (corner_by b), e ∙ sym (ap (λ (h : Grid). h.sides) (strip_by b)))
 
 -- ---- a part of a grid's box, byte by byte
-pub part_fit : {s t : Sides} {at : Cell} → Fit s → FitsIn (record { lent = s; at = at }) t → Fit t
-part_fit f w = record { a = omega (arith, f.a, w.along_x); b = omega (arith, f.b, w.along_y); c = omega (arith, f.c, w.along_z) }
+pub part_short : {s t : Sides} {at : Cell} → ShortSides s → FitsIn (record { lent = s; at = at }) t → ShortSides t
+part_short f w = record { a = omega (arith, f.a, w.along_x); b = omega (arith, f.b, w.along_y); c = omega (arith, f.c, w.along_z) }
 
 pub part_in_box : (s t : Sides) (at u : Cell) → FitsIn (record { lent = s; at = at }) t → InBox t u → InBox s (set_down at u)
 unfolding set_down

@@ -35,14 +35,14 @@ as_map e =
     }
 
 -- no side is above 8
-pub record Fit (s : Sides) : Type 0 where
+pub record ShortSides (s : Sides) : Type 0 where
   pub a : s.a ≤ 8
   pub b : s.b ≤ 8
   pub c : s.c ≤ 8
 
 -- whether no side is above 8, and whether a cell lies in a box
-unfoldable pub is_fit : Sides → Bool
-is_fit s = leb s.a 8 && (leb s.b 8 && leb s.c 8)
+unfoldable pub are_short : Sides → Bool
+are_short s = leb s.a 8 && (leb s.b 8 && leb s.c 8)
 
 unfoldable pub lies_in : Sides → Cell → Bool
 lies_in s u = ltb u.x s.a && (ltb u.y s.b && ltb u.z s.c)

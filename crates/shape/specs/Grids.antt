@@ -2,7 +2,7 @@
 use Rattle.std.specs.Prelude.{ℕ, Bool, true, false, cond, ◌&&◌, List, [], ◌∷◌, ◌≡◌, ltb, eqb, length}
 use Rattle.lists.specs.Lists.{less, same}
 use Rattle.definitions.specs.Grid.{Sides, Cell, Grid, volume, byte_at, same_grid, grid_ahead}
-use Rattle.shape.specs.Coords.{as_sides, Fit, is_fit, lies_in}
+use Rattle.shape.specs.Coords.{as_sides, ShortSides, are_short, lies_in}
 use Rattle.shape.specs.declared.Coord.{Coord}
 use Rattle.std.specs.declared.cmp.Ordering.{Ordering}
 use Rattle.std.specs.declared.cmp.Ordering.TheVariants.{Less, Equal, Greater}
@@ -12,12 +12,12 @@ as_grid s cells = record { sides = as_sides s; cells = cells }
 
 -- no side is above 8, and there is a byte for each cell
 pub record Whole (s : Coord) (cells : List ℕ) : Type 0 where
-  pub fit : Fit (as_sides s)
+  pub short : ShortSides (as_sides s)
   pub size : length cells ≡ volume (as_sides s)
 
 -- whether that is so of a grid
 unfoldable pub is_whole : Grid → Bool
-is_whole g = is_fit g.sides && eqb (length g.cells) (volume g.sides)
+is_whole g = are_short g.sides && eqb (length g.cells) (volume g.sides)
 
 -- the byte of a cell of a grid, whatever its cells and sides are; 0 where it is not whole, or its box has no such cell
 unfoldable pub cell_seen : Grid → Cell → ℕ

@@ -14,7 +14,7 @@ use super::{Coord, CubicGrid, cells};
 pub fn is_whole(cells: &[u8], s: Coord) -> bool
     ensures { IsTrue result ↔ Whole s cells.now }
 {
-    cells::is_fit(s) && cells.len() == cells::fit_volume(s)
+    cells::are_short(s) && cells.len() == cells::volume_of_short(s)
 }
 
 // The byte of a cell; 0 where the grid is not whole, or the cell lies outside its box.

@@ -16,13 +16,13 @@ pub(crate) struct Line {
 impl Line {
     ghost use Rattle.std.specs.Prelude.{◌≡◌, ◌+◌, ◌*◌, ◌<◌, ◌≤◌, length};
     ghost use Rattle.std.proofs.Math.Seq.{paste};
-    ghost use Rattle.shape.specs.Coords.{as_sides, axis_number, flip_number, Fit};
+    ghost use Rattle.shape.specs.Coords.{as_sides, axis_number, flip_number, ShortSides};
     ghost use Rattle.shape.specs.Lines.{stride_of, RunsAlong, step_to, line_of, layer_of, LineIn, LayerIn};
 
     // What a step along an axis adds to a place.
     #[tactic(auto, using(crate::proofs::PlaceLaws::two_sides), unfolding(crate::specs::Lines::stride_of))]
     fn stride(axis: Axis, s: Coord) -> usize
-        requires { Fit (as_sides s) }
+        requires { ShortSides (as_sides s) }
         ensures { (result ≡ stride_of (as_sides s) (axis_number axis)) × (result ≤ 64) }
     {
         match axis {
@@ -34,7 +34,7 @@ impl Line {
 
     // The line that runs along an axis of a box.
     pub(crate) fn along(axis: Axis, flip: bool, s: Coord) -> Line
-        requires { Fit (as_sides s) }
+        requires { ShortSides (as_sides s) }
         ensures { RunsAlong result (as_sides s) (axis_number axis) (flip_number flip) }
     {
         Line {

@@ -99,7 +99,7 @@ fn copy_part(grid: &CubicGrid, part: Window, out: &mut [u8], start: usize)
     ensures { out.new ≡ paste out.old start (part_of (grid_of grid.now) (as_cell part.at) (as_sides part.sides)) (volume (as_sides part.sides)) }
 {
     // the bytes of the part's first j cells are written
-    for j in 0..cells::fit_volume(part.sides) {
+    for j in 0..cells::volume_of_short(part.sides) {
         let u = cells::cell_at(part.sides, j);
         out[start + j] = grid.get(part.at.set_down(u));
     }

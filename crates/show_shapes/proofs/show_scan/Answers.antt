@@ -4,4 +4,4 @@ use Rattle.shape.proofs.PlaceLaws.{volume_small}
 use Rattle.show_shapes.proofs.show_scan.Goals as goal
 
 pub plan_coords-n-requires : goal.plan_coords-n-requires
-plan_coords-n-requires g c = let grid = c.args.grid.now in (volume_small (as_sides grid.sides) grid.whole.fit).1
+plan_coords-n-requires g c = let grid = c.args.grid.now in (volume_small (as_sides grid.sides) grid.whole.short).1

@@ -4,7 +4,7 @@ use lib.ListN.{set}
 use Rattle.definitions.specs.Grid.{InBox, volume, place_of, set_down}
 use Rattle.shape.specs.Coords.{as_sides, as_cell}
 use Rattle.shape.specs.Places.{cell_at}
-use Rattle.shape.proofs.StrippingLaws.{part_fit, part_in_box}
+use Rattle.shape.proofs.StrippingLaws.{part_short, part_in_box}
 use Rattle.placements.specs.Stripping.{lent_place}
 use Rattle.placements.proofs.FittingLaws.{place_in}
 use Rattle.placements.proofs.StrippingLaws.{put_at, put_next}
@@ -21,7 +21,7 @@ pub cell_at-u-requires : goal.cell_at-u-requires
 cell_at-u-requires c =
     let a = c.args in
     let i = c.loop-place.place-index in (
-      part_fit c.requires.1 c.requires.2,
+      part_short c.requires.1 c.requires.2,
       subst (λ (k : ℕ). k < volume (as_sides a.s)) (sym (read (goal.at.cell_at-u-requires c).In-loop-place))
           (place_in a.places.now (volume (as_sides a.s)) c.requires.0 i c.loop-place-test.true),
     )

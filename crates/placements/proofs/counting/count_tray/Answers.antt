@@ -19,7 +19,7 @@ use Rattle.placements.proofs.counting.count_tray.Goals.{After-merge-kinds}
 pub plan_coords-size-requires : goal.plan_coords-size-requires
 plan_coords-size-requires c =
     let grid = c.board_grid-grid.result in
-    (volume_small (as_sides grid.sides) grid.whole.fit).1
+    (volume_small (as_sides grid.sides) grid.whole.short).1
 
 pub smallest_maps-small-requires : goal.smallest_maps-small-requires
 smallest_maps-small-requires c = sound_pieces c.args.tray

@@ -5,14 +5,14 @@ use Rattle.std.proofs.lemmas.List.{length-take}
 use Rattle.definitions.specs.Grid.{InBox, volume}
 use Rattle.shape.specs.Coords.{as_sides, as_cell}
 use Rattle.shape.specs.Grids.{as_grid}
-use Rattle.shape.proofs.GridTestLaws.{fit_cells}
+use Rattle.shape.proofs.GridTestLaws.{short_cells}
 use Rattle.placements.proofs.PoseLaws.{listed_none, listed_in, listed_yes, listed_no, listed_all}
 use Rattle.placements.proofs.poses.list_filled.Goals as goal
 use Rattle.placements.proofs.poses.list_filled.Goals.{After-volume_of-v, In-loop-cell, then-cell-eq1, else-cell-eq1}
 
 -- the box is small, so its volume is what is counted to; and the codes have room
 volume_is : (c : After-volume_of-v) → c.volume_of-v.result ≡ volume (as_sides c.args.s)
-volume_is c = c.volume_of-v.ensures.0 ∙ fit_cells (as_sides c.args.s) c.requires.0
+volume_is c = c.volume_of-v.ensures.0 ∙ short_cells (as_sides c.args.s) c.requires.0
 
 room : (c : After-volume_of-v) → c.volume_of-v.result ≤ length c.args.codes.now
 room c = let is = volume_is c in omega (arith, c.requires.2)

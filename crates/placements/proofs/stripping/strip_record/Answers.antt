@@ -9,7 +9,7 @@ use Rattle.placements.proofs.stripping.strip_record.Goals as goal
 pub strip_grid-window-requires : goal.strip_grid-window-requires
 strip_grid-window-requires c =
     let grid = c.grid_of.result in
-    omega (arith, (volume_small (as_sides grid.sides) grid.whole.fit).1, c.requires.2)
+    omega (arith, (volume_small (as_sides grid.sides) grid.whole.short).1, c.requires.2)
 
 pub returns : goal.returns
 returns c =

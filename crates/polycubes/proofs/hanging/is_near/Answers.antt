@@ -9,7 +9,7 @@ use Rattle.definitions.specs.Catalogue.{touches}
 use Rattle.masks.specs.Masks.{has}
 use Rattle.shape.specs.Coords.{as_sides}
 use Rattle.shape.specs.Places.{cell_at}
-use Rattle.shape.proofs.GridTestLaws.{fit_cells}
+use Rattle.shape.proofs.GridTestLaws.{short_cells}
 use Rattle.polycubes.specs.Hanging.{touched_at, near_at}
 use Rattle.polycubes.proofs.hanging.is_near.Goals as goal
 use Rattle.polycubes.proofs.hanging.is_near.Goals.{else-has_cell-via-then-has_cell+else-touches, else-has_cell-via-else-has_cell}
@@ -21,7 +21,7 @@ returns-then-touches c =
     let test = touched_at (as_sides a.s) (has a.got) a.j in
     let touched = ap₂ touches (sym c.cell_at-u.ensures.0) (sym c.cell_at.ensures.0) ∙ sym c.touches.ensures ∙ c.if-touches.true in
     sym (any_found test c.loop-i.i c.volume_of-v.result c.loop-i-test.true (ap₂ ◌&&◌ (sym c.has_cell.ensures ∙ c.if-has_cell.true) touched))
-    ∙ c.loop-i.invariant ∙ ap (λ (n : ℕ). any test (below n)) (c.volume_of-v.ensures.0 ∙ fit_cells (as_sides a.s) c.requires.0)
+    ∙ c.loop-i.invariant ∙ ap (λ (n : ℕ). any test (below n)) (c.volume_of-v.ensures.0 ∙ short_cells (as_sides a.s) c.requires.0)
 
 pub loop-i-preserved : goal.loop-i-preserved
 loop-i-preserved c =
@@ -44,4 +44,4 @@ returns c =
     let a = c.args in
     let test = touched_at (as_sides a.s) (has a.got) a.j in
     sym (any_none test c.loop-i.i c.volume_of-v.result c.loop-i-test.false)
-    ∙ c.loop-i.invariant ∙ ap (λ (n : ℕ). any test (below n)) (c.volume_of-v.ensures.0 ∙ fit_cells (as_sides a.s) c.requires.0)
+    ∙ c.loop-i.invariant ∙ ap (λ (n : ℕ). any test (below n)) (c.volume_of-v.ensures.0 ∙ short_cells (as_sides a.s) c.requires.0)

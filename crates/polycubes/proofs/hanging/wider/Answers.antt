@@ -3,7 +3,7 @@ use mathlib.Core.Path.{sym, ap, ◌∙◌}
 use native.Mathlib.Omega.{arith}
 use Rattle.masks.specs.Masks.{has}
 use Rattle.shape.specs.Coords.{as_sides}
-use Rattle.shape.proofs.GridTestLaws.{fit_cells}
+use Rattle.shape.proofs.GridTestLaws.{short_cells}
 use Rattle.polycubes.specs.Hanging.{wider_at}
 use Rattle.polycubes.proofs.SetLaws.{up_to_none, up_to_with, up_to_without, up_to_all}
 use Rattle.polycubes.proofs.HangingLaws.{wider_inside}
@@ -18,7 +18,7 @@ loop-j-preserved c =
     let a = c.args in
     let round = wider_at (as_sides a.s) (has a.filled) (has a.got) in
     let l = c.loop-j in
-    let few = fit_cells (as_sides a.s) c.requires.0 in
+    let few = short_cells (as_sides a.s) c.requires.0 in
     elim c.if-is_in_wider.branch [
       | then-is_in_wider w ↦
           ap has w.wide-is ∙ w.with_cell-wide.ensures
@@ -32,4 +32,4 @@ returns c =
     let s = as_sides a.s in
     c.loop-j.invariant
     ∙ up_to_all (wider_at s (has a.filled) (has a.got)) c.loop-j.j
-    (λ k e. omega (arith, wider_inside s (has a.filled) (has a.got) k e, fit_cells s c.requires.0, c.volume_of-j-end.ensures))
+    (λ k e. omega (arith, wider_inside s (has a.filled) (has a.got) k e, short_cells s c.requires.0, c.volume_of-j-end.ensures))

@@ -9,7 +9,7 @@ use Rattle.definitions.specs.Grid.{volume}
 use Rattle.definitions.specs.Catalogue.{beginning_with}
 use Rattle.theorems.proofs.EmissionLaws.{emits_done}
 use Rattle.shape.specs.Coords.{as_sides}
-use Rattle.shape.proofs.GridTestLaws.{fit_cells}
+use Rattle.shape.proofs.GridTestLaws.{short_cells}
 use Rattle.polycubes.specs.Walk.{Filled, front_of}
 use Rattle.polycubes.proofs.FillingLaws.{is_filled, left_unfilled, put_back}
 use Rattle.polycubes.proofs.WalkLaws.{after, all_decided, none_left, only_unfilled, then_filled}
@@ -17,7 +17,7 @@ use Rattle.polycubes.proofs.walk.+walk.Goals as goal
 use Rattle.polycubes.proofs.walk.+walk.Goals.{After-volume_of, then-e-via-then-e, then-e-via-else-e+then-left-k}
 
 volume_is : (t : ℕ) (c : After-volume_of t) → c.volume_of.result ≡ volume (as_sides c.args.sides)
-volume_is t c = c.volume_of.ensures.0 ∙ fit_cells (as_sides c.args.sides) c.requires.0
+volume_is t c = c.volume_of.ensures.0 ∙ short_cells (as_sides c.args.sides) c.requires.0
 
 pub overflow_sub-left : goal.overflow_sub-left
 overflow_sub-left t c = let e = volume_is t c in let f = c.requires.1 in omega (arith, f.inside)

@@ -8,7 +8,7 @@ use Rattle.definitions.specs.Grid.{Sides, volume}
 use Rattle.definitions.specs.Catalogue.{cube, box_to, in_box_of, is_needed}
 use Rattle.theorems.proofs.EmissionLaws.{emits_none}
 use Rattle.shape.specs.Coords.{as_cell}
-use Rattle.shape.proofs.GridTestLaws.{fit_cells}
+use Rattle.shape.proofs.GridTestLaws.{short_cells}
 use Rattle.polycubes.specs.Emission.{emitted_of}
 use Rattle.polycubes.proofs.BoxLaws.{all_boxes, before_place, box_by, box_listed, box_passed, small_box}
 use Rattle.polycubes.proofs.WalkLaws.{after, after_same}
@@ -18,7 +18,7 @@ use Rattle.polycubes.proofs.walk.list.Goals.{After-volume_of-i-end, then-is_need
 volume_is : (c : After-volume_of-i-end) → c.volume_of-i-end.result ≡ volume (cube c.args.n)
 volume_is c =
     let h = c.requires in
-    c.volume_of-i-end.ensures.0 ∙ fit_cells (cube c.args.n) (record { a = omega arith; b = omega arith; c = omega arith })
+    c.volume_of-i-end.ensures.0 ∙ short_cells (cube c.args.n) (record { a = omega arith; b = omega arith; c = omega arith })
 
 pub loop-i-init : goal.loop-i-init
 loop-i-init c = sym (emits_none _ _)

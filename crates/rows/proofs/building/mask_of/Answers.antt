@@ -27,8 +27,8 @@ place-requires c =
     let b = a.board.now in
     let room : a.pose.now.size ≤ length a.pose.now.codes = omega arith in
     let landed = landing (sides_of b) b.scans (as_cell a.at) (origin_in a.pose.now) a.pose.now room c.requires.landing
-    c.loop-k.k (omega arith) c.lies_at-u.ensures c.origin-o.ensures c.cell_at.ensures.0 in
-    (b.planned.grid.whole.fit, landed.0)
+    c.loop-k.k (omega arith) c.lies_at-u.ensures c.origin-o.ensures.0 c.cell_at.ensures.0 in
+    (b.planned.grid.whole.short, landed.0)
 
 pub bounds-board-place : goal.bounds-board-place
 bounds-board-place c = omega (arith, numbered_long _ _ _ c.args.board.now.numbered, c.place.ensures.1)
@@ -41,7 +41,7 @@ loop-k-preserved c =
     let number : Cell → ℕ = λ u. get_or b.scans (place_of (sides_of b) (lies (as_cell a.at) (origin_in a.pose.now) u)) 0 in
     let room : a.pose.now.size ≤ length a.pose.now.codes = omega arith in
     let landed = landing (sides_of b) b.scans (as_cell a.at) (origin_in a.pose.now) a.pose.now room c.requires.landing
-    l.k (omega arith) c.lies_at-u.ensures c.origin-o.ensures c.cell_at.ensures.0 in
+    l.k (omega arith) c.lies_at-u.ensures c.origin-o.ensures.0 c.cell_at.ensures.0 in
     let numbered = subst (λ (n : ℕ). get_or b.scans n 0 < 128) (sym c.place.ensures.0) landed.1 in
     mask_next (λ n. number (cell_of (get_or a.pose.now.codes n 0))) (has l.mask) l.k a.pose.now.size (has c.with_cell-mask.result) (omega arith)
     (c.with_cell-mask.ensures ∙ cell_taken _ _ _ numbered

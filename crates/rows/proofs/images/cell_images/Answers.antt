@@ -11,7 +11,9 @@ use Rattle.rows.proofs.images.cell_images.Goals as goal
 
 -- the board's cells can be moved
 movable : (b : NumberedBoard) → let places = b.planned.places.now in CanMove (sides_of b) places b.scans (length places)
-movable b = can_move (order_of b) (board_of b) b.planned.places.now b.scans (length b.planned.places.now) b.planned.on_board b.numbered b.planned.grid.whole.fit
+movable b =
+    let places = b.planned.places.now in
+    can_move (order_of b) (board_of b) places b.scans (length places) b.planned.on_board b.numbered b.planned.grid.whole.short
 
 pub bounds-board-j : goal.bounds-board-j
 bounds-board-j c = omega (arith, (movable c.args.board.now).enough)

@@ -13,10 +13,10 @@ use Rattle.definitions.specs.Answers.{lent_cells}
 use Rattle.definitions.specs.Placements.{compile}
 use Rattle.definitions.specs.Refusals.{sides_of}
 use Rattle.definitions.specs.Stripping.{FitsIn, Frame}
-use Rattle.shape.specs.Coords.{Fit, as_sides}
+use Rattle.shape.specs.Coords.{ShortSides, as_sides}
 use Rattle.shape.specs.declared.Coord.{Coord}
 use Rattle.shape.proofs.PlaceLaws.{volume_small}
-use Rattle.shape.proofs.GridTestLaws.{fit_cells}
+use Rattle.shape.proofs.GridTestLaws.{short_cells}
 use Rattle.placements.specs.declared.counted.CountedTray.{CountedTray}
 use Rattle.placements.specs.Stripping.{lent_place}
 use Rattle.placements.specs.Pieces.{framed_in, records_of}
@@ -48,7 +48,7 @@ module _ (d : CountedTray) (f : Frame) (part : Sides) (is : part ≡ sides_of d.
     scans_put = new_scans (records_of d.tray.pieces) d.tray.board d.tray.bytes.now f part is fits d.places d.counts.size d.counted.on_board put are size room
 
 -- a lent box has at most 512 places
-small : (lent : Coord) → Fit (as_sides lent) → volume (as_sides lent) ≤ 512
+small : (lent : Coord) → ShortSides (as_sides lent) → volume (as_sides lent) ≤ 512
 small lent fit = (volume_small (as_sides lent) fit).1
 
 pub put_back-requires : goal.put_back-requires
@@ -88,7 +88,7 @@ returns c =
     let room : volume f.lent ≤ length a.chart.now.scans = omega arith in
     let built = c.build_lent-placed in
     let scans = c.number_places.new.scans in
-    let size = c.volume_of.ensures.0 ∙ fit_cells _ fit.0 in
+    let size = c.volume_of.ensures.0 ∙ short_cells _ fit.0 in
     let dims : Dims =
     record {
       size = d.counts.size;

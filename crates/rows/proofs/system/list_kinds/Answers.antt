@@ -41,7 +41,7 @@ module _ (d : CountedTray) (long : length d.first ≡ 16) where
       omega arith
 
 few_cells : (g : CubicGrid) → length g.cells.now ≤ 512
-few_cells g = let v = (volume_small (as_sides g.sides) g.whole.fit).1 in let e = g.whole.size in omega arith
+few_cells g = let v = (volume_small (as_sides g.sides) g.whole.short).1 in let e = g.whole.size in omega arith
 
 pub overflow_cast-kinds : goal.overflow_cast-kinds
 overflow_cast-kinds c =

@@ -3,9 +3,9 @@ use Prim.Native.Nat.{ℕ, ◌<◌}
 use mathlib.Core.Path.{◌≡◌, sym, ap, ap₂, ◌∙◌, subst⁻¹, subst₂}
 use Rattle.definitions.specs.Grid.{InBox, place_of, volume}
 use Rattle.definitions.specs.Maps.{map_of, map_cell}
-use Rattle.shape.specs.Coords.{as_sides, as_cell, Fit}
+use Rattle.shape.specs.Coords.{as_sides, as_cell, ShortSides}
 use Rattle.shape.specs.Places.{image_place}
-use Rattle.shape.proofs.PlaceLaws.{mapped_fit, image_in_box, image_lt}
+use Rattle.shape.proofs.PlaceLaws.{mapped_short, image_in_box, image_lt}
 use Rattle.shape.proofs.cells.image_index.Goals as goal
 
 pub place-requires : goal.place-requires
@@ -13,7 +13,7 @@ place-requires c =
     let s = as_sides c.args.s in
     let n = c.args.m.0 in
     let u = c.cell_at-u in (
-      subst⁻¹ Fit c.sides.ensures (mapped_fit (map_of n) s c.requires.0),
+      subst⁻¹ ShortSides c.sides.ensures (mapped_short (map_of n) s c.requires.0),
       subst₂ InBox (sym c.sides.ensures) (sym c.cell.ensures) (image_in_box n s (as_cell u.result) u.ensures.1),
     )
 

@@ -3,16 +3,16 @@ use Prim.Native.Nat.{ℕ, ◌<◌}
 use mathlib.Core.Path.{ap, ap₂, ◌∙◌, subst, subst⁻¹}
 use Rattle.definitions.specs.Grid.{Sides, volume}
 use Rattle.definitions.specs.Maps.{Map, map_of}
-use Rattle.shape.specs.Coords.{as_sides, Fit}
+use Rattle.shape.specs.Coords.{as_sides, ShortSides}
 use Rattle.shape.specs.Places.{image_place, source_place}
-use Rattle.shape.proofs.PlaceLaws.{mapped_fit, map_volume}
+use Rattle.shape.proofs.PlaceLaws.{mapped_short, map_volume}
 use Rattle.shape.proofs.cells.source_index.Goals as goal
 
 pub image_index-requires : goal.image_index-requires
 image_index-requires c =
     let n = c.args.m.0 in
     let e = c.sides.ensures in (
-      subst⁻¹ Fit e (mapped_fit (map_of n) (as_sides c.args.s) c.requires.0),
+      subst⁻¹ ShortSides e (mapped_short (map_of n) (as_sides c.args.s) c.requires.0),
       subst⁻¹ (λ (v : ℕ). c.args.j < v) (ap volume e ∙ map_volume n (as_sides c.args.s)) c.requires.1,
     )
 

@@ -21,14 +21,14 @@ loop-i-preserved c =
       | then-cell-eq1+in-Some w ↦
           let u = w.cell_at-u in
           let here : c.loop-i.span ≡ Some w.in-Some.span = w.in-Some.is in
-          all_more inv h w.if-cell-eq1.true whole.fit whole.size (as_cell u.result) u.ensures.0
+          all_more inv h w.if-cell-eq1.true whole.short whole.size (as_cell u.result) u.ensures.0
           (ap low_of w.span-is ∙ w.with.ensures.0 ∙ ap (λ (s : Option Span). both min (low_of s) (as_cell u.result)) (sym here))
           (ap high_of w.span-is ∙ w.with.ensures.1 ∙ ap (λ (s : Option Span). both (λ m n. max m (n + 1)) (high_of s) (as_cell u.result)) (sym here))
       | then-cell-eq1+in-None w ↦
           let u = w.cell_at-u in
           let here : c.loop-i.span ≡ None = w.in-None.is in
-          all_more inv h w.if-cell-eq1.true whole.fit whole.size (as_cell u.result) u.ensures.0
-          (ap low_of w.span-is ∙ ap as_cell w.of.ensures.0 ∙ first_low (as_cell u.result) whole.fit u.ensures.1
+          all_more inv h w.if-cell-eq1.true whole.short whole.size (as_cell u.result) u.ensures.0
+          (ap low_of w.span-is ∙ ap as_cell w.of.ensures.0 ∙ first_low (as_cell u.result) whole.short u.ensures.1
           ∙ ap (λ (s : Option Span). both min (low_of s) (as_cell u.result)) (sym here))
           (ap high_of w.span-is ∙ w.of.ensures.1 ∙ first_high (as_cell u.result)
           ∙ ap (λ (s : Option Span). both (λ m n. max m (n + 1)) (high_of s) (as_cell u.result)) (sym here))

@@ -6,7 +6,7 @@ use Rattle.definitions.specs.Placements.{compile}
 use Rattle.definitions.specs.Refusals.{first_that_applies, placement_count, sides_of}
 use Rattle.definitions.specs.declared.Config.{Config}
 use Rattle.definitions.specs.Stripping.{FitsIn}
-use Rattle.shape.specs.Coords.{Fit}
+use Rattle.shape.specs.Coords.{ShortSides}
 use Rattle.placements.specs.Counting.{Counted}
 use Rattle.placements.specs.Pieces.{framed_in, records_of, tray_in}
 use Rattle.placements.specs.Stages.{slice_rows}
@@ -82,7 +82,7 @@ build_system-requires-clause-fit c =
     let sides = c.sides_of-sides.ensures in
     let k = c.count_tray-counted in
     let s = c.strip_tray-stripped.ensures.0 in (
-      subst Fit (sym sides) (sides_small a.board (board_fits _ _ _ (lent_passes a.pieces.now a.board a.bytes.now (sym c.in_ok-check_lent.ensures))).0),
+      subst ShortSides (sym sides) (sides_small a.board (board_fits _ _ _ (lent_passes a.pieces.now a.board a.bytes.now (sym c.in_ok-check_lent.ensures))).0),
       subst (λ (t : LentTray). FitsIn (frame_at c.sides_of-sides.result c.strip_tray-stripped.result.at) (sides_of t.board)) (sym k.ensures) (part_fits _ _ _ s _ sides),
     )
 

@@ -3,11 +3,11 @@
 use Rattle.std.proofs.Common.{ℕ, List, ◌≡◌, ◌∙◌, refl, sym, ap, subst, length, get_or, arith}
 use Rattle.definitions.specs.Grid.{Cell, Grid, volume, filled_cells}
 use Rattle.definitions.specs.Maps.{map_of, map_grid}
-use Rattle.shape.specs.Coords.{as_sides, Fit}
+use Rattle.shape.specs.Coords.{as_sides, ShortSides}
 use Rattle.shape.specs.Grids.{as_grid}
 use Rattle.shape.specs.CubicGrids.{grid_of}
 use Rattle.shape.specs.Orders.{axis_list}
-use Rattle.shape.proofs.PlaceLaws.{volume_small, mapped_fit, map_volume}
+use Rattle.shape.proofs.PlaceLaws.{volume_small, mapped_short, map_volume}
 use Rattle.placements.specs.declared.poses.Poses.{Poses}
 use Rattle.placements.specs.Poses.{with_poses}
 use Rattle.placements.proofs.PoseLaws.{PosedTo, turned_filled, posed_none, posed_next, posed_all, poses_none, poses_next}
@@ -27,16 +27,16 @@ loop-i-init c =
     }
 
 pub turn_into-requires : goal.turn_into-requires
-turn_into-requires c = omega (arith, (volume_small (as_sides c.args.grid.now.sides) c.args.grid.now.whole.fit).1)
+turn_into-requires c = omega (arith, (volume_small (as_sides c.args.grid.now.sides) c.args.grid.now.whole.short).1)
 
 pub put-requires : goal.put-requires
 put-requires c =
     let s = as_sides c.args.grid.now.sides in
-    let fit = c.args.grid.now.whole.fit in
+    let short = c.args.grid.now.whole.short in
     let m = get_or c.args.turnings.now c.loop-i.i 0 in
     let e = c.sides.ensures in (
-      subst Fit (sym e) (mapped_fit (map_of m) s fit),
-      omega (arith, ap volume e, map_volume m s, (volume_small s fit).1, c.turn_into.auto.out),
+      subst ShortSides (sym e) (mapped_short (map_of m) s short),
+      omega (arith, ap volume e, map_volume m s, (volume_small s short).1, c.turn_into.auto.out),
     )
 
 pub loop-i-preserved : goal.loop-i-preserved
@@ -45,11 +45,11 @@ loop-i-preserved c =
     let l = c.loop-i in
     let o = axis_list a.first a.second a.third in
     let g = grid_of a.grid.now in
-    let fit = a.grid.now.whole.fit in
+    let short = a.grid.now.whole.short in
     let bytes = c.turn_into.new.out in
     let h = as_grid c.sides.result bytes in
     let is : filled_cells h ≡ filled g a.turnings.now l.i =
-    turned_filled (get_or a.turnings.now l.i 0) g l.turned bytes (as_sides c.sides.result) (omega (arith, (volume_small g.sides fit).1))
+    turned_filled (get_or a.turnings.now l.i 0) g l.turned bytes (as_sides c.sides.result) (omega (arith, (volume_small g.sides short).1))
     c.turn_into.ensures c.sides.ensures in
     record {
       posed = posed_next o g a.turnings.now l.self.list l.i (omega (arith, c.loop-i-test.true, c.requires)) l.invariant.posed h is c.put.new.self c.put.ensures.0;
