@@ -1,8 +1,8 @@
 #!/bin/sh
 # The header as C99 and as C++17, without a warning; then Soma from C (soma.c), linked with the static library (`rt lib` in crates/ferghuul at the
 # root), its text for DLX1 held to the model's (oracle/model.py), and its pieces once more from the catalogue. Then the interface's number: the header's,
-# the library's symbols, and that a program does not link which was compiled with a header of another number, or of none. `c.sh compile` stops before the
-# library. Status 1 on a difference.
+# the library's symbols, and that a program does not link which was compiled with a header of another number, or of none; and that the library wants no name
+# from outside but memcpy and memset. `c.sh compile` stops before the library. Status 1 on a difference.
 cd "$(dirname "$0")" || exit 1
 library=../crates/ferghuul/out/libferghuul.a
 number=1
@@ -43,6 +43,8 @@ compile "$folder/plain" plain
 [ "$1" = compile ] && exit 0
 
 [ "$(symbols T "$library")" = "$named" ] || wrong "the library offers $(symbols T "$library")"
+outside=$(nm -u "$library" | awk '$1 == "U" { print $2 }' | sort -u | tr '\n' ' ')
+[ "$outside" = "memcpy memset " ] || wrong "the library wants $outside"
 python3 ../oracle/model.py dlx1 <../trays/soma.tray >"$folder/expected" || exit 1
 for object in soma soma_cpp; do
     ${CC:-cc} "$folder/$object.o" "$library" -o "$folder/soma" || exit 1
@@ -59,4 +61,4 @@ for object in next next_cpp plain plain_cpp; do
         grep -q "undefined.*$wanted\b" "$folder/refused" || wrong "$object.o does not link, but not for want of $wanted: $(cat "$folder/refused")"
     done
 done
-echo "c: FERGHUUL_INTERFACE is $number, and so are the symbols; a program of another header does not link"
+echo "c: FERGHUUL_INTERFACE is $number, and so are the symbols; a program of another header does not link; outside names: $outside"

@@ -23,7 +23,7 @@ from pathlib import Path
 import model
 
 FAST, KNUTH = 2, 3
-MOST_TEXT = 65536  # bytes of the stored calls
+MOST_TEXT = 65536  # what the program reads of its input
 ROOM = 4096  # what the program lends for a text
 
 

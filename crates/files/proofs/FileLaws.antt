@@ -8,6 +8,7 @@ use borrow.Author.Tests.{le-leb, lt-leb}
 use lib.Dec.{leb}
 use lib.ListN.{length, get_or, take, drop, length-map}
 use lib.Seq.{paste}
+use Rattle.std.specs.Prelude.{Option, None, Some, MatchOption}
 use Rattle.lists.specs.Lists.{all, is_empty}
 use Rattle.lists.proofs.TestLaws.{and_no}
 use Rattle.definitions.specs.Files.{Written, record_at, records_from, parts, last_of, lines_of, is_config, is_board, is_piece, piece_in, is_file, call_on, call_in}
@@ -16,7 +17,7 @@ use Rattle.placements.specs.declared.Pieces.{Pieces}
 use Rattle.placements.specs.Pieces.{pieces_of}
 use Rattle.files.specs.declared.grids.GridText.{GridText}
 use Rattle.files.specs.declared.lines.Head.{Head}
-use Rattle.files.specs.Lines.{HeadIs, all_pieces, config_in, has_head, written}
+use Rattle.files.specs.Lines.{HeadIs, Read, all_pieces, config_in, has_head, written}
 use Rattle.files.specs.Reading.{Asks, PiecesRead, cells_of_all, pieces_in}
 use Rattle.files.proofs.ReadingLaws.{put_behind, both_taken, both_left}
 
@@ -50,11 +51,17 @@ module _ (text : List ℕ) where
 pub unread : (wide : Bool) {file : Bool} → file ≡ false → (wide && file) ≡ false
 unread wide e = ap (λ (t : Bool). wide && t) e ∙ and_no wide
 
-pub narrow : (old : List ℕ) (file : Bool) → length old < 16384 → (leb 16384 (length old) && file) ≡ false
-narrow old file h = ap (λ (t : Bool). t && file) (lt-leb 16384 (length old) h)
+pub narrow : (cells : ℕ) (file : Bool) → cells < 16384 → (leb 16384 cells && file) ≡ false
+narrow cells file h = ap (λ (t : Bool). t && file) (lt-leb 16384 cells h)
 
 pub is_read : (old : List ℕ) {file : Bool} → 16384 ≤ length old → file ≡ true → (leb 16384 (length old) && file) ≡ true
 is_read old {file} h e = ap₂ (λ (t s : Bool). t && s) (le-leb 16384 (length old) h) e
+
+-- the first two lines, where the lengths are a file's
+pub within : (text : List ℕ) (cells : ℕ) → length text ≤ 16384 → 16384 ≤ cells → (r : Option Head) → Read r (has_head text) (λ h. HeadIs text h)
+    → MatchOption r (leb 16384 cells && is_file text ≡ false) (λ h. (length text ≤ 16384) × (16384 ≤ cells) × (has_head text ≡ true) × HeadIs text h)
+within text cells few wide None none = unread (leb 16384 cells) (file_no_head text none)
+within text cells few wide (Some h) is = (few, wide, is.0, is.1)
 
 -- ---- what a file asks for
 module _ {text : List ℕ} {h : Head} (so : HeadIs text h) where

@@ -1,8 +1,8 @@
 // The lines of a file: a configuration, a board, then pieces.
-ghost use Rattle.std.specs.Prelude.{◌≡◌, ◌||◌, ◌≤◌, cond, length, MatchOption};
+ghost use Rattle.std.specs.Prelude.{◌≡◌, ◌||◌, ◌&&◌, ◌≤◌, true, false, leb, cond, length, MatchOption};
 ghost use Rattle.lists.specs.Lists.{same};
 ghost use Rattle.definitions.specs.Texts.{text};
-ghost use Rattle.definitions.specs.Files.{grid_in, has_piece_fields, is_board, is_config, is_grid_in, is_piece, piece_in, wood_in};
+ghost use Rattle.definitions.specs.Files.{grid_in, has_piece_fields, is_board, is_config, is_file, is_grid_in, is_piece, piece_in, wood_in};
 ghost use Rattle.definitions.specs.declared.SolverKind.TheVariants.{Fast, KnuthAlgorithm};
 ghost use Rattle.files.specs.Lines.{FirstLine, HeadIs, NoLine, Read, all_pieces, config_in, has_head, of_piece, word_of, written};
 
@@ -166,6 +166,18 @@ pub fn head_of(text: &[u8]) -> Option<Head<'_>>
         board,
         pieces,
     })
+}
+
+// The first two lines of a text that is no longer than a file may be, where so many cells are lent as any file needs. The lengths are looked at first: a text
+// that is too long is not walked.
+pub fn head_within(text: &[u8], cells: usize) -> Option<Head<'_>>
+    ensures { MatchOption result (leb 16384 cells && is_file text.now ≡ false)
+        (λ head. (length text.now ≤ 16384) × (16384 ≤ cells) × (has_head text.now ≡ true) × HeadIs text.now head) }
+{
+    if text.len() > 16384 || cells < 16384 {
+        return None;
+    }
+    head_of(text)
 }
 
 // Whether each line of a text is ended and is a piece.

@@ -61,8 +61,8 @@ fn read_pieces(text: &[u8], cells: &mut [u8]) -> FilePieces
 pub fn read_file(text: &[u8], cells: &mut [u8]) -> Option<Asked>
     ensures { FileRead text.now cells.old result cells.new }
 {
-    let head = lines::head_of(text)?;
-    if text.len() > 16384 || cells.len() < 16384 || !lines::are_pieces(head.pieces) {
+    let head = lines::head_within(text, cells.len())?;
+    if !lines::are_pieces(head.pieces) {
         return None;
     }
     let FilePieces { pieces, used } = read_pieces(head.pieces, cells);

@@ -11,7 +11,7 @@ ghost use Rattle.links.specs.Links.{down, first_of, end_of, size_of, copies_of, 
 ghost use Rattle.links.specs.Build.{Posed, Stocked, Written, whole, every_column};
 ghost use Rattle.links.specs.Cover.{Reduced};
 
-pub use nodes::{Field, Links, first_links, get, set};
+pub use nodes::{Field, Links, first_links, get, read_links, set};
 
 // Whether a column with n rows is tried before one with `least`.
 fn is_better(n: usize, least: usize) -> bool

@@ -40,6 +40,17 @@ pub fn first_links(numbers: &mut [u16]) -> &mut Links
     links
 }
 
+// The links in the first numbers of a slice that is only read.
+pub fn read_links(numbers: &[u16]) -> &Links
+    requires { 32768 ≤ length numbers.now }
+    ensures { result.now ≡ take 32768 numbers.now }
+{
+    let Some(links) = numbers.first_chunk() else {
+        unreachable!()
+    };
+    links
+}
+
 // Field f of node x.
 #[inline(always)]
 pub fn get(links: &Links, x: usize, f: Field) -> usize

@@ -102,7 +102,8 @@ fn count_kinds(
     }
 }
 
-// A tray with what is counted of it.
+// A tray with what is counted of it. (By itself: as a part of who calls it, what it works in, 40 KB, would stay on the stack while the rows are built.)
+#[inline(never)]
 pub fn count_tray<'a>(tray: LentTray<'a>) -> CountedTray<'a>
     ensures { result.tray ≡ tray.entry }
 {

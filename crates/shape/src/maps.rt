@@ -6,6 +6,19 @@ ghost use Rattle.shape.specs.Coords.{as_sides, as_cell, as_map, axis_number, fli
 use super::constants::{Axes, INVERSE_TABLE, MAP_TABLE, PRODUCT_TABLE};
 use super::{Axis, Coord};
 
+// What stands along the axis with a number: 0 is x, 1 is y, and any other z. (`Coord::pick` takes an axis by its name.)
+#[tactic(auto, unfolding(definitions::specs::Maps::side, definitions::specs::Maps::coordinate))]
+pub fn pick(axis: u8, s: Coord) -> usize
+    ensures of_sides { result ≡ side (as_sides s) axis }
+    ensures of_cell { result ≡ coordinate (as_cell s) axis }
+{
+    match axis {
+        0 => s.0,
+        1 => s.1,
+        _ => s.2,
+    }
+}
+
 // A map, by its number: below 24 a turn, from 24 to 47 a mirroring. A larger number stands for the map that moves nothing.
 // (No `TryFrom`: `map_of` gives each number a map, and making one cannot fail.)
 #[derive(Clone, Copy)]
